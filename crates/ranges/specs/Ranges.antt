@@ -1,0 +1,58 @@
+-- 01's sentence "Ranges", but for the page bytes that "would be Acked there". What the types hold is listed in docs/DECISIONS.md.
+use mathlib.Core.Bool.{Bool, true, false, not, _&&_, _||_}
+use Prim.Native.Nat.{ℕ}
+use lib.Dec.{leb, ltb, eqb}
+use Rattle.registers.specs.declared.Registers.{Registers}
+use Rattle.registers.specs.Defined.{definedOnly}
+use Rattle.areas.specs.Ends.{endsInRange}
+use Rattle.tag.specs.declared.Air.{Air}
+use Rattle.tag.specs.declared.Host.{Host}
+use Rattle.tag.specs.declared.Message.{Message}
+use Rattle.tag.specs.declared.Mailbox.{Mailbox}
+use Rattle.tag.specs.declared.Core.{Core}
+use Rattle.tag.specs.declared.WireSide.{WireSide}
+use Rattle.tag.specs.declared.Tag.{Tag}
+use Rattle.tag.specs.Bus.{isOpen, isActive, pageBytes}
+
+-- "ends as under Areas"; "undefined register bits 0"
+unfoldable pub registersInRange : Registers → Bool
+registersInRange r = endsInRange (r .ends) && definedOnly r
+
+-- "radio session 0 none, 1 to 4 for passwords 0 to 3"
+unfoldable pub airInRange : Air → Bool
+airInRange a = leb (a .session) 4
+
+-- "a PUT set only with its CURRENT bit"
+abbrev pub putCurrent : Message → Bool
+putCurrent m = not (m .put) || m .current
+
+-- "message length 0 to 256; at most one of the two CURRENT bits set; a PUT set only with its CURRENT bit;
+-- a CURRENT bit set exactly when length is over 0; length over 0 only with MB_EN"
+unfoldable pub mailboxInRange : Mailbox → Bool
+mailboxInRange m =
+    leb (m .length) 256
+    && not (m .host .current && m .rf .current)
+    && putCurrent (m .host)
+    && putCurrent (m .rf)
+    && ((ltb 0 (m .length) && (m .host .current || m .rf .current)) || (eqb (m .length) 0 && not (m .host .current || m .rf .current)))
+    && (eqb (m .length) 0 || m .enabled)
+
+-- "MB_EN, I2C session, programming and any bus activity only with VCC"
+unfoldable pub suppliedInRange : Host → Bool → Bool
+suppliedInRange h mailbox = h .vcc || not (mailbox || h .session || h .programming || isActive (h .bus))
+
+-- "page bytes 0 to 256"; "never programming and a transfer open together"
+unfoldable pub hostInRange : Host → Bool
+hostInRange h = leb (pageBytes (h .bus)) 256 && not (h .programming && isOpen (h .bus))
+
+-- of what both sides share
+unfoldable pub coreInRange : Core → Bool
+coreInRange c = registersInRange (c .registers) && mailboxInRange (c .mailbox)
+
+-- of what a transfer may touch
+unfoldable pub wireInRange : WireSide → Bool
+wireInRange w = coreInRange (w .core) && hostInRange (w .host) && suppliedInRange (w .host) (w .core .mailbox .enabled)
+
+-- of the whole tag
+unfoldable pub inRange : Tag → Bool
+inRange t = airInRange (t .air) && wireInRange (record { host = t .host; core = t .core })

@@ -1,0 +1,73 @@
+// The ranges of a tag's state, decided for every state that can be handed in.
+ghost use mathlib.Core.Path.{_≡_};
+ghost use mathlib.Core.Bool.{Bool};
+ghost use Rattle.ranges.specs.Ranges.{registersInRange, airInRange, mailboxInRange, suppliedInRange, hostInRange, coreInRange, wireInRange, inRange};
+use registers::Registers;
+use tag::Air;
+use tag::Core;
+use tag::Host;
+use tag::Mailbox;
+use tag::Tag;
+use tag::WireSide;
+
+fn registers_in_range(r: Registers) -> bool
+    ensures { λ b. ⌜ b ≡ registersInRange r ⌝ }
+{
+    areas::ends_in_range(r.ends) & r.is_defined()
+}
+
+fn air_in_range(a: Air) -> bool
+    ensures { λ b. ⌜ b ≡ airInRange a ⌝ }
+{
+    a.session <= 4
+}
+
+fn mailbox_in_range(m: Mailbox) -> bool
+    ensures { λ b. ⌜ b ≡ mailboxInRange m ⌝ }
+{
+    let current = m.host.current | m.rf.current;
+    (m.length <= 256)
+        & !(m.host.current & m.rf.current)
+        & (!m.host.put | m.host.current)
+        & (!m.rf.put | m.rf.current)
+        & (((0 < m.length) & current) | ((m.length == 0) & !current))
+        & ((m.length == 0) | m.enabled)
+}
+
+fn supplied_in_range(h: Host, mailbox: bool) -> bool
+    ensures { λ b. ⌜ b ≡ suppliedInRange h mailbox ⌝ }
+{
+    let bus = h.bus;
+    h.vcc | !(mailbox | h.session | h.programming | tag::is_active(bus))
+}
+
+fn host_in_range(h: Host) -> bool
+    ensures { λ b. ⌜ b ≡ hostInRange h ⌝ }
+{
+    let bus = h.bus;
+    (tag::page_bytes(bus) <= 256) & !(h.programming & tag::is_open(bus))
+}
+
+fn core_in_range(c: Core) -> bool
+    ensures { λ b. ⌜ b ≡ coreInRange c ⌝ }
+{
+    registers_in_range(c.registers) & mailbox_in_range(c.mailbox)
+}
+
+// Whether what a transfer may touch is in range.
+pub fn wire_in_range(w: WireSide) -> bool
+    ensures { λ b. ⌜ b ≡ wireInRange w ⌝ }
+{
+    let host = w.host;
+    core_in_range(w.core) & host_in_range(host) & supplied_in_range(host, w.core.mailbox.enabled)
+}
+
+// Whether a tag is in range.
+pub fn in_range(t: Tag) -> bool
+    ensures { λ b. ⌜ b ≡ inRange t ⌝ }
+{
+    let air = t.air;
+    let host = t.host;
+    let core = t.core;
+    air_in_range(air) & wire_in_range(WireSide { host, core })
+}

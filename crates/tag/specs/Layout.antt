@@ -1,0 +1,21 @@
+-- "1,024 lent bytes: user memory 0 to 511, mailbox 512 to 767, page buffer 768 to 1023. A second lent buffer of at least 643 bytes takes the radio reply."
+use Prim.Native.Nat.{ℕ}
+
+abbrev pub userBytes : ℕ
+userBytes = 512
+
+-- "128 blocks"
+abbrev pub blocks : ℕ
+blocks = 128
+
+abbrev pub mailboxAt : ℕ
+mailboxAt = 512
+
+abbrev pub pageAt : ℕ
+pageAt = 768
+
+abbrev pub memoryBytes : ℕ
+memoryBytes = 1024
+
+abbrev pub replyBytes : ℕ
+replyBytes = 643

@@ -1,0 +1,6 @@
+pub mod Layout
+pub mod Radio
+pub mod Mailbox
+pub mod Keys
+pub mod Bus
+pub mod Supply

@@ -1,0 +1,54 @@
+-- "The radio state is Ready, Quiet or Selected", and the field.
+use mathlib.Core.Bool.{Bool, true, false}
+use Prim.Native.Nat.{ℕ}
+use Rattle.parts.specs.Pick.{pick}
+use Rattle.tag.specs.declared.RadioState.{RadioState}
+use Rattle.tag.specs.declared.RadioState.the-variants.{Ready, Quiet, Selected}
+use Rattle.tag.specs.declared.Air.{Air}
+
+unfoldable pub isQuiet : RadioState → Bool
+isQuiet Ready = false
+isQuiet Quiet = true
+isQuiet Selected = false
+
+unfoldable pub isSelected : RadioState → Bool
+isSelected Ready = false
+isSelected Quiet = false
+isSelected Selected = true
+
+abbrev pub withState : RadioState → Air → Air
+withState x a = record { field = a .field; radio = x; session = a .session }
+
+-- the open radio session: 0 none, 1 to 4 for passwords 0 to 3
+abbrev pub withSession : ℕ → Air → Air
+withSession n a = record { field = a .field; radio = a .radio; session = n }
+
+-- "own UID Selected"
+abbrev pub selected : Air → Air
+selected a = withState Selected a
+
+-- "another UID: Selected becomes Ready"
+unfoldable pub deselected : Air → Air
+deselected a = pick (isSelected (a .radio)) (withState Ready a) a
+
+-- "Stay Quiet: Quiet"
+abbrev pub quieted : Air → Air
+quieted a = withState Quiet a
+
+-- "Reset gives Ready"
+abbrev pub reset : Air → Air
+reset a = withState Ready a
+
+-- "Field off makes the tag Ready and closes the radio session."
+abbrev pub outOfField : Air
+outOfField = record { field = false; radio = Ready; session = 0 }
+
+abbrev pub fieldOff : Air → Air
+fieldOff a = outOfField
+
+abbrev pub fieldOn : Air → Air
+fieldOn a = record { field = true; radio = a .radio; session = a .session }
+
+-- the field at a level; "a repeated .. field level .. change[s] nothing (house)"
+unfoldable pub fieldAt : Bool → Air → Air
+fieldAt on a = pick on (pick (a .field) a (fieldOn a)) (pick (a .field) (fieldOff a) a)

@@ -62,3 +62,11 @@ exceedsBefore e i x =
 -- "A new ENDAi is accepted exactly when it is at most 0Fh, all later ends are 0Fh, and it exceeds the end before it (ENDA1 has none) or is itself 0Fh (house)."
 unfoldable pub endAccepted : Ends → ℕ → ℕ → Bool
 endAccepted e i x = leb x largestEnd && laterLargest e i && (exceedsBefore e i x || eqb x largestEnd)
+
+-- the same by the register's address: 0005h, 0007h and 0009h are ENDA1 to ENDA3, and no other register has such a rule
+unfoldable pub endAllows : Ends → ℕ → ℕ → Bool
+endAllows e a x =
+    pick (eqb a 0x05) (endAccepted e 1 x)
+    (pick (eqb a 0x07) (endAccepted e 2 x)
+    (pick (eqb a 0x09) (endAccepted e 3 x)
+    true))

@@ -1,6 +1,6 @@
 // Areas, their ends, and the rights and locks of both sides.
 ghost use mathlib.Core.Path.{_≡_};
-ghost use Rattle.areas.specs.Ends.{areaOfBlock, areaOfByte, endsInRange, laterLargest, exceedsBefore, endAccepted};
+ghost use Rattle.areas.specs.Ends.{areaOfBlock, areaOfByte, endsInRange, laterLargest, exceedsBefore, endAccepted, endAllows};
 ghost use Rattle.areas.specs.Rights.{securityOf, sessionOpens, radioWrites, radioReads, wireBits, wireWrites, wireReads, isLocked, readRight, writeRight, mayRead, mayWrite};
 use registers::EndA;
 use registers::Ends;
@@ -90,6 +90,22 @@ pub fn end_accepted(e: Ends, i: u8, x: u8) -> bool
     ensures { λ r. ⌜ r ≡ endAccepted e i x ⌝ }
 {
     (x <= LARGEST_END) & later_largest(e, i) & (exceeds_before(e, i, x) | (x == LARGEST_END))
+}
+
+// Whether a byte may be written to the register at an address as far as the ends go.
+pub fn end_allows(e: Ends, at: u32, x: u8) -> bool
+    ensures { λ r. ⌜ r ≡ endAllows e at x ⌝ }
+{
+    if at == 0x05 {
+        return end_accepted(e, 1, x);
+    }
+    if at == 0x07 {
+        return end_accepted(e, 2, x);
+    }
+    if at == 0x09 {
+        return end_accepted(e, 3, x);
+    }
+    true
 }
 
 // RFAiSS of an area.

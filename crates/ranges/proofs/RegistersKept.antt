@@ -1,10 +1,10 @@
 -- A write of a register keeps the registers in range. Assumes nothing.
-use mathlib.Core.Path.{_≡_, refl}
+use mathlib.Core.Path.{_≡_, subst}
 use mathlib.Core.Bool.{Bool, true, false, _&&_}
 use Prim.Native.Nat.{ℕ, _%_, _^_}
 use native.Mathlib.Nat.{mod-mod}
 use lib.Dec.{eqb}
-use borrow.Author.Tests.{eq-eqb}
+use borrow.Author.Tests.{eq-eqb, eqb-true}
 use Rattle.parts.specs.Pick.{pick}
 use Rattle.parts.specs.Bits.{keepBits}
 use Rattle.parts.proofs.Bools.{and-left, and-right, and-both}
@@ -15,7 +15,7 @@ use Rattle.registers.specs.declared.Ends.{Ends}
 use Rattle.registers.specs.declared.Security.{Security}
 use Rattle.registers.specs.Defined.{onlyBits, definedOnly, rfaSs, endA, rfMngt}
 use Rattle.registers.specs.Map.{withArea, withEnd, withSecurity, withEnds, withDynamic, writtenArea, written}
-use Rattle.areas.specs.Ends.{endsInRange, endAccepted}
+use Rattle.areas.specs.Ends.{endsInRange, endAccepted, endAllows}
 use Rattle.areas.proofs.Kept.{end-kept}
 use Rattle.ranges.specs.Ranges.{registersInRange}
 
@@ -97,22 +97,32 @@ module _ (r : Registers) (b : ℕ) (f : Fits r) where
   end-of-kept : (i : ℕ) → endAccepted (r .ends) i b ≡ true → Fits (withEnds (withEnd i (endA b) (r .ends)) r)
   end-of-kept i h = ends-kept r (withEnd i (endA b) (r .ends)) f (end-kept (r .ends) i b (f .ends) h)
 
--- the byte that is written to an ENDAi is an accepted one
-pub record Accepting (r : Registers) (a b : ℕ) : Type 0 where
-  pub first : eqb a 0x05 ≡ true → endAccepted (r .ends) 1 b ≡ true
-  pub second : eqb a 0x07 ≡ true → endAccepted (r .ends) 2 b ≡ true
-  pub third : eqb a 0x09 ≡ true → endAccepted (r .ends) 3 b ≡ true
+-- the byte that is written is one that the ends allow
+module _ (r : Registers) (a b : ℕ) (f : Fits r) (h : endAllows (r .ends) a b ≡ true) where
+  at-end : (k : ℕ) → eqb a k ≡ true → endAllows (r .ends) k b ≡ true
+  at-end k t = subst (λ (n : ℕ). endAllows (r .ends) n b ≡ true) (eqb-true a k t) h
 
-module _ (r : Registers) (a b : ℕ) (f : Fits r) (h : Accepting r a b) where
+  end1-kept : eqb a 0x05 ≡ true → Fits (withEnds (withEnd 1 (endA b) (r .ends)) r)
+  unfolding endAllows pick
+  end1-kept t = end-of-kept r b f 1 (at-end 5 t)
+
+  end2-kept : eqb a 0x07 ≡ true → Fits (withEnds (withEnd 2 (endA b) (r .ends)) r)
+  unfolding endAllows pick
+  end2-kept t = end-of-kept r b f 2 (at-end 7 t)
+
+  end3-kept : eqb a 0x09 ≡ true → Fits (withEnds (withEnd 3 (endA b) (r .ends)) r)
+  unfolding endAllows pick
+  end3-kept t = end-of-kept r b f 3 (at-end 9 t)
+
   of-areas : Fits (writtenArea r a b)
   unfolding writtenArea
   of-areas =
       pick-case Fits (eqb a 0x04) _ _ (λ t. area1-kept r b f)
-      (λ t4. pick-case Fits (eqb a 0x05) _ _ (λ t. end-of-kept r b f 1 (h .first t))
+      (λ t4. pick-case Fits (eqb a 0x05) _ _ (λ t. end1-kept t)
       (λ t5. pick-case Fits (eqb a 0x06) _ _ (λ t. area2-kept r b f)
-      (λ t6. pick-case Fits (eqb a 0x07) _ _ (λ t. end-of-kept r b f 2 (h .second t))
+      (λ t6. pick-case Fits (eqb a 0x07) _ _ (λ t. end2-kept t)
       (λ t7. pick-case Fits (eqb a 0x08) _ _ (λ t. area3-kept r b f)
-      (λ t8. pick-case Fits (eqb a 0x09) _ _ (λ t. end-of-kept r b f 3 (h .third t))
+      (λ t8. pick-case Fits (eqb a 0x09) _ _ (λ t. end3-kept t)
       (λ t9. pick-case Fits (eqb a 0x0A) _ _ (λ t. area4-kept r b f) (λ t10. f)))))))
 
   of-all : Fits (written r a b)
@@ -130,7 +140,7 @@ module _ (r : Registers) (a b : ℕ) (f : Fits r) (h : Accepting r a b) where
       (λ t. record { ends = f .ends; mngt = f .mngt; dynamic = f .dynamic; area1 = f .area1; area2 = f .area2; area3 = f .area3; area4 = f .area4; i2css = f .i2css; ccfile = f .ccfile; mode = f .mode; config = only 1 b })
       (λ tF. of-areas)))))
 
-pub written-kept : (r : Registers) (a b : ℕ) → registersInRange r ≡ true → Accepting r a b → registersInRange (written r a b) ≡ true
+pub written-kept : (r : Registers) (a b : ℕ) → registersInRange r ≡ true → endAllows (r .ends) a b ≡ true → registersInRange (written r a b) ≡ true
 written-kept r a b h p = in-range (written r a b) (of-all r a b (fits r h) p)
 
 -- RF_MNGT_Dyn written, and reloaded from RF_MNGT

@@ -1,0 +1,17 @@
+use Rattle.blocks.specs.Blocks.{leaves}
+use borrow.Author.Needs.{needs}
+use Rattle.blocks.proofs.leaves.Statement.{statement}
+use Rattle.blocks.proofs.leaves.Tie as tie
+
+area-of-block-requires : tie.Need-area-of-block-requires
+area-of-block-requires c κs = search needs
+
+area-of-block-requires-2 : tie.Need-area-of-block-requires-2
+area-of-block-requires-2 c κs = search needs
+
+returns : tie.Need-returns
+unfolding leaves
+returns c = rw (c .area-of-block2 .ensures, c .before .area-of-block .ensures)
+
+pub leaves-spec : {M : Type 1} → statement M
+leaves-spec = tie.close (tie.spec area-of-block-requires area-of-block-requires-2 returns)

@@ -1,0 +1,87 @@
+use mathlib.Core.List.{[]}
+use Rattle.parts.proofs.Picks.{picks}
+use Rattle.reply.specs.Reply.{good, fault}
+use Rattle.reply.proofs.Finish.{said}
+use Rattle.blocks.specs.Blocks.{lockOf}
+use borrow.Author.Needs.{needs}
+use Rattle.blocks.proofs.lock.Statement.{statement}
+use Rattle.blocks.proofs.lock.Tie as tie
+
+error-requires : tie.Need-error-requires
+error-requires c κs = search needs
+
+same-length : tie.Need-same-length
+same-length c = search needs
+
+returns : tie.Need-returns
+unfolding lockOf
+returns c =
+    let call = c .before .before in
+    let a = call .before .before .before .before .before .before .args in
+    said (lockOf (a .s) (a .m .now) (a .block)) _ (fault 0x10) (call .error .ensures) (search picks depth 20)
+
+is-locked-requires : tie.Need-is-locked-requires
+is-locked-requires c κs = search needs
+
+error-requires-2 : tie.Need-error-requires-2
+error-requires-2 c κs = search needs
+
+same-length-2 : tie.Need-same-length-2
+same-length-2 c = search needs
+
+returns-2 : tie.Need-returns-2
+unfolding lockOf
+returns-2 c =
+    let call = c .before .before in
+    let locked = call .before .before .before in
+    let a = locked .before .before .before .before .before .args in
+    said (lockOf (a .s) (a .m .now) (a .block)) _ (fault 0x11) (call .error2 .ensures)
+    (rw (← locked .is-locked .ensures) (search picks depth 20))
+
+add-bits : tie.Need-add-bits
+add-bits c = search needs
+
+add-bits-2 : tie.Need-add-bits-2
+add-bits-2 c = search needs
+
+write-requires : tie.Need-write-requires
+write-requires c κs = search needs
+
+with-registers-requires : tie.Need-with-registers-requires
+with-registers-requires c κs = search needs
+
+done-requires : tie.Need-done-requires
+done-requires c κs = search needs
+
+same-length-3 : tie.Need-same-length-3
+same-length-3 c = search needs
+
+returns-3 : tie.Need-returns-3
+unfolding lockOf
+returns-3 c =
+    let call = c .before .before in
+    let next = call .before .before in
+    let write = next .before in
+    let locked = write .before .before .before in
+    let a = locked .before .before .before .before .before .args in
+    said (lockOf (a .s) (a .m .now) (a .block)) _ (good []) (call .done .ensures)
+    (rw (next .with-registers .ensures, write .write .ensures, ← locked .is-locked .ensures) (search picks depth 20))
+
+pub lock-spec : {M : Type 1} → statement M
+lock-spec =
+    tie.close
+    (tie.spec
+    error-requires
+    same-length
+    returns
+    is-locked-requires
+    error-requires-2
+    same-length-2
+    returns-2
+    add-bits
+    add-bits-2
+    write-requires
+    with-registers-requires
+    done-requires
+    same-length-3
+    returns-3)

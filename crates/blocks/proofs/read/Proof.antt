@@ -1,0 +1,120 @@
+use mathlib.Core.Path.{ap, _∙_}
+use mathlib.Core.List.{List}
+use Prim.Native.Nat.{ℕ, _+_}
+use lib.Seq.{sets}
+use Rattle.parts.proofs.Picks.{picks}
+use Rattle.reply.specs.Reply.{good, fault}
+use Rattle.reply.proofs.Finish.{said}
+use Rattle.blocks.specs.Blocks.{blocksOf, readOf}
+use Rattle.reply.proofs.Finish.{good-run}
+use borrow.Author.Needs.{needs}
+use Rattle.blocks.proofs.read.Statement.{statement}
+use Rattle.blocks.proofs.read.Tie as tie
+
+add-last : tie.Need-add-last
+add-last c = search needs
+
+leaves-requires : tie.Need-leaves-requires
+leaves-requires c κs = search needs
+
+error-requires : tie.Need-error-requires
+error-requires c κs = search needs
+
+same-length : tie.Need-same-length
+same-length c = search needs
+
+returns : tie.Need-returns
+unfolding readOf
+returns c =
+    let call = c .before .before in
+    let a = call .before .before .before .before .before .before .before .args in
+    said (readOf (a .s) (a .m .now) (a .option) (a .first) (a .more)) _ (fault 0x10) (call .error .ensures) (search picks depth 20)
+
+error-requires-2 : tie.Need-error-requires-2
+error-requires-2 c κs = search needs
+
+same-length-2 : tie.Need-same-length-2
+same-length-2 c = search needs
+
+returns-2 : tie.Need-returns-2
+unfolding readOf
+returns-2 c =
+    let call = c .before .before in
+    let leave = call .before .before .before .before in
+    let a = leave .before .before .before .before .args in
+    said (readOf (a .s) (a .m .now) (a .option) (a .first) (a .more)) _ (fault 0x0F) (call .error2 .ensures)
+    (rw (← leave .leaves .ensures) (search picks depth 20))
+
+may-read-requires : tie.Need-may-read-requires
+may-read-requires c κs = search needs
+
+error-requires-3 : tie.Need-error-requires-3
+error-requires-3 c κs = search needs
+
+same-length-3 : tie.Need-same-length-3
+same-length-3 c = search needs
+
+returns-3 : tie.Need-returns-3
+unfolding readOf
+returns-3 c =
+    let call = c .before .before in
+    let right = call .before .before .before in
+    let leave = right .before .before .before in
+    let a = leave .before .before .before .before .args in
+    said (readOf (a .s) (a .m .now) (a .option) (a .first) (a .more)) _ (fault 0x15) (call .error3 .ensures)
+    (rw (← leave .leaves .ensures, ← right .may-read .ensures) (search picks depth 20))
+
+put-requires : tie.Need-put-requires
+put-requires c κs = search needs
+
+add-put-blocks : tie.Need-add-put-blocks
+add-put-blocks c = search needs
+
+put-blocks-requires : tie.Need-put-blocks-requires
+put-blocks-requires c κs = search needs
+
+close-requires : tie.Need-close-requires
+close-requires c κs = search needs
+
+same-length-4 : tie.Need-same-length-4
+same-length-4 c = search needs
+
+returns-4 : tie.Need-returns-4
+unfolding readOf
+returns-4 c =
+    let call = c .before .before in
+    let run = call .before .before .before .before in
+    let zero = run .before .before .before .before in
+    let right = zero .before .before .before in
+    let leave = right .before .before .before in
+    let a = leave .before .before .before .before .args in
+    let blocks = blocksOf (a .s .core .registers) (a .s .air .session) (a .m .now) (a .option) (a .first) (a .more + 1) in
+    said (readOf (a .s) (a .m .now) (a .option) (a .first) (a .more)) _ (good blocks)
+    (good-run blocks (a .out .now) (run .put-blocks .last .0) (run .put-blocks .result)
+    (run .put-blocks .ensures .0)
+    (run .put-blocks .ensures .1 ∙ ap (λ (o : List ℕ). sets o 1 blocks) (zero .put .ensures))
+    (call .close .ensures))
+    (rw (← leave .leaves .ensures, ← right .may-read .ensures) (search picks depth 20))
+
+pub read-spec : {M : Type 1} → statement M
+read-spec =
+    tie.close
+    (tie.spec
+    add-last
+    leaves-requires
+    error-requires
+    same-length
+    returns
+    error-requires-2
+    same-length-2
+    returns-2
+    may-read-requires
+    error-requires-3
+    same-length-3
+    returns-3
+    put-requires
+    add-put-blocks
+    put-blocks-requires
+    close-requires
+    same-length-4
+    returns-4)

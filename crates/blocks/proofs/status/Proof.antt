@@ -1,0 +1,88 @@
+use Rattle.parts.proofs.Picks.{picks}
+use Rattle.reply.specs.Reply.{good, fault}
+use Rattle.reply.proofs.Finish.{said}
+use Rattle.blocks.specs.Blocks.{statusesOf, statusReply}
+use Rattle.reply.proofs.Finish.{good-run}
+use Rattle.blocks.proofs.Runs.{length-statuses}
+use mathlib.Core.Path.{sym, ap, _∙_}
+use mathlib.Core.List.{List}
+use Prim.Native.Nat.{ℕ, _+_}
+use lib.Seq.{sets}
+use borrow.Author.Needs.{needs}
+use Rattle.blocks.proofs.status.Statement.{statement}
+use Rattle.blocks.proofs.status.Tie as tie
+
+error-requires : tie.Need-error-requires
+error-requires c κs = search needs
+
+same-length : tie.Need-same-length
+same-length c = search needs
+
+returns : tie.Need-returns
+unfolding statusReply
+returns c =
+    let call = c .before .before in
+    let a = call .before .before .before .before .before .args in
+    said (statusReply (a .s) (a .m .now) (a .first) (a .more)) _ (fault 0x10) (call .error .ensures) (search picks depth 20)
+
+sub-lesser : tie.Need-sub-lesser
+sub-lesser c = search needs
+
+add-lesser : tie.Need-add-lesser
+add-lesser c = search needs
+
+lesser-requires : tie.Need-lesser-requires
+lesser-requires c κs = search needs
+
+put-requires : tie.Need-put-requires
+put-requires c κs = search needs
+
+put-statuses-requires : tie.Need-put-statuses-requires
+put-statuses-requires c κs = search needs
+
+cast-close : tie.Need-cast-close
+cast-close c = search needs
+
+add-close : tie.Need-add-close
+add-close c = search needs
+
+close-requires : tie.Need-close-requires
+close-requires c κs = search needs
+
+same-length-2 : tie.Need-same-length-2
+same-length-2 c = search needs
+
+returns-2 : tie.Need-returns-2
+unfolding statusReply
+returns-2 c =
+    let call = c .before .before in
+    let run = call .before .before .before .before in
+    let zero = run .before .before .before .before in
+    let count = zero .before .before in
+    let a = count .before .before .before .before .args in
+    let n = count .lesser .result in
+    let statuses = statusesOf (a .s .core .registers) (a .s .air .session) (a .first) n in
+    said (statusReply (a .s) (a .m .now) (a .first) (a .more)) _ (good statuses)
+    (good-run statuses (a .out .now) (run .put-statuses .last .0) (1 + n)
+    (ap (λ (k : ℕ). 1 + k) (sym (length-statuses (a .s .core .registers) (a .s .air .session) (a .first) n)))
+    (run .put-statuses .ensures ∙ ap (λ (o : List ℕ). sets o 1 statuses) (zero .put .ensures))
+    (call .close .ensures))
+    (rw (count .lesser .ensures .0) (search picks depth 20))
+
+pub status-spec : {M : Type 1} → statement M
+status-spec =
+    tie.close
+    (tie.spec
+    error-requires
+    same-length
+    returns
+    sub-lesser
+    add-lesser
+    lesser-requires
+    put-requires
+    put-statuses-requires
+    cast-close
+    add-close
+    close-requires
+    same-length-2
+    returns-2)

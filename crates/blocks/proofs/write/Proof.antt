@@ -1,0 +1,138 @@
+use Rattle.parts.proofs.Picks.{picks}
+use Rattle.reply.specs.Reply.{good, fault}
+use Rattle.reply.proofs.Finish.{said}
+use Rattle.blocks.specs.Blocks.{writeOf}
+use mathlib.Core.List.{[]}
+use borrow.Author.Needs.{needs}
+use Rattle.blocks.proofs.write.Statement.{statement}
+use Rattle.blocks.proofs.write.Tie as tie
+
+add-last : tie.Need-add-last
+add-last c = search needs
+
+error-requires : tie.Need-error-requires
+error-requires c κs = search needs
+
+same-length : tie.Need-same-length
+same-length c = search needs
+
+returns : tie.Need-returns
+unfolding writeOf
+returns c =
+    let call = c .before .before in
+    let a = call .before .before .before .before .before .before .before .args in
+    said (writeOf (a .s) (a .m .now) (a .first) (a .more) (a .frame .now) (a .at)) _ (fault 0x0F) (call .error .ensures) (search picks depth 20)
+
+error-requires-2 : tie.Need-error-requires-2
+error-requires-2 c κs = search needs
+
+same-length-2 : tie.Need-same-length-2
+same-length-2 c = search needs
+
+returns-2 : tie.Need-returns-2
+unfolding writeOf
+returns-2 c =
+    let call = c .before .before in
+    let a = call .before .before .before .before .before .before .before .before .args in
+    said (writeOf (a .s) (a .m .now) (a .first) (a .more) (a .frame .now) (a .at)) _ (fault 0x10) (call .error2 .ensures) (search picks depth 20)
+
+leaves-requires : tie.Need-leaves-requires
+leaves-requires c κs = search needs
+
+error-requires-3 : tie.Need-error-requires-3
+error-requires-3 c κs = search needs
+
+same-length-3 : tie.Need-same-length-3
+same-length-3 c = search needs
+
+returns-3 : tie.Need-returns-3
+unfolding writeOf
+returns-3 c =
+    let call = c .before .before in
+    let leave = call .before .before .before in
+    let a = leave .before .before .before .before .before .before .before .args in
+    said (writeOf (a .s) (a .m .now) (a .first) (a .more) (a .frame .now) (a .at)) _ (fault 0x0F) (call .error3 .ensures)
+    (rw (← leave .leaves .ensures) (search picks depth 20))
+
+add-may-write-all : tie.Need-add-may-write-all
+add-may-write-all c = search needs
+
+may-write-all-requires : tie.Need-may-write-all-requires
+may-write-all-requires c κs = search needs
+
+error-requires-4 : tie.Need-error-requires-4
+error-requires-4 c κs = search needs
+
+same-length-4 : tie.Need-same-length-4
+same-length-4 c = search needs
+
+returns-4 : tie.Need-returns-4
+unfolding writeOf
+returns-4 c =
+    let call = c .before .before in
+    let right = call .before .before .before in
+    let leave = right .before .before in
+    let a = leave .before .before .before .before .before .before .before .args in
+    said (writeOf (a .s) (a .m .now) (a .first) (a .more) (a .frame .now) (a .at)) _ (fault 0x12) (call .error4 .ensures)
+    (rw (← leave .leaves .ensures, ← right .may-write-all .ensures) (search picks depth 20))
+
+mul-put-bytes : tie.Need-mul-put-bytes
+mul-put-bytes c = search needs
+
+add-put-bytes : tie.Need-add-put-bytes
+add-put-bytes c = search needs
+
+mul-put-bytes-2 : tie.Need-mul-put-bytes-2
+mul-put-bytes-2 c = search needs
+
+put-bytes-requires : tie.Need-put-bytes-requires
+put-bytes-requires c κs = search needs
+
+done-requires : tie.Need-done-requires
+done-requires c κs = search needs
+
+same-length-5 : tie.Need-same-length-5
+same-length-5 c = search needs
+
+same-length-6 : tie.Need-same-length-6
+same-length-6 c = search needs
+
+returns-5 : tie.Need-returns-5
+unfolding writeOf
+returns-5 c =
+    let call = c .before .before in
+    let bytes = call .before .before .before .before in
+    let right = bytes .before .before .before in
+    let leave = right .before .before in
+    let a = leave .before .before .before .before .before .before .before .args in
+    said (writeOf (a .s) (a .m .now) (a .first) (a .more) (a .frame .now) (a .at)) _ (good []) (call .done .ensures)
+    (rw (bytes .put-bytes .ensures, ← leave .leaves .ensures, ← right .may-write-all .ensures) (search picks depth 20))
+
+pub write-spec : {M : Type 1} → statement M
+write-spec =
+    tie.close
+    (tie.spec
+    add-last
+    error-requires
+    same-length
+    returns
+    error-requires-2
+    same-length-2
+    returns-2
+    leaves-requires
+    error-requires-3
+    same-length-3
+    returns-3
+    add-may-write-all
+    may-write-all-requires
+    error-requires-4
+    same-length-4
+    returns-4
+    mul-put-bytes
+    add-put-bytes
+    mul-put-bytes-2
+    put-bytes-requires
+    done-requires
+    same-length-5
+    same-length-6
+    returns-5)

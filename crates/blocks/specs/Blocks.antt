@@ -1,0 +1,77 @@
+-- Commands on blocks: 20, 23 Read; 21, 24 Write; 22 Lock; 2C Status.
+use mathlib.Core.Bool.{Bool, true, not, _&&_, _||_}
+use mathlib.Core.List.{List, [], _∷_, _++_}
+use Prim.Native.Nat.{ℕ, zero, suc, _+_, _*_, _-_}
+use lib.Dec.{leb, ltb, eqb}
+use lib.Seq.{sets}
+use Rattle.parts.specs.Pick.{pick}
+use Rattle.parts.specs.Bits.{keepBits}
+use Rattle.parts.specs.Bytes.{bytesAt}
+use Rattle.registers.specs.declared.Ends.{Ends}
+use Rattle.registers.specs.declared.Registers.{Registers}
+use Rattle.registers.specs.Map.{written}
+use Rattle.areas.specs.declared.Side.the-variants.{Radio}
+use Rattle.areas.specs.Ends.{areaOfBlock}
+use Rattle.areas.specs.Rights.{isLocked, mayRead, mayWrite}
+use Rattle.tag.specs.Layout.{blocks}
+use Rattle.reply.specs.declared.RadioSide.{RadioSide}
+use Rattle.reply.specs.Reply.{good}
+use Rattle.reply.specs.Outcome.{Told, told, fails, sideRegisters}
+
+-- blocks first to last "leaves area or memory"
+unfoldable pub leaves : Ends → ℕ → ℕ → Bool
+leaves e first last = leb blocks last || not (eqb (areaOfBlock e first) (areaOfBlock e last))
+
+-- "status byte .., as 2C": "1 exactly when 21 would give 12h"
+unfoldable pub statusOf : Registers → ℕ → ℕ → ℕ
+statusOf r session block = pick (mayWrite r (Radio session) block) 0 1
+
+-- a block as a read gives it: with the option its status byte, then its four bytes
+unfoldable pub blockOf : Registers → ℕ → List ℕ → Bool → ℕ → List ℕ
+blockOf r session m option block = pick option (statusOf r session block ∷ []) [] ++ bytesAt m (4 * block) 4
+
+-- n blocks from the first on
+unfoldable pub blocksOf : Registers → ℕ → List ℕ → Bool → ℕ → ℕ → List ℕ
+blocksOf r session m option first zero = []
+blocksOf r session m option first (suc n) = blocksOf r session m option first n ++ blockOf r session m option (first + n)
+
+-- "20, 23 Read: block, or first and count-1; 10h first above 127; 0Fh leaves area or memory; 15h protected"; more is count-1
+unfoldable pub readOf : RadioSide → List ℕ → Bool → ℕ → ℕ → Told
+readOf s m option first more =
+    pick (leb blocks first) (fails 0x10 s m)
+    (pick (leaves (s .core .registers .ends) first (first + more)) (fails 0x0F s m)
+    (pick (not (mayRead (s .core .registers) (Radio (s .air .session)) first)) (fails 0x15 s m)
+    (told (good (blocksOf (s .core .registers) (s .air .session) m option first (more + 1))) s m)))
+
+-- the radio may write n blocks from the first on
+unfoldable pub mayWriteAll : Registers → ℕ → ℕ → ℕ → Bool
+mayWriteAll r session first zero = true
+mayWriteAll r session first (suc n) = mayWriteAll r session first n && mayWrite r (Radio session) (first + n)
+
+-- "21, 24 Write: 24: count-1 at most 3, else 0Fh; 10h; 0Fh leaves area or memory; 12h no right or locked";
+-- the data stand at place `at` of the frame
+unfoldable pub writeOf : RadioSide → List ℕ → ℕ → ℕ → List ℕ → ℕ → Told
+writeOf s m first more frame at =
+    pick (ltb 3 more) (fails 0x0F s m)
+    (pick (leb blocks first) (fails 0x10 s m)
+    (pick (leaves (s .core .registers .ends) first (first + more)) (fails 0x0F s m)
+    (pick (not (mayWriteAll (s .core .registers) (s .air .session) first (more + 1))) (fails 0x12 s m)
+    (told (good []) s (sets m (4 * first) (bytesAt frame at (4 * (more + 1))))))))
+
+-- "22 Lock: 10h block above 1; 11h already locked": sets the block's bit of LOCK_CCFILE
+unfoldable pub lockOf : RadioSide → List ℕ → ℕ → Told
+lockOf s m block =
+    pick (ltb 1 block) (fails 0x10 s m)
+    (pick (isLocked (s .core .registers .ccfile) block) (fails 0x11 s m)
+    (told (good []) (sideRegisters (written (s .core .registers) 0x0C (keepBits 2 (s .core .registers .ccfile .bits) + (block + 1))) s) m))
+
+-- the statuses of n blocks from the first on
+unfoldable pub statusesOf : Registers → ℕ → ℕ → ℕ → List ℕ
+statusesOf r session first zero = []
+statusesOf r session first (suc n) = statusesOf r session first n ++ statusOf r session (first + n) ∷ []
+
+-- "2C Status: first, count-1; 10h; stops at block 127"
+unfoldable pub statusReply : RadioSide → List ℕ → ℕ → ℕ → Told
+statusReply s m first more =
+    pick (leb blocks first) (fails 0x10 s m)
+    (told (good (statusesOf (s .core .registers) (s .air .session) first (pick (ltb (blocks - first) (more + 1)) (blocks - first) (more + 1)))) s m)

@@ -1,0 +1,54 @@
+use mathlib.Core.List.{[], _∷_}
+use borrow.Author.Needs.{needs}
+use Rattle.parts.proofs.Picks.{picks}
+use Rattle.reply.specs.Reply.{good, fault}
+use Rattle.reply.proofs.Finish.{said}
+use Rattle.config.specs.Config.{readConfigOf}
+use Rattle.config.proofs.read.Statement.{statement}
+use Rattle.config.proofs.read.Tie as tie
+
+is-pointer-requires : tie.Need-is-pointer-requires
+is-pointer-requires c κs = search needs
+
+error-requires : tie.Need-error-requires
+error-requires c κs = search needs
+
+same-length : tie.Need-same-length
+same-length c = search needs
+
+returns : tie.Need-returns
+unfolding readConfigOf
+returns c =
+    let call = c .before .before in
+    let a = call .before .before .before .before .before .before .args in
+    said (readConfigOf (a .s) (a .m .now) (a .p)) _ (fault 0x10) (call .error .ensures) (rw (← call .before .before .before .is-pointer .ensures) (search picks depth 20))
+
+read-requires : tie.Need-read-requires
+read-requires c κs = search needs
+
+byte-requires : tie.Need-byte-requires
+byte-requires c κs = search needs
+
+same-length-2 : tie.Need-same-length-2
+same-length-2 c = search needs
+
+returns-2 : tie.Need-returns-2
+unfolding readConfigOf
+returns-2 c =
+    let call = c .before .before in
+    let a = call .before .before .before .before .before .before .before .args in
+    said (readConfigOf (a .s) (a .m .now) (a .p)) _ (good (call .before .before .read .result ∷ [])) (call .byte .ensures)
+    (rw (call .before .before .read .ensures, ← call .before .before .before .before .is-pointer .ensures) (search picks depth 20))
+
+pub read-spec : {M : Type 1} → statement M
+read-spec =
+    tie.close
+    (tie.spec
+    is-pointer-requires
+    error-requires
+    same-length
+    returns
+    read-requires
+    byte-requires
+    same-length-2
+    returns-2)

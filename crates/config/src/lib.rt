@@ -1,0 +1,118 @@
+// Commands on registers, static and dynamic.
+ghost use mathlib.Core.Path.{_≡_};
+ghost use Rattle.reply.specs.Outcome.{ended, finish};
+ghost use Rattle.config.specs.Config.{isPointer, readConfigOf, mailboxAfter, writtenCore, writeConfigOf, readDynamicOf, writeDynamicOf};
+use reply::Outcome;
+use reply::RadioSide;
+use tag::Core;
+use tag::Mailbox;
+
+fn is_pointer(p: u8) -> bool
+    ensures { λ r. ⌜ r ≡ isPointer p ⌝ }
+{
+    ((0x03 <= p) & (p <= 0x0A)) | (p == 0x0D) | (p == 0x0F)
+}
+
+// A0.
+pub fn read(s: RadioSide, m: &[u8], out: &mut [u8], p: u8) -> Outcome
+    ensures { λ r. ⌜ ended r (now (m .entry)) (now (out .exit)) ≡ finish (readConfigOf s (now (m .entry)) p) (now (out .entry)) ⌝ }
+{
+    if !is_pointer(p) {
+        return Outcome {
+            answer: reply::error(out, 0x10),
+            side: s,
+        };
+    }
+    let x = s.core.registers.read(p as u16);
+    Outcome {
+        answer: reply::byte(out, x),
+        side: s,
+    }
+}
+
+fn mailbox_after(p: u8, x: u8, m: Mailbox) -> Mailbox
+    ensures { λ r. ⌜ r ≡ mailboxAfter p x m ⌝ }
+{
+    if (p == 0x0D) & !(x / 1 % 2 == 1) {
+        return m.disable();
+    }
+    m
+}
+
+fn written_core(c: Core, p: u8, x: u8) -> Core
+    ensures { λ r. ⌜ r ≡ writtenCore c p x ⌝ }
+{
+    let registers = c.registers.write(p as u16, x);
+    let mailbox = mailbox_after(p, x, c.mailbox);
+    let mut n = c;
+    n.registers = registers;
+    n.mailbox = mailbox;
+    n
+}
+
+// A1.
+pub fn write(s: RadioSide, m: &[u8], out: &mut [u8], p: u8, x: u8) -> Outcome
+    ensures { λ r. ⌜ ended r (now (m .entry)) (now (out .exit)) ≡ finish (writeConfigOf s (now (m .entry)) p x) (now (out .entry)) ⌝ }
+{
+    let r = s.core.registers;
+    if !is_pointer(p) {
+        return Outcome {
+            answer: reply::error(out, 0x10),
+            side: s,
+        };
+    }
+    if (r.config.bits / 1 % 2 == 1) | (s.air.session != 1) {
+        return Outcome {
+            answer: reply::error(out, 0x12),
+            side: s,
+        };
+    }
+    if !areas::end_allows(r.ends, p as u32, x) {
+        return Outcome {
+            answer: reply::error(out, 0x0F),
+            side: s,
+        };
+    }
+    let core = written_core(s.core, p, x);
+    let mut next = s;
+    next.core = core;
+    Outcome {
+        answer: reply::done(out),
+        side: next,
+    }
+}
+
+// AD.
+pub fn read_dynamic(s: RadioSide, m: &[u8], out: &mut [u8], p: u8) -> Outcome
+    ensures { λ r. ⌜ ended r (now (m .entry)) (now (out .exit)) ≡ finish (readDynamicOf s (now (m .entry)) p) (now (out .entry)) ⌝ }
+{
+    if p != 0x0D {
+        return Outcome {
+            answer: reply::error(out, 0x10),
+            side: s,
+        };
+    }
+    let x = s.core.mailbox.control_byte();
+    Outcome {
+        answer: reply::byte(out, x),
+        side: s,
+    }
+}
+
+// AE.
+pub fn write_dynamic(s: RadioSide, m: &[u8], out: &mut [u8], vcc: bool, p: u8, x: u8) -> Outcome
+    ensures { λ r. ⌜ ended r (now (m .entry)) (now (out .exit)) ≡ finish (writeDynamicOf s (now (m .entry)) vcc p x) (now (out .entry)) ⌝ }
+{
+    if p != 0x0D {
+        return Outcome {
+            answer: reply::error(out, 0x10),
+            side: s,
+        };
+    }
+    let mode = s.core.registers.mode;
+    let next = s.with_mailbox(s.core.mailbox.control(x, mode, vcc));
+    Outcome {
+        answer: reply::done(out),
+        side: next,
+    }
+}

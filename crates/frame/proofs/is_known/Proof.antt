@@ -1,0 +1,11 @@
+use mathlib.Core.Path.{refl}
+use Rattle.frame.specs.Fields.{isKnown}
+use Rattle.frame.proofs.is_known.Statement.{statement}
+use Rattle.frame.proofs.is_known.Tie as tie
+
+returns : tie.Need-returns
+unfolding isKnown
+returns c = refl
+
+pub is-known-spec : {M : Type 1} → statement M
+is-known-spec = tie.close (tie.spec returns)

@@ -1,0 +1,103 @@
+// Commands on the mailbox.
+ghost use mathlib.Core.Path.{_≡_};
+ghost use Rattle.reply.specs.Outcome.{ended, finish};
+ghost use Rattle.message.specs.Message.{takesMessage, writeMessageOf, lengthOf, asked, mailboxAfter, readMessageOf};
+use reply::Outcome;
+use reply::RadioSide;
+use tag::Mailbox;
+
+fn takes_message(b: Mailbox) -> bool
+    ensures { λ r. ⌜ r ≡ takesMessage b ⌝ }
+{
+    b.enabled & !b.host.put & !b.rf.put
+}
+
+// AA, more being one less than the length; the data stand at a place of the frame.
+pub fn write(
+    s: RadioSide,
+    m: &mut [u8],
+    out: &mut [u8],
+    more: u8,
+    frame: &[u8],
+    at: usize,
+) -> Outcome
+    ensures { λ r. ⌜ ended r (now (m .exit)) (now (out .exit)) ≡ finish (writeMessageOf s (now (m .entry)) more (now (frame .entry)) at) (now (out .entry)) ⌝ }
+{
+    let b = s.core.mailbox;
+    if !takes_message(b) {
+        return Outcome {
+            answer: reply::error(out, 0x0F),
+            side: s,
+        };
+    }
+    let n = more as u16 + 1;
+    parts::put_bytes(m, tag::MAILBOX_AT, frame, at, n as usize);
+    let next = s.with_mailbox(b.radio_put(n));
+    Outcome {
+        answer: reply::done(out),
+        side: next,
+    }
+}
+
+// AB.
+pub fn length(s: RadioSide, m: &[u8], out: &mut [u8]) -> Outcome
+    ensures { λ r. ⌜ ended r (now (m .entry)) (now (out .exit)) ≡ finish (lengthOf s (now (m .entry))) (now (out .entry)) ⌝ }
+{
+    let b = s.core.mailbox;
+    if !b.enabled {
+        return Outcome {
+            answer: reply::error(out, 0x0F),
+            side: s,
+        };
+    }
+    Outcome {
+        answer: reply::byte(out, b.length_byte()),
+        side: s,
+    }
+}
+
+// How many bytes are asked for.
+fn asked(b: Mailbox, p: u8, n: u8) -> u16
+    ensures { λ r. ⌜ r ≡ asked b p n ⌝ }
+{
+    if (p == 0) & (n == 0) {
+        return b.length;
+    }
+    n as u16 + 1
+}
+
+fn mailbox_after(b: Mailbox, p: u8, count: u16) -> Mailbox
+    ensures { λ r. ⌜ r ≡ mailboxAfter b p count ⌝ }
+{
+    if b.host.current & (p as u32 + count as u32 == b.length as u32) {
+        return b.radio_read();
+    }
+    b
+}
+
+// AC.
+pub fn read(s: RadioSide, m: &[u8], out: &mut [u8], p: u8, n: u8) -> Outcome
+    ensures { λ r. ⌜ ended r (now (m .entry)) (now (out .exit)) ≡ finish (readMessageOf s (now (m .entry)) p n) (now (out .entry)) ⌝ }
+{
+    let b = s.core.mailbox;
+    if !b.enabled {
+        return Outcome {
+            answer: reply::error(out, 0x0F),
+            side: s,
+        };
+    }
+    let count = asked(b, p, n);
+    if ((b.length as u32) < p as u32 + count as u32) | (b.length == 0) {
+        return Outcome {
+            answer: reply::error(out, 0x0F),
+            side: s,
+        };
+    }
+    parts::put(out, 0, 0x00);
+    parts::put_bytes(out, 1, m, tag::MAILBOX_AT + p as usize, count as usize);
+    let next = s.with_mailbox(mailbox_after(b, p, count));
+    Outcome {
+        answer: reply::close(out, 1 + count as u32),
+        side: next,
+    }
+}

@@ -1,0 +1,30 @@
+use mathlib.Core.List.{[]}
+use borrow.Author.Needs.{needs}
+use Rattle.reply.specs.Reply.{good}
+use Rattle.reply.proofs.Finish.{said}
+use Rattle.password.specs.Password.{resetOf}
+use Rattle.password.proofs.reset.Statement.{statement}
+use Rattle.password.proofs.reset.Tie as tie
+
+reset-requires : tie.Need-reset-requires
+reset-requires c κs = search needs
+
+with-air-requires : tie.Need-with-air-requires
+with-air-requires c κs = search needs
+
+done-requires : tie.Need-done-requires
+done-requires c κs = search needs
+
+same-length : tie.Need-same-length
+same-length c = search needs
+
+returns : tie.Need-returns
+unfolding resetOf
+returns c =
+    let call = c .before .before in
+    let a = call .before .before .before .before .before .before .args in
+    said (resetOf (a .s) (a .m .now)) _ (good []) (call .done .ensures) (rw (call .before .before .with-air .ensures, call .before .before .before .reset .ensures))
+
+pub reset-spec : {M : Type 1} → statement M
+reset-spec =
+    tie.close (tie.spec reset-requires with-air-requires done-requires same-length returns)

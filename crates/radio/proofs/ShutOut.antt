@@ -1,0 +1,20 @@
+-- While shut out a frame changes nothing, and its answer is silence or 0Fh. Assumes nothing.
+use mathlib.Core.Path.{_≡_, ap, _∙_}
+use mathlib.Core.Bool.{Bool, _||_}
+use mathlib.Core.List.{List}
+use mathlib.Core.Logic.{_⊎_, inl, inr, ⊎-elim}
+use Prim.Native.Nat.{ℕ}
+use Rattle.tag.specs.declared.Uid.{Uid}
+use Rattle.reply.specs.declared.RadioSide.{RadioSide}
+use Rattle.frame.specs.declared.Verdict.{Verdict}
+use Rattle.frame.proofs.ShutOut.{shut-out-decides, shut-out-answers}
+use Rattle.radio.specs.Claims.{ShutOut}
+use Rattle.radio.specs.Radio.{answered, radioOf}
+
+pub shut-out : ShutOut
+unfolding radioOf answered
+shut-out t u vcc transfer programming m s h =
+    let d = t .core .registers .dynamic in
+    let e = shut-out-decides s (t .air) u d (transfer || programming) h in
+    ⊎-elim (λ p. inl (ap (λ (v : Verdict). answered v t u vcc m s) (e ∙ p))) (λ p. inr (ap (λ (v : Verdict). answered v t u vcc m s) (e ∙ p)))
+    (shut-out-answers s (t .air) u d)

@@ -1,0 +1,30 @@
+-- What is proved of the radio side, beside the contract of its function.
+use mathlib.Core.Path.{_≡_}
+use mathlib.Core.Bool.{Bool, true, not, _&&_, _||_}
+use mathlib.Core.List.{List}
+use mathlib.Core.Logic.{_⊎_}
+use Prim.Native.Nat.{ℕ, _<_}
+use lib.ListN.{length, getD}
+use Rattle.parts.specs.Bits.{isSet}
+use Rattle.ranges.specs.Ranges.{airInRange, coreInRange}
+use Rattle.tag.specs.declared.Uid.{Uid}
+use Rattle.reply.specs.declared.RadioSide.{RadioSide}
+use Rattle.reply.specs.Reply.{nothing, fault}
+use Rattle.reply.specs.Outcome.{told}
+use Rattle.radio.specs.Radio.{radioOf}
+
+-- while shut out a frame changes nothing, and its answer is silence or 0Fh
+abbrev pub ShutOut : Type 0
+ShutOut = (t : RadioSide) (u : Uid) (vcc transfer programming : Bool) (m s : List ℕ)
+    → (isSet 1 (t .core .registers .dynamic .bits) || (transfer || programming)) ≡ true
+    → (radioOf t u vcc transfer programming m s ≡ told nothing t m) ⊎ (radioOf t u vcc transfer programming m s ≡ told (fault 0x0F) t m)
+
+-- the ranges of what a request may change; MB_EN only with VCC
+abbrev pub radioInRange : RadioSide → Bool → Bool
+radioInRange t vcc = airInRange (t .air) && coreInRange (t .core) && (vcc || not (t .core .mailbox .enabled))
+
+-- every frame keeps them, and the memory's length; a frame's bytes are below 256
+abbrev pub Keeps : Type 0
+Keeps = (t : RadioSide) (u : Uid) (vcc transfer programming : Bool) (m s : List ℕ)
+    → ((i : ℕ) → getD s i 0 < 256) → radioInRange t vcc ≡ true
+    → (radioInRange (radioOf t u vcc transfer programming m s .side) vcc ≡ true) × (length (radioOf t u vcc transfer programming m s .memory) ≡ length m)

@@ -1,0 +1,105 @@
+// Replies to frames, written into the lent reply buffer.
+ghost use mathlib.Core.Path.{_≡_};
+ghost use mathlib.Core.List.{[], _∷_};
+ghost use Prim.Native.Nat.{_+_};
+ghost use Rattle.crc.specs.Crc.{closedAt};
+ghost use Rattle.reply.specs.Reply.{good, fault, spoken, speak};
+ghost use Rattle.reply.specs.Outcome.{withAir, sideRegisters, sideMailbox, sidePasswords};
+ghost use Rattle.reply.specs.declared.Answer.the-variants.{Reply};
+use registers::Registers;
+use tag::Air;
+use tag::Core;
+use tag::Mailbox;
+use tag::Passwords;
+
+pub enum Answer {
+    Silence,
+    // The reply's length, CRC included.
+    Reply(usize),
+}
+
+// What a request may change.
+pub struct RadioSide {
+    pub air: Air,
+    pub core: Core,
+}
+
+impl RadioSide {
+    pub fn with_air(self, air: Air) -> RadioSide
+        ensures { λ r. ⌜ r ≡ withAir air self ⌝ }
+    {
+        let mut s = self;
+        s.air = air;
+        s
+    }
+
+    pub fn with_registers(self, registers: Registers) -> RadioSide
+        ensures { λ r. ⌜ r ≡ sideRegisters registers self ⌝ }
+    {
+        let mut core = self.core;
+        core.registers = registers;
+        let mut s = self;
+        s.core = core;
+        s
+    }
+
+    pub fn with_mailbox(self, mailbox: Mailbox) -> RadioSide
+        ensures { λ r. ⌜ r ≡ sideMailbox mailbox self ⌝ }
+    {
+        let mut core = self.core;
+        core.mailbox = mailbox;
+        let mut s = self;
+        s.core = core;
+        s
+    }
+
+    pub fn with_passwords(self, passwords: Passwords) -> RadioSide
+        ensures { λ r. ⌜ r ≡ sidePasswords passwords self ⌝ }
+    {
+        let mut core = self.core;
+        core.passwords = passwords;
+        let mut s = self;
+        s.core = core;
+        s
+    }
+}
+
+pub struct Outcome {
+    pub answer: Answer,
+    pub side: RadioSide,
+}
+
+// Closes a reply of n bytes that stand in the buffer.
+pub fn close(out: &mut [u8], n: u32) -> Answer
+    ensures { λ r. ⌜ spoken r (now (out .exit)) ≡ spoken (Reply (n + 2)) (closedAt (now (out .entry)) n) ⌝ }
+{
+    let at = n as usize;
+    crc::close(out, at);
+    Answer::Reply(at + 2)
+}
+
+// An error reply.
+pub fn error(out: &mut [u8], code: u8) -> Answer
+    ensures { λ r. ⌜ spoken r (now (out .exit)) ≡ speak (fault code) (now (out .entry)) ⌝ }
+{
+    parts::put(out, 0, 0x01);
+    parts::put(out, 1, code);
+    close(out, 2)
+}
+
+// A good reply without data.
+pub fn done(out: &mut [u8]) -> Answer
+    ensures { λ r. ⌜ spoken r (now (out .exit)) ≡ speak (good []) (now (out .entry)) ⌝ }
+{
+    parts::put(out, 0, 0x00);
+    close(out, 1)
+}
+
+// A good reply of one byte.
+pub fn byte(out: &mut [u8], x: u8) -> Answer
+    ensures { λ r. ⌜ spoken r (now (out .exit)) ≡ speak (good (x ∷ [])) (now (out .entry)) ⌝ }
+{
+    parts::put(out, 0, 0x00);
+    parts::put(out, 1, x);
+    close(out, 2)
+}

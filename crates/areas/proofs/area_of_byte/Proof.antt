@@ -3,61 +3,46 @@ use Rattle.areas.specs.Ends.{areaOfByte}
 use borrow.Author.Needs.{needs}
 use Rattle.areas.proofs.area_of_byte.Statement.{statement}
 use Rattle.areas.proofs.area_of_byte.Tie as tie
-use Rattle.areas.proofs.area_of_byte.Reads as reads
-use Rattle.areas.proofs.area_of_byte.Lts as lts
 
--- src/lib.rt:36:20
 cast-if1 : tie.Need-cast-if1
 cast-if1 c = search needs
 
--- src/lib.rt:36:14
 mul-if1 : tie.Need-mul-if1
 mul-if1 c = search needs
 
--- src/lib.rt:36:14
 add-if1 : tie.Need-add-if1
 add-if1 c = search needs
 
--- src/lib.rt:37:9
 returns : tie.Need-returns
 unfolding areaOfByte
 returns c = search picks depth 20
 
--- src/lib.rt:39:20
 cast-if2 : tie.Need-cast-if2
 cast-if2 c = search needs
 
--- src/lib.rt:39:14
 mul-if2 : tie.Need-mul-if2
 mul-if2 c = search needs
 
--- src/lib.rt:39:14
 add-if2 : tie.Need-add-if2
 add-if2 c = search needs
 
--- src/lib.rt:40:9
 returns-2 : tie.Need-returns-2
 unfolding areaOfByte
 returns-2 c = search picks depth 20
 
--- src/lib.rt:42:20
 cast-if3 : tie.Need-cast-if3
 cast-if3 c = search needs
 
--- src/lib.rt:42:14
 mul-if3 : tie.Need-mul-if3
 mul-if3 c = search needs
 
--- src/lib.rt:42:14
 add-if3 : tie.Need-add-if3
 add-if3 c = search needs
 
--- src/lib.rt:43:9
 returns-3 : tie.Need-returns-3
 unfolding areaOfByte
 returns-3 c = search picks depth 20
 
--- src/lib.rt:33:1
 returns-4 : tie.Need-returns-4
 unfolding areaOfByte
 returns-4 c = search picks depth 20

@@ -3,38 +3,28 @@ use Rattle.areas.specs.Ends.{endAllows}
 use borrow.Author.Needs.{needs}
 use Rattle.areas.proofs.end_allows.Statement.{statement}
 use Rattle.areas.proofs.end_allows.Tie as tie
-use Rattle.areas.proofs.end_allows.Reads as reads
-use Rattle.areas.proofs.end_allows.Lts as lts
-use Rattle.areas.proofs.end_accepted.Reads as end-accepted-reads
 
--- src/lib.rt:100:9
 end-accepted-requires : tie.Need-end-accepted-requires
 end-accepted-requires c κs = search needs
 
--- src/lib.rt:100:9
 returns : tie.Need-returns
 unfolding endAllows
 returns c = rw (c .end-accepted .ensures) (search picks depth 20)
 
--- src/lib.rt:103:9
 end-accepted-requires-2 : tie.Need-end-accepted-requires-2
 end-accepted-requires-2 c κs = search needs
 
--- src/lib.rt:103:9
 returns-2 : tie.Need-returns-2
 unfolding endAllows
 returns-2 c = rw (c .end-accepted2 .ensures) (search picks depth 20)
 
--- src/lib.rt:106:9
 end-accepted-requires-3 : tie.Need-end-accepted-requires-3
 end-accepted-requires-3 c κs = search needs
 
--- src/lib.rt:106:9
 returns-3 : tie.Need-returns-3
 unfolding endAllows
 returns-3 c = rw (c .end-accepted3 .ensures) (search picks depth 20)
 
--- src/lib.rt:96:1
 returns-4 : tie.Need-returns-4
 unfolding endAllows
 returns-4 c = search picks depth 20

@@ -2,10 +2,7 @@ use mathlib.Core.Path.{refl}
 use Rattle.areas.specs.Ends.{endsInRange}
 use Rattle.areas.proofs.ends_in_range.Statement.{statement}
 use Rattle.areas.proofs.ends_in_range.Tie as tie
-use Rattle.areas.proofs.ends_in_range.Reads as reads
-use Rattle.areas.proofs.ends_in_range.Lts as lts
 
--- src/lib.rt:49:1
 returns : tie.Need-returns
 unfolding endsInRange
 returns c = refl

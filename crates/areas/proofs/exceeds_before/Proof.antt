@@ -2,20 +2,15 @@ use Rattle.parts.proofs.Picks.{picks}
 use Rattle.areas.specs.Ends.{exceedsBefore}
 use Rattle.areas.proofs.exceeds_before.Statement.{statement}
 use Rattle.areas.proofs.exceeds_before.Tie as tie
-use Rattle.areas.proofs.exceeds_before.Reads as reads
-use Rattle.areas.proofs.exceeds_before.Lts as lts
 
--- src/lib.rt:80:9
 returns : tie.Need-returns
 unfolding exceedsBefore
 returns c = search picks depth 20
 
--- src/lib.rt:83:9
 returns-2 : tie.Need-returns-2
 unfolding exceedsBefore
 returns-2 c = search picks depth 20
 
--- src/lib.rt:76:1
 returns-3 : tie.Need-returns-3
 unfolding exceedsBefore
 returns-3 c = search picks depth 20

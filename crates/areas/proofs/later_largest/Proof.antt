@@ -2,20 +2,15 @@ use Rattle.parts.proofs.Picks.{picks}
 use Rattle.areas.specs.Ends.{laterLargest}
 use Rattle.areas.proofs.later_largest.Statement.{statement}
 use Rattle.areas.proofs.later_largest.Tie as tie
-use Rattle.areas.proofs.later_largest.Reads as reads
-use Rattle.areas.proofs.later_largest.Lts as lts
 
--- src/lib.rt:67:9
 returns : tie.Need-returns
 unfolding laterLargest
 returns c = search picks depth 20
 
--- src/lib.rt:70:9
 returns-2 : tie.Need-returns-2
 unfolding laterLargest
 returns-2 c = search picks depth 20
 
--- src/lib.rt:63:1
 returns-3 : tie.Need-returns-3
 unfolding laterLargest
 returns-3 c = search picks depth 20

@@ -2,20 +2,13 @@ use Rattle.areas.specs.Rights.{mayRead}
 use borrow.Author.Needs.{needs}
 use Rattle.areas.proofs.may_read.Statement.{statement}
 use Rattle.areas.proofs.may_read.Tie as tie
-use Rattle.areas.proofs.may_read.Reads as reads
-use Rattle.areas.proofs.may_read.Lts as lts
-use Rattle.areas.proofs.area_of_block.Reads as area-of-block-reads
-use Rattle.areas.proofs.read_right.Reads as read-right-reads
 
--- src/lib.rt:209:23
 area-of-block-requires : tie.Need-area-of-block-requires
 area-of-block-requires c κs = search needs
 
--- src/lib.rt:209:5
 read-right-requires : tie.Need-read-right-requires
 read-right-requires c κs = search needs
 
--- src/lib.rt:206:1
 returns : tie.Need-returns
 unfolding mayRead
 returns c = rw (c .read-right .ensures, c .before .area-of-block .ensures)

@@ -2,25 +2,16 @@ use Rattle.areas.specs.Rights.{mayWrite}
 use borrow.Author.Needs.{needs}
 use Rattle.areas.proofs.may_write.Statement.{statement}
 use Rattle.areas.proofs.may_write.Tie as tie
-use Rattle.areas.proofs.may_write.Reads as reads
-use Rattle.areas.proofs.may_write.Lts as lts
-use Rattle.areas.proofs.area_of_block.Reads as area-of-block-reads
-use Rattle.areas.proofs.is_locked.Reads as is-locked-reads
-use Rattle.areas.proofs.write_right.Reads as write-right-reads
 
--- src/lib.rt:216:6
 is-locked-requires : tie.Need-is-locked-requires
 is-locked-requires c κs = search needs
 
--- src/lib.rt:216:54
 area-of-block-requires : tie.Need-area-of-block-requires
 area-of-block-requires c κs = search needs
 
--- src/lib.rt:216:35
 write-right-requires : tie.Need-write-right-requires
 write-right-requires c κs = search needs
 
--- src/lib.rt:213:1
 returns : tie.Need-returns
 unfolding mayWrite
 returns c = rw (c .write-right .ensures, c .before .area-of-block .ensures, c .before .before .is-locked .ensures)

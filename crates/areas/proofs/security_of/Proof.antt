@@ -2,25 +2,19 @@ use Rattle.parts.proofs.Picks.{picks}
 use Rattle.areas.specs.Rights.{securityOf}
 use Rattle.areas.proofs.security_of.Statement.{statement}
 use Rattle.areas.proofs.security_of.Tie as tie
-use Rattle.areas.proofs.security_of.Reads as reads
-use Rattle.areas.proofs.security_of.Lts as lts
 
--- src/lib.rt:100:9
 returns : tie.Need-returns
 unfolding securityOf
 returns c = search picks depth 20
 
--- src/lib.rt:103:9
 returns-2 : tie.Need-returns-2
 unfolding securityOf
 returns-2 c = search picks depth 20
 
--- src/lib.rt:106:9
 returns-3 : tie.Need-returns-3
 unfolding securityOf
 returns-3 c = search picks depth 20
 
--- src/lib.rt:96:1
 returns-4 : tie.Need-returns-4
 unfolding securityOf
 returns-4 c = search picks depth 20

@@ -2,25 +2,19 @@ use Rattle.parts.proofs.Picks.{picks}
 use Rattle.areas.specs.Rights.{wireBits}
 use Rattle.areas.proofs.wire_bits.Statement.{statement}
 use Rattle.areas.proofs.wire_bits.Tie as tie
-use Rattle.areas.proofs.wire_bits.Reads as reads
-use Rattle.areas.proofs.wire_bits.Lts as lts
 
--- src/lib.rt:147:9
 returns : tie.Need-returns
 unfolding wireBits
 returns c = search picks depth 20
 
--- src/lib.rt:150:9
 returns-2 : tie.Need-returns-2
 unfolding wireBits
 returns-2 c = search picks depth 20
 
--- src/lib.rt:153:9
 returns-3 : tie.Need-returns-3
 unfolding wireBits
 returns-3 c = search picks depth 20
 
--- src/lib.rt:143:1
 returns-4 : tie.Need-returns-4
 unfolding wireBits
 returns-4 c = search picks depth 20

@@ -2,15 +2,10 @@ use Rattle.areas.specs.Rights.{wireReads}
 use borrow.Author.Needs.{needs}
 use Rattle.areas.proofs.wire_reads.Statement.{statement}
 use Rattle.areas.proofs.wire_reads.Tie as tie
-use Rattle.areas.proofs.wire_reads.Reads as reads
-use Rattle.areas.proofs.wire_reads.Lts as lts
-use Rattle.areas.proofs.wire_bits.Reads as wire-bits-reads
 
--- src/lib.rt:168:9
 wire-bits-requires : tie.Need-wire-bits-requires
 wire-bits-requires c κs = search needs
 
--- src/lib.rt:165:1
 returns : tie.Need-returns
 unfolding wireReads
 returns c = rw (c .wire-bits .ensures)

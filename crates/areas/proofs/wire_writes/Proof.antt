@@ -2,15 +2,10 @@ use Rattle.areas.specs.Rights.{wireWrites}
 use borrow.Author.Needs.{needs}
 use Rattle.areas.proofs.wire_writes.Statement.{statement}
 use Rattle.areas.proofs.wire_writes.Tie as tie
-use Rattle.areas.proofs.wire_writes.Reads as reads
-use Rattle.areas.proofs.wire_writes.Lts as lts
-use Rattle.areas.proofs.wire_bits.Reads as wire-bits-reads
 
--- src/lib.rt:161:9
 wire-bits-requires : tie.Need-wire-bits-requires
 wire-bits-requires c κs = search needs
 
--- src/lib.rt:158:1
 returns : tie.Need-returns
 unfolding wireWrites
 returns c = rw (c .wire-bits .ensures)

@@ -7,10 +7,6 @@ use lib.ListN.{length, getD, set, length-set}
 use Rattle.parts.specs.Bytes.{copied}
 use Rattle.parts.proofs.copy_bytes.Statement.{statement}
 use Rattle.parts.proofs.copy_bytes.Tie as tie
-use Rattle.parts.proofs.copy_bytes.Reads as reads
-use Rattle.parts.proofs.copy_bytes.Lts as lts
-use Rattle.parts.proofs.byte_in.Reads as byte-in-reads
-use Rattle.parts.proofs.put_in.Reads as put-in-reads
 
 abbrev Inv-loop : tie.InvT-loop
 Inv-loop m₀ to from n i₀ m i = (m ≡ copied m₀ to from i) × ((i ≤ n) × (length m ≡ length m₀))
@@ -18,28 +14,22 @@ Inv-loop m₀ to from n i₀ m i = (m ≡ copied m₀ to from i) × ((i ≤ n) �
 abbrev μ-loop : tie.MeasureT-loop
 μ-loop m₀ to from n i₀ m i = n - i
 
--- src/lib.rt:69:5
 loop-holds : tie.Need-loop-holds Inv-loop μ-loop
 unfolding copied
 loop-holds c = (refl, (omega arith, refl))
 
--- src/lib.rt:70:13
 byte-in-requires : tie.Need-byte-in-requires Inv-loop μ-loop
 byte-in-requires c κs = search needs
 
--- src/lib.rt:71:9
 put-in-requires : tie.Need-put-in-requires Inv-loop μ-loop
 put-in-requires c κs = search needs
 
--- src/lib.rt:72:9
 add-i : tie.Need-add-i Inv-loop μ-loop
 add-i c = omega arith
 
--- src/lib.rt:69:5
 loop-less : tie.Need-loop-less Inv-loop μ-loop
 loop-less c = omega arith
 
--- src/lib.rt:69:5
 loop-again : tie.Need-loop-again Inv-loop μ-loop
 unfolding copied
 loop-again c =
@@ -47,11 +37,9 @@ loop-again c =
     let l = c .before .before .before .before .before .before .before .loop in
     (p .put-in .ensures ∙ rw (p .before .before .byte-in .ensures, l .inv .0, add-one (l .i)), (omega arith, ap length (p .put-in .ensures) ∙ simp length-set (l .inv .1 .1)))
 
--- src/lib.rt:65:1
 same-length : tie.Need-same-length Inv-loop μ-loop
 same-length c = c .before .loop .inv .1 .1
 
--- src/lib.rt:65:1
 returns : tie.Need-returns Inv-loop μ-loop
 returns c =
     let l = c .before .loop in

@@ -2,43 +2,31 @@ use Rattle.parts.specs.Bytes.{bytesAt}
 use borrow.Author.Needs.{needs}
 use Rattle.parts.proofs.eight_at.Statement.{statement}
 use Rattle.parts.proofs.eight_at.Tie as tie
-use Rattle.parts.proofs.eight_at.Reads as reads
-use Rattle.parts.proofs.eight_at.Lts as lts
-use Rattle.parts.proofs.byte_in.Reads as byte-in-reads
 
--- src/lib.rt:81:9
 byte-in-requires : tie.Need-byte-in-requires
 byte-in-requires c κs = search needs
 
--- src/lib.rt:82:9
 byte-in-requires-2 : tie.Need-byte-in-requires-2
 byte-in-requires-2 c κs = search needs
 
--- src/lib.rt:83:9
 byte-in-requires-3 : tie.Need-byte-in-requires-3
 byte-in-requires-3 c κs = search needs
 
--- src/lib.rt:84:9
 byte-in-requires-4 : tie.Need-byte-in-requires-4
 byte-in-requires-4 c κs = search needs
 
--- src/lib.rt:85:9
 byte-in-requires-5 : tie.Need-byte-in-requires-5
 byte-in-requires-5 c κs = search needs
 
--- src/lib.rt:86:9
 byte-in-requires-6 : tie.Need-byte-in-requires-6
 byte-in-requires-6 c κs = search needs
 
--- src/lib.rt:87:9
 byte-in-requires-7 : tie.Need-byte-in-requires-7
 byte-in-requires-7 c κs = search needs
 
--- src/lib.rt:88:9
 byte-in-requires-8 : tie.Need-byte-in-requires-8
 byte-in-requires-8 c κs = search needs
 
--- src/lib.rt:77:1
 returns : tie.Need-returns
 unfolding bytesAt
 returns c = rw (c .byte-in8 .ensures, c .before .byte-in7 .ensures, c .before .before .byte-in6 .ensures, c .before .before .before .byte-in5 .ensures, c .before .before .before .before .byte-in4 .ensures, c .before .before .before .before .before .byte-in3 .ensures, c .before .before .before .before .before .before .byte-in2 .ensures, c .before .before .before .before .before .before .before .byte-in .ensures)

@@ -9,10 +9,6 @@ use Rattle.parts.specs.Bytes.{bytesAt}
 use Rattle.parts.proofs.Lists.{sets-snoc, length-bytesAt}
 use Rattle.parts.proofs.put_bytes.Statement.{statement}
 use Rattle.parts.proofs.put_bytes.Tie as tie
-use Rattle.parts.proofs.put_bytes.Reads as reads
-use Rattle.parts.proofs.put_bytes.Lts as lts
-use Rattle.parts.proofs.byte_in.Reads as byte-in-reads
-use Rattle.parts.proofs.put_in.Reads as put-in-reads
 
 abbrev Inv-loop : tie.InvT-loop
 Inv-loop m₀ at s from n i₀ m i = (m ≡ sets m₀ at (bytesAt s from i)) × ((i ≤ n) × (length m ≡ length m₀))
@@ -20,28 +16,22 @@ Inv-loop m₀ at s from n i₀ m i = (m ≡ sets m₀ at (bytesAt s from i)) × 
 abbrev μ-loop : tie.MeasureT-loop
 μ-loop m₀ at s from n i₀ m i = n - i
 
--- src/lib.rt:57:5
 loop-holds : tie.Need-loop-holds Inv-loop μ-loop
 unfolding bytesAt
 loop-holds c = (refl, (omega arith, refl))
 
--- src/lib.rt:58:13
 byte-in-requires : tie.Need-byte-in-requires Inv-loop μ-loop
 byte-in-requires c κs = search needs
 
--- src/lib.rt:59:9
 put-in-requires : tie.Need-put-in-requires Inv-loop μ-loop
 put-in-requires c κs = search needs
 
--- src/lib.rt:60:9
 add-i : tie.Need-add-i Inv-loop μ-loop
 add-i c = omega arith
 
--- src/lib.rt:57:5
 loop-less : tie.Need-loop-less Inv-loop μ-loop
 loop-less c = omega arith
 
--- src/lib.rt:57:5
 loop-again : tie.Need-loop-again Inv-loop μ-loop
 unfolding bytesAt
 loop-again c =
@@ -56,11 +46,9 @@ loop-again c =
       (omega arith, ap length (p .put-in .ensures) ∙ simp length-set (l .inv .1 .1)),
     )
 
--- src/lib.rt:53:1
 same-length : tie.Need-same-length Inv-loop μ-loop
 same-length c = c .before .loop .inv .1 .1
 
--- src/lib.rt:53:1
 returns : tie.Need-returns Inv-loop μ-loop
 returns c =
     let l = c .before .loop in

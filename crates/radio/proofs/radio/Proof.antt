@@ -7,51 +7,35 @@ use Rattle.radio.specs.Radio.{answered, radioOf}
 use borrow.Author.Needs.{needs}
 use Rattle.radio.proofs.radio.Statement.{statement}
 use Rattle.radio.proofs.radio.Tie as tie
-use Rattle.radio.proofs.radio.Reads as reads
-use Rattle.radio.proofs.radio.Lts as lts
-use Rattle.frame.proofs.judge.Reads as judge-reads
-use Rattle.radio.proofs.fields.Reads as fields-reads
-use Rattle.radio.proofs.serve.Reads as serve-reads
-use Rattle.reply.proofs.error.Reads as error-reads
 
--- src/lib.rt:78:11
 judge-requires : tie.Need-judge-requires
 judge-requires c κs = search needs
 
--- src/lib.rt:80:21
 enum-told : tie.Need-enum-told
 enum-told c = search needs
 
--- src/lib.rt:83:24
 enum-known-code : tie.Need-enum-known-code
 enum-known-code c = search needs
 
--- src/lib.rt:84:21
 error-requires : tie.Need-error-requires
 error-requires c κs = search needs
 
--- src/lib.rt:87:35
 enum-told-2 : tie.Need-enum-told-2
 enum-told-2 c = search needs
 
--- src/lib.rt:87:35
 fields-requires : tie.Need-fields-requires
 fields-requires c κs = search needs
 
--- src/lib.rt:87:29
 serve-requires : tie.Need-serve-requires
 serve-requires c κs = search needs
 
--- src/lib.rt:74:1
 returns : tie.Need-returns
 unfolding radioOf answered answerOf bufferOf
 returns c = rw (← c .before .before .judge .ensures, c .enum-told .given .1)
 
--- src/lib.rt:74:1
 same-length : tie.Need-same-length
 same-length c = search needs
 
--- src/lib.rt:74:1
 returns-2 : tie.Need-returns-2
 unfolding radioOf answered
 returns-2 c =
@@ -61,15 +45,12 @@ returns-2 c =
     said (radioOf (a .t) (a .u) (a .vcc) (a .transfer) (a .programming) (a .m .now) (a .s .now)) (a .out .now) _ (failed .error .ensures)
     (rw (← judged .judge .ensures, failed .before .before .before .code .given .1))
 
--- src/lib.rt:74:1
 same-length-2 : tie.Need-same-length-2
 same-length-2 c = search needs
 
--- src/lib.rt:74:1
 same-length-3 : tie.Need-same-length-3
 same-length-3 c = search needs
 
--- src/lib.rt:74:1
 returns-3 : tie.Need-returns-3
 unfolding radioOf answered
 returns-3 c =

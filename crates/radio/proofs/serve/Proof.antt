@@ -6,356 +6,259 @@ use Rattle.radio.specs.Commands.{serveOf}
 use borrow.Author.Needs.{needs}
 use Rattle.radio.proofs.serve.Statement.{statement}
 use Rattle.radio.proofs.serve.Tie as tie
-use Rattle.radio.proofs.serve.Reads as reads
-use Rattle.radio.proofs.serve.Lts as lts
-use Rattle.blocks.proofs.lock.Reads as lock-reads
-use Rattle.blocks.proofs.read.Reads as read-reads
-use Rattle.blocks.proofs.status.Reads as status-reads
-use Rattle.blocks.proofs.write.Reads as write-reads
-use Rattle.config.proofs.read.Reads as read-reads′
-use Rattle.config.proofs.read_dynamic.Reads as read-dynamic-reads
-use Rattle.config.proofs.write.Reads as write-reads′
-use Rattle.config.proofs.write_dynamic.Reads as write-dynamic-reads
-use Rattle.message.proofs.length.Reads as length-reads
-use Rattle.message.proofs.read.Reads as read-reads′′
-use Rattle.message.proofs.write.Reads as write-reads′′
-use Rattle.password.proofs.present.Reads as present-reads
-use Rattle.password.proofs.reset.Reads as reset-reads
-use Rattle.password.proofs.select.Reads as select-reads
-use Rattle.password.proofs.stay_quiet.Reads as stay-quiet-reads
-use Rattle.password.proofs.write.Reads as write-reads′′′
 
--- src/lib.rt:46:14
 cast-at : tie.Need-cast-at
 cast-at c = search needs
 
--- src/lib.rt:48:17
 stay-quiet-requires : tie.Need-stay-quiet-requires
 stay-quiet-requires c κs = search needs
 
--- src/lib.rt:49:17
 select-requires : tie.Need-select-requires
 select-requires c κs = search needs
 
--- src/lib.rt:50:17
 reset-requires : tie.Need-reset-requires
 reset-requires c κs = search needs
 
--- src/lib.rt:51:17
 read-requires : tie.Need-read-requires
 read-requires c κs = search needs
 
--- src/lib.rt:52:17
 read-requires-2 : tie.Need-read-requires-2
 read-requires-2 c κs = search needs
 
--- src/lib.rt:53:55
 add-write : tie.Need-add-write
 add-write c = search needs
 
--- src/lib.rt:53:17
 write-requires : tie.Need-write-requires
 write-requires c κs = search needs
 
--- src/lib.rt:54:60
 add-write-2 : tie.Need-add-write-2
 add-write-2 c = search needs
 
--- src/lib.rt:54:17
 write-requires-2 : tie.Need-write-requires-2
 write-requires-2 c κs = search needs
 
--- src/lib.rt:55:17
 lock-requires : tie.Need-lock-requires
 lock-requires c κs = search needs
 
--- src/lib.rt:56:17
 status-requires : tie.Need-status-requires
 status-requires c κs = search needs
 
--- src/lib.rt:57:17
 read-requires-3 : tie.Need-read-requires-3
 read-requires-3 c κs = search needs
 
--- src/lib.rt:58:17
 write-requires-3 : tie.Need-write-requires-3
 write-requires-3 c κs = search needs
 
--- src/lib.rt:59:17
 read-dynamic-requires : tie.Need-read-dynamic-requires
 read-dynamic-requires c κs = search needs
 
--- src/lib.rt:60:17
 write-dynamic-requires : tie.Need-write-dynamic-requires
 write-dynamic-requires c κs = search needs
 
--- src/lib.rt:61:53
 add-write-3 : tie.Need-add-write-3
 add-write-3 c = search needs
 
--- src/lib.rt:61:17
 write-requires-4 : tie.Need-write-requires-4
 write-requires-4 c κs = search needs
 
--- src/lib.rt:62:17
 length-requires : tie.Need-length-requires
 length-requires c κs = search needs
 
--- src/lib.rt:63:17
 read-requires-4 : tie.Need-read-requires-4
 read-requires-4 c κs = search needs
 
--- src/lib.rt:64:56
 add-present : tie.Need-add-present
 add-present c = search needs
 
--- src/lib.rt:64:17
 present-requires : tie.Need-present-requires
 present-requires c κs = search needs
 
--- src/lib.rt:65:54
 add-write-4 : tie.Need-add-write-4
 add-write-4 c = search needs
 
--- src/lib.rt:65:17
 write-requires-5 : tie.Need-write-requires-5
 write-requires-5 c κs = search needs
 
--- src/lib.rt:40:1
 same-length : tie.Need-same-length
 same-length c = search needs
 
--- src/lib.rt:40:1
 same-length-2 : tie.Need-same-length-2
 same-length-2 c = search needs
 
--- src/lib.rt:40:1
 returns : tie.Need-returns
 unfolding serveOf pick
 returns c = rw (c .before .before .before .before .before .match .keys1) (c .before .before .stay-quiet .ensures)
 
--- src/lib.rt:40:1
 same-length-3 : tie.Need-same-length-3
 same-length-3 c = search needs
 
--- src/lib.rt:40:1
 same-length-4 : tie.Need-same-length-4
 same-length-4 c = search needs
 
--- src/lib.rt:40:1
 returns-2 : tie.Need-returns-2
 unfolding serveOf pick
 returns-2 c = rw (c .before .before .before .before .before .match .keys2) (c .before .before .select .ensures)
 
--- src/lib.rt:40:1
 same-length-5 : tie.Need-same-length-5
 same-length-5 c = search needs
 
--- src/lib.rt:40:1
 same-length-6 : tie.Need-same-length-6
 same-length-6 c = search needs
 
--- src/lib.rt:40:1
 returns-3 : tie.Need-returns-3
 unfolding serveOf pick
 returns-3 c = rw (c .before .before .before .before .before .match .keys3) (c .before .before .reset .ensures)
 
--- src/lib.rt:40:1
 same-length-7 : tie.Need-same-length-7
 same-length-7 c = search needs
 
--- src/lib.rt:40:1
 same-length-8 : tie.Need-same-length-8
 same-length-8 c = search needs
 
--- src/lib.rt:40:1
 returns-4 : tie.Need-returns-4
 unfolding serveOf pick
 returns-4 c = rw (c .before .before .before .before .before .match .keys4) (c .before .before .read .ensures)
 
--- src/lib.rt:40:1
 same-length-9 : tie.Need-same-length-9
 same-length-9 c = search needs
 
--- src/lib.rt:40:1
 same-length-10 : tie.Need-same-length-10
 same-length-10 c = search needs
 
--- src/lib.rt:40:1
 returns-5 : tie.Need-returns-5
 unfolding serveOf pick
 returns-5 c = rw (c .before .before .before .before .before .match .keys5) (c .before .before .read2 .ensures)
 
--- src/lib.rt:40:1
 same-length-11 : tie.Need-same-length-11
 same-length-11 c = search needs
 
--- src/lib.rt:40:1
 same-length-12 : tie.Need-same-length-12
 same-length-12 c = search needs
 
--- src/lib.rt:40:1
 returns-6 : tie.Need-returns-6
 unfolding serveOf pick
 returns-6 c = rw (c .before .before .before .before .before .before .before .match .keys6) (c .before .before .before .before .write .ensures)
 
--- src/lib.rt:40:1
 same-length-13 : tie.Need-same-length-13
 same-length-13 c = search needs
 
--- src/lib.rt:40:1
 same-length-14 : tie.Need-same-length-14
 same-length-14 c = search needs
 
--- src/lib.rt:40:1
 returns-7 : tie.Need-returns-7
 unfolding serveOf pick
 returns-7 c = rw (c .before .before .before .before .before .before .before .match .keys7) (c .before .before .before .before .write2 .ensures)
 
--- src/lib.rt:40:1
 same-length-15 : tie.Need-same-length-15
 same-length-15 c = search needs
 
--- src/lib.rt:40:1
 same-length-16 : tie.Need-same-length-16
 same-length-16 c = search needs
 
--- src/lib.rt:40:1
 returns-8 : tie.Need-returns-8
 unfolding serveOf pick
 returns-8 c = rw (c .before .before .before .before .before .match .keys8) (c .before .before .lock .ensures)
 
--- src/lib.rt:40:1
 same-length-17 : tie.Need-same-length-17
 same-length-17 c = search needs
 
--- src/lib.rt:40:1
 same-length-18 : tie.Need-same-length-18
 same-length-18 c = search needs
 
--- src/lib.rt:40:1
 returns-9 : tie.Need-returns-9
 unfolding serveOf pick
 returns-9 c = rw (c .before .before .before .before .before .match .keys9) (c .before .before .status .ensures)
 
--- src/lib.rt:40:1
 same-length-19 : tie.Need-same-length-19
 same-length-19 c = search needs
 
--- src/lib.rt:40:1
 same-length-20 : tie.Need-same-length-20
 same-length-20 c = search needs
 
--- src/lib.rt:40:1
 returns-10 : tie.Need-returns-10
 unfolding serveOf pick
 returns-10 c = rw (c .before .before .before .before .before .match .keys10) (c .before .before .read3 .ensures)
 
--- src/lib.rt:40:1
 same-length-21 : tie.Need-same-length-21
 same-length-21 c = search needs
 
--- src/lib.rt:40:1
 same-length-22 : tie.Need-same-length-22
 same-length-22 c = search needs
 
--- src/lib.rt:40:1
 returns-11 : tie.Need-returns-11
 unfolding serveOf pick
 returns-11 c = rw (c .before .before .before .before .before .match .keys11) (c .before .before .write3 .ensures)
 
--- src/lib.rt:40:1
 same-length-23 : tie.Need-same-length-23
 same-length-23 c = search needs
 
--- src/lib.rt:40:1
 same-length-24 : tie.Need-same-length-24
 same-length-24 c = search needs
 
--- src/lib.rt:40:1
 returns-12 : tie.Need-returns-12
 unfolding serveOf pick
 returns-12 c = rw (c .before .before .before .before .before .match .keys12) (c .before .before .read-dynamic .ensures)
 
--- src/lib.rt:40:1
 same-length-25 : tie.Need-same-length-25
 same-length-25 c = search needs
 
--- src/lib.rt:40:1
 same-length-26 : tie.Need-same-length-26
 same-length-26 c = search needs
 
--- src/lib.rt:40:1
 returns-13 : tie.Need-returns-13
 unfolding serveOf pick
 returns-13 c = rw (c .before .before .before .before .before .match .keys13) (c .before .before .write-dynamic .ensures)
 
--- src/lib.rt:40:1
 same-length-27 : tie.Need-same-length-27
 same-length-27 c = search needs
 
--- src/lib.rt:40:1
 same-length-28 : tie.Need-same-length-28
 same-length-28 c = search needs
 
--- src/lib.rt:40:1
 returns-14 : tie.Need-returns-14
 unfolding serveOf pick
 returns-14 c = rw (c .before .before .before .before .before .before .before .match .keys14) (c .before .before .before .before .write4 .ensures)
 
--- src/lib.rt:40:1
 same-length-29 : tie.Need-same-length-29
 same-length-29 c = search needs
 
--- src/lib.rt:40:1
 same-length-30 : tie.Need-same-length-30
 same-length-30 c = search needs
 
--- src/lib.rt:40:1
 returns-15 : tie.Need-returns-15
 unfolding serveOf pick
 returns-15 c = rw (c .before .before .before .before .before .match .keys15) (c .before .before .length .ensures)
 
--- src/lib.rt:40:1
 same-length-31 : tie.Need-same-length-31
 same-length-31 c = search needs
 
--- src/lib.rt:40:1
 same-length-32 : tie.Need-same-length-32
 same-length-32 c = search needs
 
--- src/lib.rt:40:1
 returns-16 : tie.Need-returns-16
 unfolding serveOf pick
 returns-16 c = rw (c .before .before .before .before .before .match .keys16) (c .before .before .read4 .ensures)
 
--- src/lib.rt:40:1
 same-length-33 : tie.Need-same-length-33
 same-length-33 c = search needs
 
--- src/lib.rt:40:1
 same-length-34 : tie.Need-same-length-34
 same-length-34 c = search needs
 
--- src/lib.rt:40:1
 returns-17 : tie.Need-returns-17
 unfolding serveOf pick
 returns-17 c = rw (c .before .before .before .before .before .match .keys17) (c .before .before .present .ensures)
 
--- src/lib.rt:40:1
 same-length-35 : tie.Need-same-length-35
 same-length-35 c = search needs
 
--- src/lib.rt:40:1
 same-length-36 : tie.Need-same-length-36
 same-length-36 c = search needs
 
--- src/lib.rt:40:1
 returns-18 : tie.Need-returns-18
 unfolding serveOf pick
 returns-18 c = rw (c .before .before .before .before .before .match .keys18) (c .before .before .write5 .ensures)
 
--- src/lib.rt:40:1
 returns-19 : tie.Need-returns-19
 unfolding serveOf
 returns-19 c =

@@ -2,10 +2,7 @@ use mathlib.Core.Path.{refl}
 use Rattle.ranges.specs.Ranges.{mailboxInRange}
 use Rattle.ranges.proofs.mailbox_in_range.Statement.{statement}
 use Rattle.ranges.proofs.mailbox_in_range.Tie as tie
-use Rattle.ranges.proofs.mailbox_in_range.Reads as reads
-use Rattle.ranges.proofs.mailbox_in_range.Lts as lts
 
--- src/lib.rt:25:1
 returns : tie.Need-returns
 unfolding mailboxInRange
 returns c = refl

@@ -2,25 +2,16 @@ use Rattle.ranges.specs.Ranges.{wireInRange}
 use borrow.Author.Needs.{needs}
 use Rattle.ranges.proofs.wire_in_range.Statement.{statement}
 use Rattle.ranges.proofs.wire_in_range.Tie as tie
-use Rattle.ranges.proofs.wire_in_range.Reads as reads
-use Rattle.ranges.proofs.wire_in_range.Lts as lts
-use Rattle.ranges.proofs.core_in_range.Reads as core-in-range-reads
-use Rattle.ranges.proofs.host_in_range.Reads as host-in-range-reads
-use Rattle.ranges.proofs.supplied_in_range.Reads as supplied-in-range-reads
 
--- src/lib.rt:62:5
 core-in-range-requires : tie.Need-core-in-range-requires
 core-in-range-requires c κs = search needs
 
--- src/lib.rt:62:29
 host-in-range-requires : tie.Need-host-in-range-requires
 host-in-range-requires c κs = search needs
 
--- src/lib.rt:62:51
 supplied-in-range-requires : tie.Need-supplied-in-range-requires
 supplied-in-range-requires c κs = search needs
 
--- src/lib.rt:58:1
 returns : tie.Need-returns
 unfolding wireInRange
 returns c = rw (c .supplied-in-range .ensures, c .before .host-in-range .ensures, c .before .before .core-in-range .ensures)

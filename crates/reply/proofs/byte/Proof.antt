@@ -3,28 +3,19 @@ use Rattle.reply.specs.Reply.{answerOf, bufferOf}
 use borrow.Author.Needs.{needs}
 use Rattle.reply.proofs.byte.Statement.{statement}
 use Rattle.reply.proofs.byte.Tie as tie
-use Rattle.reply.proofs.byte.Reads as reads
-use Rattle.reply.proofs.byte.Lts as lts
-use Rattle.parts.proofs.put.Reads as put-reads
-use Rattle.reply.proofs.close.Reads as close-reads
 
--- src/lib.rt:102:5
 put-requires : tie.Need-put-requires
 put-requires c κs = search needs
 
--- src/lib.rt:103:5
 put-requires-2 : tie.Need-put-requires-2
 put-requires-2 c κs = search needs
 
--- src/lib.rt:104:5
 close-requires : tie.Need-close-requires
 close-requires c κs = search needs
 
--- src/lib.rt:99:1
 same-length : tie.Need-same-length
 same-length c = search needs
 
--- src/lib.rt:99:1
 returns : tie.Need-returns
 unfolding answerOf bufferOf
 returns c =

@@ -3,24 +3,16 @@ use Rattle.reply.specs.Reply.{answerOf, bufferOf}
 use borrow.Author.Needs.{needs}
 use Rattle.reply.proofs.done.Statement.{statement}
 use Rattle.reply.proofs.done.Tie as tie
-use Rattle.reply.proofs.done.Reads as reads
-use Rattle.reply.proofs.done.Lts as lts
-use Rattle.parts.proofs.put.Reads as put-reads
-use Rattle.reply.proofs.close.Reads as close-reads
 
--- src/lib.rt:94:5
 put-requires : tie.Need-put-requires
 put-requires c κs = search needs
 
--- src/lib.rt:95:5
 close-requires : tie.Need-close-requires
 close-requires c κs = search needs
 
--- src/lib.rt:91:1
 same-length : tie.Need-same-length
 same-length c = search needs
 
--- src/lib.rt:91:1
 returns : tie.Need-returns
 unfolding answerOf bufferOf
 returns c =

@@ -2,59 +2,45 @@ use Rattle.tag.specs.Bus.{isActive}
 use borrow.Author.Needs.{needs}
 use Rattle.tag.proofs.is_active.Statement.{statement}
 use Rattle.tag.proofs.is_active.Tie as tie
-use Rattle.tag.proofs.is_active.Reads as reads
-use Rattle.tag.proofs.is_active.Lts as lts
 
--- src/lib.rt:445:22
 enum-told : tie.Need-enum-told
 enum-told c = search needs
 
--- src/lib.rt:446:22
 enum-known-b : tie.Need-enum-known-b
 enum-known-b c = search needs
 
--- src/lib.rt:447:24
 enum-known-b-2 : tie.Need-enum-known-b-2
 enum-known-b-2 c = search needs
 
--- src/lib.rt:448:23
 enum-known-b-3 : tie.Need-enum-known-b-3
 enum-known-b-3 c = search needs
 
--- src/lib.rt:449:27
 enum-known-b-4 : tie.Need-enum-known-b-4
 enum-known-b-4 c = search needs
 
--- src/lib.rt:451:13
 enum-known-b-5 : tie.Need-enum-known-b-5
 enum-known-b-5 c = search needs
 
--- src/lib.rt:441:1
 returns : tie.Need-returns
 unfolding isActive
 returns c = rw (c .enum-told .given .1)
 
--- src/lib.rt:441:1
 returns-2 : tie.Need-returns-2
 unfolding isActive
 returns-2 c = rw (c .before .b .given .1)
 
--- src/lib.rt:441:1
 returns-3 : tie.Need-returns-3
 unfolding isActive
 returns-3 c = rw (c .before .b2 .given .1)
 
--- src/lib.rt:441:1
 returns-4 : tie.Need-returns-4
 unfolding isActive
 returns-4 c = rw (c .before .b3 .given .1)
 
--- src/lib.rt:441:1
 returns-5 : tie.Need-returns-5
 unfolding isActive
 returns-5 c = rw (c .before .b4 .given .1)
 
--- src/lib.rt:441:1
 returns-6 : tie.Need-returns-6
 unfolding isActive
 returns-6 c = rw (c .before .b5 .given .1)

@@ -2,32 +2,24 @@ use Rattle.tag.specs.Radio.{isQuiet}
 use borrow.Author.Needs.{needs}
 use Rattle.tag.proofs.is_quiet.Statement.{statement}
 use Rattle.tag.proofs.is_quiet.Tie as tie
-use Rattle.tag.proofs.is_quiet.Reads as reads
-use Rattle.tag.proofs.is_quiet.Lts as lts
 
--- src/lib.rt:21:30
 enum-told : tie.Need-enum-told
 enum-told c = search needs
 
--- src/lib.rt:22:30
 enum-told-2 : tie.Need-enum-told-2
 enum-told-2 c = search needs
 
--- src/lib.rt:23:33
 enum-told-3 : tie.Need-enum-told-3
 enum-told-3 c = search needs
 
--- src/lib.rt:17:1
 returns : tie.Need-returns
 unfolding isQuiet
 returns c = rw (c .enum-told .given .1)
 
--- src/lib.rt:17:1
 returns-2 : tie.Need-returns-2
 unfolding isQuiet
 returns-2 c = rw (c .enum-told2 .given .1)
 
--- src/lib.rt:17:1
 returns-3 : tie.Need-returns-3
 unfolding isQuiet
 returns-3 c = rw (c .enum-told3 .given .1)

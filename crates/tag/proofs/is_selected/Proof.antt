@@ -2,32 +2,24 @@ use Rattle.tag.specs.Radio.{isSelected}
 use borrow.Author.Needs.{needs}
 use Rattle.tag.proofs.is_selected.Statement.{statement}
 use Rattle.tag.proofs.is_selected.Tie as tie
-use Rattle.tag.proofs.is_selected.Reads as reads
-use Rattle.tag.proofs.is_selected.Lts as lts
 
--- src/lib.rt:31:30
 enum-told : tie.Need-enum-told
 enum-told c = search needs
 
--- src/lib.rt:32:30
 enum-told-2 : tie.Need-enum-told-2
 enum-told-2 c = search needs
 
--- src/lib.rt:33:33
 enum-told-3 : tie.Need-enum-told-3
 enum-told-3 c = search needs
 
--- src/lib.rt:27:1
 returns : tie.Need-returns
 unfolding isSelected
 returns c = rw (c .enum-told .given .1)
 
--- src/lib.rt:27:1
 returns-2 : tie.Need-returns-2
 unfolding isSelected
 returns-2 c = rw (c .enum-told2 .given .1)
 
--- src/lib.rt:27:1
 returns-3 : tie.Need-returns-3
 unfolding isSelected
 returns-3 c = rw (c .enum-told3 .given .1)

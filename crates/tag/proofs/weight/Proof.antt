@@ -2,14 +2,10 @@ use Rattle.parts.proofs.Picks.{picks}
 use borrow.Author.Needs.{needs}
 use Rattle.tag.proofs.weight.Statement.{statement}
 use Rattle.tag.proofs.weight.Tie as tie
-use Rattle.tag.proofs.weight.Reads as reads
-use Rattle.tag.proofs.weight.Lts as lts
 
--- src/lib.rt:153:9
 returns : tie.Need-returns
 returns c = (search picks depth 20, search needs)
 
--- src/lib.rt:148:1
 returns-2 : tie.Need-returns-2
 returns-2 c = (search picks depth 20, search needs)
 

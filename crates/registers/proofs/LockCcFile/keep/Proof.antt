@@ -1,10 +1,7 @@
 use lib.Bits.{and-mask}
 use Rattle.registers.proofs.LockCcFile.keep.Statement.{statement}
 use Rattle.registers.proofs.LockCcFile.keep.Tie as tie
-use Rattle.registers.proofs.LockCcFile.keep.Reads as reads
-use Rattle.registers.proofs.LockCcFile.keep.Lts as lts
 
--- src/lib.rt:107:5
 returns : tie.Need-returns
 returns c = and-mask (c .args .byte) 2
 

@@ -1,10 +1,7 @@
 use lib.Bits.{and-mask}
 use Rattle.registers.proofs.LockCfg.keep.Statement.{statement}
 use Rattle.registers.proofs.LockCfg.keep.Tie as tie
-use Rattle.registers.proofs.LockCfg.keep.Reads as reads
-use Rattle.registers.proofs.LockCfg.keep.Lts as lts
 
--- src/lib.rt:153:5
 returns : tie.Need-returns
 returns c = and-mask (c .args .byte) 1
 

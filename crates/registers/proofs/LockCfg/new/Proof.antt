@@ -1,15 +1,10 @@
 use borrow.Author.Needs.{needs}
 use Rattle.registers.proofs.LockCfg.new.Statement.{statement}
 use Rattle.registers.proofs.LockCfg.new.Tie as tie
-use Rattle.registers.proofs.LockCfg.new.Reads as reads
-use Rattle.registers.proofs.LockCfg.new.Lts as lts
-use Rattle.registers.proofs.LockCfg.keep.Reads as keep-reads
 
--- src/lib.rt:163:19
 keep-requires : tie.Need-keep-requires
 keep-requires c κs = search needs
 
--- src/lib.rt:159:5
 returns : tie.Need-returns
 returns c = rw (c .keep .ensures)
 

@@ -2,49 +2,31 @@ use Rattle.registers.specs.Defined.{freshRegisters}
 use borrow.Author.Needs.{needs}
 use Rattle.registers.proofs.Registers.fresh.Statement.{statement}
 use Rattle.registers.proofs.Registers.fresh.Tie as tie
-use Rattle.registers.proofs.Registers.fresh.Reads as reads
-use Rattle.registers.proofs.Registers.fresh.Lts as lts
-use Rattle.registers.proofs.EndA.new.Reads as EndA-new-reads
-use Rattle.registers.proofs.I2cSs.new.Reads as I2cSs-new-reads
-use Rattle.registers.proofs.LockCcFile.new.Reads as LockCcFile-new-reads
-use Rattle.registers.proofs.LockCfg.new.Reads as LockCfg-new-reads
-use Rattle.registers.proofs.MbMode.new.Reads as MbMode-new-reads
-use Rattle.registers.proofs.RfMngt.new.Reads as RfMngt-new-reads
-use Rattle.registers.proofs.RfaSs.new.Reads as RfaSs-new-reads
 
--- src/lib.rt:202:13
 new-requires : tie.Need-new-requires
 new-requires c κs = search needs
 
--- src/lib.rt:203:13
 new-requires-2 : tie.Need-new-requires-2
 new-requires-2 c κs = search needs
 
--- src/lib.rt:205:19
 new-requires-3 : tie.Need-new-requires-3
 new-requires-3 c κs = search needs
 
--- src/lib.rt:206:22
 new-requires-4 : tie.Need-new-requires-4
 new-requires-4 c κs = search needs
 
--- src/lib.rt:218:20
 new-requires-5 : tie.Need-new-requires-5
 new-requires-5 c κs = search needs
 
--- src/lib.rt:219:21
 new-requires-6 : tie.Need-new-requires-6
 new-requires-6 c κs = search needs
 
--- src/lib.rt:220:19
 new-requires-7 : tie.Need-new-requires-7
 new-requires-7 c κs = search needs
 
--- src/lib.rt:221:21
 new-requires-8 : tie.Need-new-requires-8
 new-requires-8 c κs = search needs
 
--- src/lib.rt:199:5
 returns : tie.Need-returns
 unfolding freshRegisters
 returns c =

@@ -2,56 +2,37 @@ use Rattle.registers.specs.Defined.{definedOnly}
 use borrow.Author.Needs.{needs}
 use Rattle.registers.proofs.Registers.is_defined.Statement.{statement}
 use Rattle.registers.proofs.Registers.is_defined.Tie as tie
-use Rattle.registers.proofs.Registers.is_defined.Reads as reads
-use Rattle.registers.proofs.Registers.is_defined.Lts as lts
-use Rattle.registers.proofs.I2cSs.keep.Reads as I2cSs-keep-reads
-use Rattle.registers.proofs.LockCcFile.keep.Reads as LockCcFile-keep-reads
-use Rattle.registers.proofs.LockCfg.keep.Reads as LockCfg-keep-reads
-use Rattle.registers.proofs.MbMode.keep.Reads as MbMode-keep-reads
-use Rattle.registers.proofs.RfMngt.keep.Reads as RfMngt-keep-reads
-use Rattle.registers.proofs.RfaSs.keep.Reads as RfaSs-keep-reads
 
--- src/lib.rt:230:10
 keep-requires : tie.Need-keep-requires
 keep-requires c κs = search needs
 
--- src/lib.rt:231:16
 keep-requires-2 : tie.Need-keep-requires-2
 keep-requires-2 c κs = search needs
 
--- src/lib.rt:232:16
 keep-requires-3 : tie.Need-keep-requires-3
 keep-requires-3 c κs = search needs
 
--- src/lib.rt:233:16
 keep-requires-4 : tie.Need-keep-requires-4
 keep-requires-4 c κs = search needs
 
--- src/lib.rt:234:16
 keep-requires-5 : tie.Need-keep-requires-5
 keep-requires-5 c κs = search needs
 
--- src/lib.rt:235:16
 keep-requires-6 : tie.Need-keep-requires-6
 keep-requires-6 c κs = search needs
 
--- src/lib.rt:236:16
 keep-requires-7 : tie.Need-keep-requires-7
 keep-requires-7 c κs = search needs
 
--- src/lib.rt:237:16
 keep-requires-8 : tie.Need-keep-requires-8
 keep-requires-8 c κs = search needs
 
--- src/lib.rt:238:16
 keep-requires-9 : tie.Need-keep-requires-9
 keep-requires-9 c κs = search needs
 
--- src/lib.rt:239:16
 keep-requires-10 : tie.Need-keep-requires-10
 keep-requires-10 c κs = search needs
 
--- src/lib.rt:226:5
 returns : tie.Need-returns
 unfolding definedOnly
 returns c =

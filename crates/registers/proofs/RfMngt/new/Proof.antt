@@ -1,15 +1,10 @@
 use borrow.Author.Needs.{needs}
 use Rattle.registers.proofs.RfMngt.new.Statement.{statement}
 use Rattle.registers.proofs.RfMngt.new.Tie as tie
-use Rattle.registers.proofs.RfMngt.new.Reads as reads
-use Rattle.registers.proofs.RfMngt.new.Lts as lts
-use Rattle.registers.proofs.RfMngt.keep.Reads as keep-reads
 
--- src/lib.rt:25:19
 keep-requires : tie.Need-keep-requires
 keep-requires c κs = search needs
 
--- src/lib.rt:21:5
 returns : tie.Need-returns
 returns c = rw (c .keep .ensures)
 

@@ -3,30 +3,23 @@ use Rattle.parts.proofs.Picks.{picks}
 use Rattle.registers.specs.Map.{withArea}
 use Rattle.registers.proofs.Security.with.Statement.{statement}
 use Rattle.registers.proofs.Security.with.Tie as tie
-use Rattle.registers.proofs.Security.with.Reads as reads
-use Rattle.registers.proofs.Security.with.Lts as lts
 
--- src/lib.rt:178:5
 returns : tie.Need-returns
 unfolding withArea pick
 returns c = rw (c .match .keys1)
 
--- src/lib.rt:178:5
 returns-2 : tie.Need-returns-2
 unfolding withArea pick
 returns-2 c = rw (c .match .keys2)
 
--- src/lib.rt:178:5
 returns-3 : tie.Need-returns-3
 unfolding withArea pick
 returns-3 c = rw (c .match .keys3)
 
--- src/lib.rt:178:5
 returns-4 : tie.Need-returns-4
 unfolding withArea pick
 returns-4 c = rw (c .match .keys4)
 
--- src/lib.rt:178:5
 returns-5 : tie.Need-returns-5
 unfolding withArea
 returns-5 c = search (picks, c .match .rest .1, c .match .rest .0 .1, c .match .rest .0 .0 .1, c .match .rest .0 .0 .0) depth 20

@@ -3,25 +3,17 @@ use Rattle.tag.specs.Radio.{deselected}
 use borrow.Author.Needs.{needs}
 use Rattle.tag.proofs.Air.deselect.Statement.{statement}
 use Rattle.tag.proofs.Air.deselect.Tie as tie
-use Rattle.tag.proofs.Air.deselect.Reads as reads
-use Rattle.tag.proofs.Air.deselect.Lts as lts
-use Rattle.tag.proofs.Air.reset.Reads as reset-reads
-use Rattle.tag.proofs.is_selected.Reads as is-selected-reads
 
--- src/lib.rt:69:12
 is-selected-requires : tie.Need-is-selected-requires
 is-selected-requires c κs = search needs
 
--- src/lib.rt:70:13
 reset-requires : tie.Need-reset-requires
 reset-requires c κs = search needs
 
--- src/lib.rt:70:13
 returns : tie.Need-returns
 unfolding deselected
 returns c = rw (c .reset .ensures, ← c .before .before .is-selected .ensures) (search picks depth 20)
 
--- src/lib.rt:65:5
 returns-2 : tie.Need-returns-2
 unfolding deselected
 returns-2 c = rw (← c .before .is-selected .ensures) (search picks depth 20)

@@ -3,35 +3,25 @@ use Rattle.tag.specs.Radio.{fieldAt}
 use borrow.Author.Needs.{needs}
 use Rattle.tag.proofs.Air.field_at.Statement.{statement}
 use Rattle.tag.proofs.Air.field_at.Tie as tie
-use Rattle.tag.proofs.Air.field_at.Reads as reads
-use Rattle.tag.proofs.Air.field_at.Lts as lts
-use Rattle.tag.proofs.Air.field_off.Reads as field-off-reads
-use Rattle.tag.proofs.Air.field_on.Reads as field-on-reads
 
--- src/lib.rt:119:17
 returns : tie.Need-returns
 unfolding fieldAt
 returns c = search picks depth 20
 
--- src/lib.rt:121:13
 field-on-requires : tie.Need-field-on-requires
 field-on-requires c κs = search needs
 
--- src/lib.rt:121:13
 returns-2 : tie.Need-returns-2
 unfolding fieldAt
 returns-2 c = search picks depth 20
 
--- src/lib.rt:124:13
 field-off-requires : tie.Need-field-off-requires
 field-off-requires c κs = search needs
 
--- src/lib.rt:124:13
 returns-3 : tie.Need-returns-3
 unfolding fieldAt
 returns-3 c = search picks depth 20
 
--- src/lib.rt:114:5
 returns-4 : tie.Need-returns-4
 unfolding fieldAt
 returns-4 c = search picks depth 20

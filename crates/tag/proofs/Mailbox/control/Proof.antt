@@ -3,25 +3,17 @@ use Rattle.tag.specs.Mailbox.{controlled}
 use borrow.Author.Needs.{needs}
 use Rattle.tag.proofs.Mailbox.control.Statement.{statement}
 use Rattle.tag.proofs.Mailbox.control.Tie as tie
-use Rattle.tag.proofs.Mailbox.control.Reads as reads
-use Rattle.tag.proofs.Mailbox.control.Lts as lts
-use Rattle.tag.proofs.Mailbox.disable.Reads as disable-reads
-use Rattle.tag.proofs.Mailbox.enable.Reads as enable-reads
 
--- src/lib.rt:212:13
 enable-requires : tie.Need-enable-requires
 enable-requires c κs = search needs
 
--- src/lib.rt:212:13
 returns : tie.Need-returns
 unfolding controlled
 returns c = rw (c .enable .ensures) (search picks depth 20)
 
--- src/lib.rt:214:9
 disable-requires : tie.Need-disable-requires
 disable-requires c κs = search needs
 
--- src/lib.rt:208:5
 returns-2 : tie.Need-returns-2
 unfolding controlled
 returns-2 c = rw (c .disable .ensures) (search picks depth 20)

@@ -3,47 +3,34 @@ use Rattle.tag.specs.Mailbox.{controlByte}
 use borrow.Author.Needs.{needs}
 use Rattle.tag.proofs.Mailbox.control_byte.Statement.{statement}
 use Rattle.tag.proofs.Mailbox.control_byte.Tie as tie
-use Rattle.tag.proofs.Mailbox.control_byte.Reads as reads
-use Rattle.tag.proofs.Mailbox.control_byte.Lts as lts
-use Rattle.tag.proofs.weight.Reads as weight-reads
 
--- src/lib.rt:163:13
 weight-requires : tie.Need-weight-requires
 weight-requires c κs = search needs
 
--- src/lib.rt:164:13
 weight-requires-2 : tie.Need-weight-requires-2
 weight-requires-2 c κs = search needs
 
--- src/lib.rt:165:13
 weight-requires-3 : tie.Need-weight-requires-3
 weight-requires-3 c κs = search needs
 
--- src/lib.rt:166:13
 weight-requires-4 : tie.Need-weight-requires-4
 weight-requires-4 c κs = search needs
 
--- src/lib.rt:167:13
 weight-requires-5 : tie.Need-weight-requires-5
 weight-requires-5 c κs = search needs
 
--- src/lib.rt:168:9
 add-result : tie.Need-add-result
 add-result c = omega arith
 
--- src/lib.rt:168:9
 add-result-2 : tie.Need-add-result-2
 add-result-2 c = omega arith
 
--- src/lib.rt:168:9
 add-result-3 : tie.Need-add-result-3
 add-result-3 c = omega arith
 
--- src/lib.rt:168:9
 add-result-4 : tie.Need-add-result-4
 add-result-4 c = omega arith
 
--- src/lib.rt:160:5
 returns : tie.Need-returns
 unfolding controlByte
 returns c = rw (c .weight5 .ensures .0, c .before .weight4 .ensures .0, c .before .before .weight3 .ensures .0, c .before .before .before .weight2 .ensures .0, c .before .before .before .before .weight .ensures .0)

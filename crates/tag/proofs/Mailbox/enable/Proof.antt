@@ -2,15 +2,11 @@ use Rattle.parts.proofs.Picks.{picks}
 use Rattle.tag.specs.Mailbox.{enabled}
 use Rattle.tag.proofs.Mailbox.enable.Statement.{statement}
 use Rattle.tag.proofs.Mailbox.enable.Tie as tie
-use Rattle.tag.proofs.Mailbox.enable.Reads as reads
-use Rattle.tag.proofs.Mailbox.enable.Lts as lts
 
--- src/lib.rt:202:13
 returns : tie.Need-returns
 unfolding enabled
 returns c = search picks depth 20
 
--- src/lib.rt:196:5
 returns-2 : tie.Need-returns-2
 unfolding enabled
 returns-2 c = search picks depth 20

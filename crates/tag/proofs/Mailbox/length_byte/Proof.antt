@@ -5,23 +5,17 @@ use Rattle.tag.specs.Mailbox.{lengthByte}
 use borrow.Author.Needs.{needs}
 use Rattle.tag.proofs.Mailbox.length_byte.Statement.{statement}
 use Rattle.tag.proofs.Mailbox.length_byte.Tie as tie
-use Rattle.tag.proofs.Mailbox.length_byte.Reads as reads
-use Rattle.tag.proofs.Mailbox.length_byte.Lts as lts
 
--- src/lib.rt:174:13
 returns : tie.Need-returns
 unfolding lengthByte
 returns c = sym (ap (λ (n : ℕ). (n - 1) % 256) (c .if1 .taken))
 
--- src/lib.rt:176:11
 sub-result : tie.Need-sub-result
 sub-result c = search needs
 
--- src/lib.rt:176:9
 cast-result : tie.Need-cast-result
 cast-result c = search needs
 
--- src/lib.rt:170:5
 returns-2 : tie.Need-returns-2
 unfolding lengthByte
 returns-2 c = refl

@@ -2,10 +2,7 @@ use mathlib.Core.Path.{refl}
 use Rattle.tag.specs.Keys.{freshPasswords}
 use Rattle.tag.proofs.Passwords.fresh.Statement.{statement}
 use Rattle.tag.proofs.Passwords.fresh.Tie as tie
-use Rattle.tag.proofs.Passwords.fresh.Reads as reads
-use Rattle.tag.proofs.Passwords.fresh.Lts as lts
 
--- src/lib.rt:303:5
 returns : tie.Need-returns
 unfolding freshPasswords
 returns c = refl

@@ -2,25 +2,19 @@ use Rattle.parts.proofs.Picks.{picks}
 use Rattle.tag.specs.Keys.{radioPassword}
 use Rattle.tag.proofs.Passwords.radio.Statement.{statement}
 use Rattle.tag.proofs.Passwords.radio.Tie as tie
-use Rattle.tag.proofs.Passwords.radio.Reads as reads
-use Rattle.tag.proofs.Passwords.radio.Lts as lts
 
--- src/lib.rt:320:13
 returns : tie.Need-returns
 unfolding radioPassword
 returns c = search picks depth 20
 
--- src/lib.rt:323:13
 returns-2 : tie.Need-returns-2
 unfolding radioPassword
 returns-2 c = search picks depth 20
 
--- src/lib.rt:326:13
 returns-3 : tie.Need-returns-3
 unfolding radioPassword
 returns-3 c = search picks depth 20
 
--- src/lib.rt:316:5
 returns-4 : tie.Need-returns-4
 unfolding radioPassword
 returns-4 c = search picks depth 20

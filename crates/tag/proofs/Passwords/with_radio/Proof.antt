@@ -3,30 +3,23 @@ use Rattle.parts.proofs.Picks.{picks}
 use Rattle.tag.specs.Keys.{withRadioPassword}
 use Rattle.tag.proofs.Passwords.with_radio.Statement.{statement}
 use Rattle.tag.proofs.Passwords.with_radio.Tie as tie
-use Rattle.tag.proofs.Passwords.with_radio.Reads as reads
-use Rattle.tag.proofs.Passwords.with_radio.Lts as lts
 
--- src/lib.rt:331:5
 returns : tie.Need-returns
 unfolding withRadioPassword pick
 returns c = rw (c .match .keys1)
 
--- src/lib.rt:331:5
 returns-2 : tie.Need-returns-2
 unfolding withRadioPassword pick
 returns-2 c = rw (c .match .keys2)
 
--- src/lib.rt:331:5
 returns-3 : tie.Need-returns-3
 unfolding withRadioPassword pick
 returns-3 c = rw (c .match .keys3)
 
--- src/lib.rt:331:5
 returns-4 : tie.Need-returns-4
 unfolding withRadioPassword pick
 returns-4 c = rw (c .match .keys4)
 
--- src/lib.rt:331:5
 returns-5 : tie.Need-returns-5
 unfolding withRadioPassword
 returns-5 c = search (picks, c .match .rest .1, c .match .rest .0 .1, c .match .rest .0 .0 .1, c .match .rest .0 .0 .0) depth 20

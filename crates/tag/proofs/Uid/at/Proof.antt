@@ -1,15 +1,10 @@
 use borrow.Author.Needs.{needs}
 use Rattle.tag.proofs.Uid.at.Statement.{statement}
 use Rattle.tag.proofs.Uid.at.Tie as tie
-use Rattle.tag.proofs.Uid.at.Reads as reads
-use Rattle.tag.proofs.Uid.at.Lts as lts
-use Rattle.parts.proofs.eight_at.Reads as eight-at-reads
 
--- src/lib.rt:375:20
 eight-at-requires : tie.Need-eight-at-requires
 eight-at-requires c κs = search needs
 
--- src/lib.rt:371:5
 returns : tie.Need-returns
 returns c = rw (c .eight-at .ensures)
 

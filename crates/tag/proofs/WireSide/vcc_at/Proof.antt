@@ -3,35 +3,25 @@ use Rattle.tag.specs.Supply.{vccAt}
 use borrow.Author.Needs.{needs}
 use Rattle.tag.proofs.WireSide.vcc_at.Statement.{statement}
 use Rattle.tag.proofs.WireSide.vcc_at.Tie as tie
-use Rattle.tag.proofs.WireSide.vcc_at.Reads as reads
-use Rattle.tag.proofs.WireSide.vcc_at.Lts as lts
-use Rattle.tag.proofs.WireSide.vcc_off.Reads as vcc-off-reads
-use Rattle.tag.proofs.WireSide.vcc_on.Reads as vcc-on-reads
 
--- src/lib.rt:561:17
 returns : tie.Need-returns
 unfolding vccAt
 returns c = search picks depth 20
 
--- src/lib.rt:563:13
 vcc-on-requires : tie.Need-vcc-on-requires
 vcc-on-requires c κs = search needs
 
--- src/lib.rt:563:13
 returns-2 : tie.Need-returns-2
 unfolding vccAt
 returns-2 c = rw (c .vcc-on .ensures) (search picks depth 20)
 
--- src/lib.rt:566:13
 vcc-off-requires : tie.Need-vcc-off-requires
 vcc-off-requires c κs = search needs
 
--- src/lib.rt:566:13
 returns-3 : tie.Need-returns-3
 unfolding vccAt
 returns-3 c = rw (c .vcc-off .ensures) (search picks depth 20)
 
--- src/lib.rt:556:5
 returns-4 : tie.Need-returns-4
 unfolding vccAt
 returns-4 c = search picks depth 20

@@ -1,0 +1,80 @@
+use Rattle.rule.specs.Rule.{acked}
+use Rattle.parts.specs.Bytes.{bytesAt}
+use lib.ListN.{getD}
+use borrow.Author.Tests.{not-true}
+use mathlib.Core.Bool.{true, false}
+use mathlib.Core.Path.{_≡_, refl, sym, ap, _∙_}
+use Prim.Native.Nat.{ℕ, suc, _+_, _≤_, _-_}
+use native.Mathlib.Omega.{arith}
+use native.Mathlib.Numerals.{add-one}
+use borrow.Author.Needs.{needs}
+use borrow.Author.Tests.{not-false}
+use Rattle.rule.specs.PageRange.{pageAcked}
+use Rattle.rule.proofs.Page.{stays, one-more, none-more}
+use Rattle.rule.proofs.page_acked.Statement.{statement}
+use Rattle.rule.proofs.page_acked.Tie as tie
+
+abbrev Inv-loop : tie.InvT-loop
+Inv-loop s c session m f k i₀ i = (pageAcked s c session f m i ≡ true) × (i ≤ k)
+
+abbrev μ-loop : tie.MeasureT-loop
+μ-loop s c session m f k i₀ i = k - i
+
+loop-holds : tie.Need-loop-holds Inv-loop μ-loop
+unfolding pageAcked
+loop-holds c = (refl, omega arith)
+
+cast-byte-in : tie.Need-cast-byte-in Inv-loop μ-loop
+cast-byte-in c = search needs
+
+byte-in-requires : tie.Need-byte-in-requires Inv-loop μ-loop
+byte-in-requires c κs = search needs
+
+acked-requires : tie.Need-acked-requires Inv-loop μ-loop
+acked-requires c κs = search needs
+
+returns : tie.Need-returns Inv-loop μ-loop
+returns c =
+    let a = c .before .before .before .before .before .before .args in
+    let l = c .before .before .before .before .loop in
+    let x : c .before .before .byte-in .result ≡ getD (a .m .now) (768 + l .i) 0 = c .before .before .byte-in .ensures in
+    let e : acked (a .s) (a .c) (a .session) (a .f) (l .i) (bytesAt (a .m .now) 768 (l .i)) (getD (a .m .now) (768 + l .i) 0) ≡ false = ap (acked (a .s) (a .c) (a .session) (a .f) (l .i) (bytesAt (a .m .now) 768 (l .i))) (sym x) ∙ sym (c .before .acked .ensures) ∙ not-true _ (c .if1 .taken) in
+    let n : suc (l .i) + (a .k - suc (l .i)) ≡ a .k = omega arith in
+    sym (ap (pageAcked (a .s) (a .c) (a .session) (a .f) (a .m .now)) (sym n) ∙ stays (a .s) (a .c) (a .session) (a .f) (a .m .now) (suc (l .i)) (a .k - suc (l .i)) (none-more (a .s) (a .c) (a .session) (a .f) (a .m .now) (l .i) e))
+
+add-i : tie.Need-add-i Inv-loop μ-loop
+add-i c = omega arith
+
+loop-less : tie.Need-loop-less Inv-loop μ-loop
+loop-less c = omega arith
+
+loop-again : tie.Need-loop-again Inv-loop μ-loop
+loop-again c =
+    let a = c .before .before .before .before .before .before .args in
+    let l = c .before .before .before .before .loop in
+    let x : c .before .before .byte-in .result ≡ getD (a .m .now) (768 + l .i) 0 = c .before .before .byte-in .ensures in
+    let e : acked (a .s) (a .c) (a .session) (a .f) (l .i) (bytesAt (a .m .now) 768 (l .i)) (getD (a .m .now) (768 + l .i) 0) ≡ true = ap (acked (a .s) (a .c) (a .session) (a .f) (l .i) (bytesAt (a .m .now) 768 (l .i))) (sym x) ∙ sym (c .before .acked .ensures) ∙ not-false _ (c .if1 .left) in
+    (ap (pageAcked (a .s) (a .c) (a .session) (a .f) (a .m .now)) (add-one (l .i)) ∙ one-more (a .s) (a .c) (a .session) (a .f) (a .m .now) (l .i) (l .inv .0) e, omega arith)
+
+returns-2 : tie.Need-returns-2 Inv-loop μ-loop
+returns-2 c =
+    let a = c .before .before .before .args in
+    let l = c .before .loop in
+    let e : l .i ≡ a .k = omega arith in
+    sym (ap (pageAcked (a .s) (a .c) (a .session) (a .f) (a .m .now)) (sym e) ∙ l .inv .0)
+
+pub page-acked-spec : {M : Type 1} → statement M
+page-acked-spec =
+    tie.close
+    (tie.spec
+    Inv-loop
+    μ-loop
+    loop-holds
+    cast-byte-in
+    byte-in-requires
+    acked-requires
+    returns
+    add-i
+    loop-less
+    loop-again
+    returns-2)

@@ -1,0 +1,32 @@
+-- "page bytes 0 to 256, over 0 only in a write leg past its address, each one that would be Acked there"
+use mathlib.Core.Bool.{Bool, true, _&&_}
+use mathlib.Core.List.{List}
+use Prim.Native.Nat.{ℕ, zero, suc, _+_}
+use lib.ListN.{getD}
+use Rattle.parts.specs.Bytes.{bytesAt}
+use Rattle.tag.specs.declared.Space.{Space}
+use Rattle.tag.specs.declared.Core.{Core}
+use Rattle.tag.specs.declared.WireSide.{WireSide}
+use Rattle.tag.specs.declared.Bus.{Bus}
+use Rattle.tag.specs.declared.Bus.the-variants.{Idle, Started, ReadLeg, WriteLeg, LowAddress, DataLeg}
+use Rattle.tag.specs.Layout.{pageAt}
+use Rattle.rule.specs.Select.{firstOf}
+use Rattle.rule.specs.Rule.{acked}
+
+-- the first k bytes of the page
+abbrev pub page : ℕ → List ℕ → List ℕ
+page k m = bytesAt m pageAt k
+
+-- each of the page's k bytes would be Acked at its place
+unfoldable pub pageAcked : Space → Core → Bool → ℕ → List ℕ → ℕ → Bool
+pageAcked s c session f m zero = true
+pageAcked s c session f m (suc k) = pageAcked s c session f m k && acked s c session f k (page k m) (getD m (pageAt + k) 0)
+
+-- of a bus with counter c
+unfoldable pub busInRange : Bus → ℕ → Core → Bool → List ℕ → Bool
+busInRange Idle counter c session m = true
+busInRange (Started transfer) counter c session m = true
+busInRange (ReadLeg space over last) counter c session m = true
+busInRange (WriteLeg space) counter c session m = true
+busInRange (LowAddress space high) counter c session m = true
+busInRange (DataLeg space count spoiled) counter c session m = pageAcked space c session (firstOf counter count) m count

@@ -1,4 +1,4 @@
-// The rules of the wire on one byte and on one leg: selects, Acks, fetched bytes, and what a leg's end does.
+// The rules of the wire on a byte sent: selects, addresses, Acks; and the range on page bytes.
 ghost use mathlib.Core.Path.{_≡_};
 ghost use Prim.Native.Nat.{_+_};
 ghost use Rattle.registers.specs.Map.{written};

@@ -1,0 +1,101 @@
+-- What a leg does when it ends.
+use mathlib.Core.Bool.{Bool, true, _&&_}
+use mathlib.Core.List.{List}
+use Prim.Native.Nat.{ℕ}
+use lib.Dec.{ltb, eqb}
+use lib.ListN.{length, getD}
+use lib.Seq.{sets}
+use Rattle.parts.specs.Pick.{pick}
+use Rattle.registers.specs.Defined.{rfMngt}
+use Rattle.registers.specs.Map.{withDynamic}
+use Rattle.tag.specs.declared.Space.{Space}
+use Rattle.tag.specs.declared.Space.the-variants.{User, System}
+use Rattle.tag.specs.declared.Host.{Host}
+use Rattle.tag.specs.declared.Password.{Password}
+use Rattle.tag.specs.declared.Core.{Core}
+use Rattle.tag.specs.declared.WireSide.{WireSide}
+use Rattle.tag.specs.Layout.{userBytes, mailboxAt}
+use Rattle.tag.specs.Mailbox.{controlled, hostPut, hostRead}
+use Rattle.tag.specs.Keys.{passwordAt, samePassword, withI2cPassword}
+use Rattle.tag.specs.Supply.{withRegisters, withMailbox, withPasswords}
+use Rattle.rule.specs.Rule.{writtenAll}
+
+-- the wire side and the memory
+pub record Left : Type 0 where
+  pub side : WireSide
+  pub memory : List ℕ
+
+abbrev pub left : WireSide → List ℕ → Left
+left w m = record { side = w; memory = m }
+
+abbrev pub withCore : Core → WireSide → WireSide
+withCore c w = record { host = w .host; core = c }
+
+abbrev pub withHost : Host → WireSide → WireSide
+withHost h w = record { host = h; core = w .core }
+
+abbrev pub withSession : Bool → WireSide → WireSide
+withSession b w = withHost (record { vcc = w .host .vcc; session = b; programming = w .host .programming; counter = w .host .counter; bus = w .host .bus }) w
+
+-- "starts programming"
+abbrev pub programming : WireSide → WireSide
+programming w = withHost (record { vcc = w .host .vcc; session = w .host .session; programming = true; counter = w .host .counter; bus = w .host .bus }) w
+
+-- user space: memory; RF_MNGT_Dyn; MB_CTRL_Dyn, "using bit 0 only"; the mailbox, a put by the host
+unfoldable pub userWritten : WireSide → List ℕ → ℕ → List ℕ → Left
+userWritten w m f bs =
+    pick (ltb f userBytes) (left (programming w) (sets m f bs))
+    (pick (eqb f 0x2003) (left (withCore (withRegisters (withDynamic (rfMngt (getD bs 0 0)) (w .core .registers)) (w .core)) w) m)
+    (pick (eqb f 0x2006) (left (withCore (withMailbox (controlled (getD bs 0 0) (w .core .registers .mode) (w .host .vcc) (w .core .mailbox)) (w .core)) w) m)
+    (left (withCore (withMailbox (hostPut (length bs) (w .core .mailbox)) (w .core)) w) (sets m mailboxAt bs))))
+
+-- "Code 09h presents: both halves equal to the I2C password open the session, else it closes."
+-- "Code 07h writes: .. unequal halves write nothing and start no programming." "Fewer than 17: nothing."
+-- (No other code comes here: it is NoAcked, and a spoiled leg has no effect.)
+unfoldable pub passwordWritten : WireSide → List ℕ → List ℕ → Left
+passwordWritten w m bs =
+    let first = passwordAt bs 0 in
+    let second = passwordAt bs 9 in
+    pick (ltb (length bs) 17) (left w m)
+    (pick (eqb (getD bs 8 0) 0x09) (left (withSession (samePassword (w .core .passwords .i2c) first && samePassword (w .core .passwords .i2c) second) w) m)
+    (pick (samePassword first second) (left (programming (withCore (withPasswords (withI2cPassword first (w .core .passwords)) (w .core)) w)) m)
+    (left w m)))
+
+-- system space: the password leg, or registers
+unfoldable pub systemWritten : WireSide → List ℕ → ℕ → List ℕ → Left
+systemWritten w m f bs =
+    pick (eqb f 0x0900) (passwordWritten w m bs)
+    (left (programming (withCore (withRegisters (writtenAll (w .core .registers) f bs) (w .core)) w)) m)
+
+-- the bytes bs, one or more, all Acked, of a write leg in a space from address f
+unfoldable pub legWritten : Space → WireSide → List ℕ → ℕ → List ℕ → Left
+legWritten User w m f bs = userWritten w m f bs
+legWritten System w m f bs = systemWritten w m f bs
+
+-- how a leg ends
+pub data End : Type 0 where
+  stopped : End
+  started : End
+  unpowered : End
+
+-- what a leg has due at its end: nothing; RF_PUT cleared; or its bytes, from an address of a space, written
+pub data Due : Type 0 where
+  none : Due
+  clears : Due
+  writes : Space → ℕ → List ℕ → Due
+
+-- "Fetching the last byte of an RF message clears RF_PUT at the leg's end"
+abbrev pub lastFetched : WireSide → WireSide
+lastFetched w = withCore (withMailbox (hostRead (w .core .mailbox)) (w .core)) w
+
+-- "All of a leg's writes happen at the Stop; a Start or VCC off instead drops them (house)."
+unfoldable pub settle : End → Due → WireSide → List ℕ → Left
+settle stopped none w m = left w m
+settle stopped clears w m = left (lastFetched w) m
+settle stopped (writes s f bs) w m = legWritten s w m f bs
+settle started none w m = left w m
+settle started clears w m = left (lastFetched w) m
+settle started (writes s f bs) w m = left w m
+settle unpowered none w m = left w m
+settle unpowered clears w m = left w m
+settle unpowered (writes s f bs) w m = left w m

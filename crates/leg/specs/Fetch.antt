@@ -1,0 +1,50 @@
+-- The byte that a fetch gives at address a.
+use mathlib.Core.Bool.{Bool, false, _&&_}
+use mathlib.Core.List.{List}
+use Prim.Native.Nat.{ℕ, _+_, _-_, _/_}
+use lib.Dec.{leb, ltb, eqb}
+use lib.ListN.{getD}
+use Rattle.parts.specs.Pick.{pick}
+use Rattle.registers.specs.Map.{registerAt}
+use Rattle.areas.specs.declared.Side.the-variants.{Wire}
+use Rattle.areas.specs.Rights.{mayRead}
+use Rattle.tag.specs.declared.Space.{Space}
+use Rattle.tag.specs.declared.Space.the-variants.{User, System}
+use Rattle.tag.specs.declared.Mailbox.{Mailbox}
+use Rattle.tag.specs.declared.Core.{Core}
+use Rattle.tag.specs.declared.Uid.{Uid}
+use Rattle.tag.specs.Layout.{userBytes, mailboxAt}
+use Rattle.tag.specs.Mailbox.{controlByte, lengthByte}
+use Rattle.tag.specs.Keys.{uidByte}
+
+-- "FFh where .. read-protected"
+unfoldable pub memoryByte : Core → Bool → List ℕ → ℕ → ℕ
+memoryByte c session m a = pick (mayRead (c .registers) (Wire session) (a / 4)) (getD m a 0) 0xFF
+
+-- "FFh .. in the mailbox past the length or with MB_EN 0"
+unfoldable pub mailboxByte : Mailbox → List ℕ → ℕ → ℕ
+mailboxByte b m a = pick (b .enabled && ltb (a - 0x2008) (b .length)) (getD m (mailboxAt + (a - 0x2008)) 0) 0xFF
+
+-- "user space: 0000h-01FFh memory; 2003h RF_MNGT_Dyn; 2004h I2C_SSO_Dyn; 2006h MB_CTRL_Dyn; 2007h MB_LEN_Dyn; 2008h-2107h mailbox"
+unfoldable pub userByte : Core → Bool → List ℕ → ℕ → ℕ
+userByte c session m a =
+    pick (ltb a userBytes) (memoryByte c session m a)
+    (pick (eqb a 0x2003) (c .registers .dynamic .bits)
+    (pick (eqb a 0x2004) (pick session 1 0)
+    (pick (eqb a 0x2006) (controlByte (c .mailbox))
+    (pick (eqb a 0x2007) (lengthByte (c .mailbox))
+    (pick (leb 0x2008 a && leb a 0x2107) (mailboxByte (c .mailbox) m a)
+    0xFF)))))
+
+-- "0018h-001Fh UID (read only)"; the other registers, and FFh where unmapped and at 0900h-0907h
+unfoldable pub systemByte : Core → Uid → ℕ → ℕ
+systemByte c u a = pick (leb 0x0018 a && leb a 0x001F) (uidByte u (a - 0x0018)) (registerAt (c .registers) a)
+
+unfoldable pub fetched : Space → Core → Bool → Uid → List ℕ → ℕ → ℕ
+fetched User c session u m a = userByte c session m a
+fetched System c session u m a = systemByte c u a
+
+-- a is the last byte of an RF message
+unfoldable pub isLast : Space → Mailbox → ℕ → Bool
+isLast User b a = b .rf .current && eqb (a + 1) (0x2008 + b .length)
+isLast System b a = false

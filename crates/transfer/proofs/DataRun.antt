@@ -1,0 +1,105 @@
+-- The data of a write leg. Assumes nothing.
+use mathlib.Core.Path.{_≡_, refl, sym, ap, _∙_}
+use mathlib.Core.Bool.{Bool, true, false}
+use mathlib.Core.List.{List, [], _∷_, _++_}
+use Prim.Native.Nat.{ℕ, suc, _+_, _<_}
+use native.Mathlib.Omega.{arith}
+use native.Mathlib.Nat.{add-zero}
+use lib.Dec.{ltb, leb·suc-suc}
+use borrow.Author.Tests.{lt-ltb}
+use lib.ListN.{length, take, set, length-set, length-append}
+use lib.Seq.{sets}
+use Rattle.parts.specs.Pick.{pick}
+use Rattle.parts.proofs.Picks.{pick-true, pick-false}
+use Rattle.tag.specs.declared.Space.{Space}
+use Rattle.tag.specs.declared.Bus.the-variants.{DataLeg}
+use Rattle.tag.specs.declared.WireSide.{WireSide}
+use Rattle.tag.specs.declared.Uid.{Uid}
+use Rattle.tag.specs.Bus.{nextAddress}
+use Rattle.rule.specs.Select.{firstOf}
+use Rattle.rule.specs.Rule.{acked}
+use Rattle.rule.specs.PageRange.{page}
+use Rattle.wire.specs.declared.Answer.the-variants.{Ack, NoAck}
+use Rattle.wire.specs.Signal.{says, sideLine, dataOf, sendAt, fetchAt, signalOf}
+use Rattle.transfer.specs.Legs.{Send, Fetch, wireSignal, Move, send, fetch}
+use Rattle.transfer.specs.Whole.{Ran, ran, before, bytesSent, replies, onward, accepted}
+use Rattle.transfer.specs.Claim.{runOf}
+use Rattle.wire.proofs.Page.{first-next, acked-room}
+use Rattle.transfer.proofs.Page.{page-set}
+use Rattle.transfer.proofs.Run.{stepOf, signals, first-then, still}
+
+module _ (w : WireSide) (u : Uid) (s : Space) (f : ℕ) where
+  -- byte x is Acked, after the bytes e
+  abbrev pub takes : ℕ → List ℕ → ℕ → Bool
+  takes k e x = acked s (w .core) (w .host .session) f k e x
+
+  -- a leg with k bytes on the page, which are e
+  pub record Has (m : List ℕ) (c k : ℕ) (e : List ℕ) : Type 0 where
+    pub bytes : length m ≡ 1024
+    pub count : length e ≡ k
+    pub page-is : page k m ≡ e
+    pub first : firstOf c k ≡ f
+
+  -- a byte that is judged
+  module _ (m : List ℕ) (c k : ℕ) (e : List ℕ) (x : ℕ) (g : Has m c k e) where
+    judged : (b : Bool) → takes k e x ≡ b → acked s (w .core) (w .host .session) (firstOf c k) k (page k m) x ≡ b
+    judged b h = rw (g .page-is, g .first) h
+
+    send-data : stepOf (sideLine c (DataLeg s k false) w) u m (Send x) ≡ dataOf s k (sideLine c (DataLeg s k false) w) m x
+    unfolding signalOf wireSignal sendAt pick
+    send-data = refl
+
+    taken : takes k e x ≡ true
+        → stepOf (sideLine c (DataLeg s k false) w) u m (Send x) ≡ says Ack (sideLine (nextAddress c) (DataLeg s (suc k) false) w) (set m (768 + k) x)
+    unfolding dataOf
+    taken h = send-data ∙ sym (pick-true _ _ _ _ (judged true h) refl)
+
+    spoils : takes k e x ≡ false
+        → stepOf (sideLine c (DataLeg s k false) w) u m (Send x) ≡ says NoAck (sideLine c (DataLeg s k true) w) m
+    unfolding dataOf
+    spoils h = send-data ∙ sym (pick-false _ _ _ _ (judged false h) refl)
+
+    has-more : k < 256 → Has (set m (768 + k) x) (nextAddress c) (suc k) (e ++ x ∷ [])
+    has-more r = record {
+      bytes = length-set m (768 + k) x ∙ g .bytes;
+      count = omega (arith, length-append e (x ∷ []), g .count);
+      page-is = page-set m k x (g .bytes) r ∙ ap (λ (e : List ℕ). e ++ x ∷ []) (g .page-is);
+      first = first-next c k r ∙ g .first;
+    }
+
+  -- j of the bytes in ms are Acked, with k on the page
+  abbrev pub dataRan : List ℕ → ℕ → ℕ → List Move → ℕ → Ran
+  dataRan m c k ms j =
+      ran (replies j [] ms) (sideLine (onward j c) (DataLeg s (k + j) (ltb j (length (bytesSent ms)))) w) (sets m (768 + k) (take j (bytesSent ms)))
+
+  one-more : (m : List ℕ) (c k x : ℕ) (ms : List Move) (j : ℕ)
+      → before (Ack ∷ []) (dataRan (set m (768 + k) x) (nextAddress c) (suc k) ms j) ≡ dataRan m c k (send x ∷ ms) (suc j)
+  unfolding bytesSent replies onward
+  one-more m c k x ms j =
+      let a : suc k + j ≡ k + suc j = omega arith in
+      let b : 768 + suc k ≡ suc (768 + k) = omega arith in
+      rw (a, b, leb·suc-suc (suc j) (length (bytesSent ms)))
+
+  abbrev pub Law : List Move → Type 0
+  Law ms = (m : List ℕ) (c k : ℕ) (e : List ℕ) → Has m c k e
+      → runOf (sideLine c (DataLeg s k false) w) u m (signals ms) ≡ dataRan m c k ms (accepted s w f e (bytesSent ms))
+
+  data-more : (x : ℕ) (ms : List Move) → Law ms → (m : List ℕ) (c k : ℕ) (e : List ℕ) → Has m c k e
+      → (b : Bool) → takes k e x ≡ b
+      → runOf (sideLine c (DataLeg s k false) w) u m (signals (send x ∷ ms))
+      ≡ dataRan m c k (send x ∷ ms) (pick b (suc (accepted s w f (e ++ x ∷ []) (bytesSent ms))) 0)
+  unfolding signals bytesSent pick replies onward signalOf wireSignal sendAt fetchAt
+  data-more x ms ih m c k e g true q =
+      first-then _ u m (Send x) (signals ms) _ _ (taken m c k e x g q)
+      (ih (set m (768 + k) x) (nextAddress c) (suc k) (e ++ x ∷ []) (has-more m c k e x g (acked-room s (w .core) (w .host .session) f k e x q)))
+      ∙ one-more m c k x ms _
+  data-more x ms ih m c k e g false q =
+      first-then _ u m (Send x) (signals ms) _ _ (spoils m c k e x g q) (still _ u m (λ x. refl) (λ a. refl) ms)
+      ∙ rw (add-zero, lt-ltb 0 (suc (length (bytesSent ms))) (omega arith))
+
+  pub data-run : (ms : List Move) → Law ms
+  unfolding runOf signals bytesSent accepted replies onward signalOf wireSignal fetchAt
+  data-run [] m c k e g = rw add-zero
+  data-run (send x ∷ ms) m c k e g = data-more x ms (data-run ms) m c k e g (takes k e x) refl ∙ rw (g .count)
+  data-run (fetch a ∷ ms) m c k e g =
+      first-then (sideLine c (DataLeg s k false) w) u m (Fetch a) (signals ms) _ _ refl (data-run ms m c k e g)

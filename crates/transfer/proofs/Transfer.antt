@@ -1,0 +1,173 @@
+-- The whole transfer is what its signals give one by one. Assumes nothing.
+use mathlib.Core.Path.{_≡_, refl, sym, ap, _∙_}
+use mathlib.Core.Bool.{Bool, true, false, false≢true}
+use mathlib.Core.List.{List, [], _∷_, _++_, append-nil, append-assoc}
+use Prim.Native.Nat.{ℕ}
+use lib.ListN.{length}
+use lib.Seq.{length-sets}
+use Rattle.parts.specs.Pick.{pick}
+use Rattle.parts.proofs.Picks.{pick-true, pick-false}
+use Rattle.tag.specs.declared.Bus.{Bus}
+use Rattle.tag.specs.declared.Bus.the-variants.{Idle, Started}
+use Rattle.tag.specs.declared.Host.{Host}
+use Rattle.tag.specs.declared.WireSide.{WireSide}
+use Rattle.tag.specs.declared.Uid.{Uid}
+use Rattle.tag.specs.Bus.{isOpen}
+use Rattle.tag.specs.Supply.{vccOff, vccAt}
+use Rattle.rule.specs.declared.Choice.{Choice}
+use Rattle.rule.specs.declared.Choice.the-variants.{Refused, Reading, Writing}
+use Rattle.rule.specs.Select.{selectOf, choose}
+use Rattle.leg.specs.Effect.{Left, left, stopped, started, unpowered, Due, none, clears, writes, settle}
+use Rattle.wire.specs.declared.Answer.the-variants.{Nothing, NoAck}
+use Rattle.wire.specs.Signal.{Ended, says, sideBus, dueOf, startAt, startOf, stopAt, selectBy, sendAt, fetchAt, signalOf}
+use Rattle.transfer.specs.Legs.{Noted, Start, Send, Fetch, Stop, VccOff, wireSignal, isRefused, Move, send, fetch, Finish, atStop, atVccOff, atRefusal, Legs, leg, last, parse}
+use Rattle.transfer.specs.Whole.{Ran, ran, before, Leg, selected, legOf, counting, filled, lastLeg, legsOf, transferOf}
+use Rattle.transfer.specs.Claim.{runOf, Ready, Demand2}
+use Rattle.transfer.proofs.Run.{stepOf, signals, run-then, first-then, still}
+use Rattle.transfer.proofs.LegRun.{Goes, leg-goes}
+use Rattle.transfer.proofs.Parse.{endSignals, render, refuses, done, parted}
+
+-- ---- the end of a leg, by what is due
+start-bus : (d : Due) (b : Bus) (w : WireSide) (m : List ℕ)
+    → settle started d (sideBus b w) m ≡ left (sideBus b (settle started d w m .side)) (settle started d w m .memory)
+unfolding settle
+start-bus none b w m = refl
+start-bus clears b w m = refl
+start-bus (writes s f xs) b w m = refl
+
+start-host : (d : Due) (w : WireSide) (m : List ℕ) → settle started d w m .side .host ≡ w .host
+unfolding settle
+start-host none w m = refl
+start-host clears w m = refl
+start-host (writes s f xs) w m = refl
+
+start-memory : (d : Due) (w : WireSide) (m : List ℕ) → settle started d w m .memory ≡ m
+unfolding settle
+start-memory none w m = refl
+start-memory clears w m = refl
+start-memory (writes s f xs) w m = refl
+
+off-any : (d : Due) (b : Bus) (w : WireSide) (m : List ℕ)
+    → left (vccOff (sideBus b w)) m ≡ left (vccOff (settle unpowered d w m .side)) (settle unpowered d w m .memory)
+unfolding settle
+off-any none b w m = refl
+off-any clears b w m = refl
+off-any (writes s f xs) b w m = refl
+
+-- what a signal gives that answers nothing
+abbrev pub quiet : Left → Ended
+quiet r = says Nothing (r .side) (r .memory)
+
+starts : (b : Bus) (w : WireSide) (u : Uid) (m : List ℕ) (d : Due) → w .host .vcc ≡ true → dueOf b (w .host .counter) m ≡ d
+    → stepOf (sideBus b w) u m Start ≡ says Nothing (sideBus (Started (isOpen b)) (settle started d w m .side)) (settle started d w m .memory)
+unfolding signalOf wireSignal startOf startAt
+starts b w u m d v h =
+    sym (pick-true _ _ _ (w .host .vcc) v
+    (sym (ap (λ (d : Due). quiet (settle started d (sideBus (Started (isOpen b)) w) m)) h ∙ ap quiet (start-bus d (Started (isOpen b)) w m))))
+
+stops : (b : Bus) (w : WireSide) (u : Uid) (m : List ℕ) (d : Due) → dueOf b (w .host .counter) m ≡ d
+    → stepOf (sideBus b w) u m Stop ≡ quiet (settle stopped d (sideBus Idle w) m)
+unfolding signalOf wireSignal stopAt
+stops b w u m d h = ap (λ (d : Due). quiet (settle stopped d (sideBus Idle w) m)) h
+
+off-at : (w : WireSide) → w .host .vcc ≡ true → vccAt false w ≡ vccOff w
+unfolding vccAt
+off-at w v = sym (pick-false _ _ _ false refl (pick-true _ _ _ (w .host .vcc) v refl))
+
+offs : (b : Bus) (w : WireSide) (u : Uid) (m : List ℕ) (d : Due) → w .host .vcc ≡ true
+    → stepOf (sideBus b w) u m VccOff ≡ says Nothing (vccOff (settle unpowered d w m .side)) (settle unpowered d w m .memory)
+unfolding signalOf wireSignal
+offs b w u m d v = ap (λ (x : WireSide). says Nothing x m) (off-at (sideBus b w) v) ∙ ap quiet (off-any d b w m)
+
+-- ---- a leg whose select is not Acked
+refused-by : (c : Choice) → isRefused c ≡ true → c ≡ Refused
+unfolding isRefused
+refused-by Refused h = refl
+refused-by (Reading s) h = absurd (false≢true h)
+refused-by (Writing s) h = absurd (false≢true h)
+
+choose-ready : (x : ℕ) (v p : Bool) → v ≡ true → p ≡ false → choose v p x ≡ selectOf x
+unfolding choose pick
+choose-ready x v p h k = rw (h, k)
+
+refused-run : (w : WireSide) (u : Uid) (m : List ℕ) (o : Bool) (x : ℕ) (ms : List Move) (c : Choice)
+    → choose (w .host .vcc) (w .host .programming) x ≡ c → c ≡ Refused
+    → runOf (sideBus (Started o) w) u m (Send x ∷ signals ms) ≡ ran (selected c w u m ms .answers) (sideBus Idle w) m
+unfolding selected selectBy signalOf wireSignal sendAt fetchAt
+refused-run w u m o x ms c q h =
+    first-then (sideBus (Started o) w) u m (Send x) (signals ms) (says NoAck (sideBus Idle w) m) _
+    (ap (λ (c : Choice). selectBy c (sideBus (Started o) w) m) (q ∙ h)) (still (sideBus Idle w) u m (λ x. refl) (λ a. refl) ms)
+    ∙ ap (λ (c : Choice). ran (selected c w u m ms .answers) (sideBus Idle w) m) (sym h)
+
+refused-leg : (w : WireSide) (u : Uid) (m : List ℕ) (o : Bool) → Ready w m → (ms : List Move) → refuses true ms ≡ true
+    → runOf (sideBus (Started o) w) u m (signals ms) ≡ ran (legOf w u m ms .answers) (sideBus Idle w) m
+unfolding refuses legOf signals signalOf wireSignal fetchAt
+refused-leg w u m o y [] h = absurd (false≢true h)
+refused-leg w u m o y (fetch a ∷ ms) h = first-then (sideBus (Started o) w) u m (Fetch a) (signals ms) _ _ refl (refused-leg w u m o y ms h)
+refused-leg w u m o y (send x ∷ ms) h =
+    refused-run w u m o x ms (choose (w .host .vcc) (w .host .programming) x) refl
+    (choose-ready x (w .host .vcc) (w .host .programming) (y .vcc) (y .still) ∙ refused-by _ h)
+
+-- ---- the last leg
+last-stop : (w : WireSide) (u : Uid) (m : List ℕ) (e : Leg) (n : List Noted) (v : WireSide) → Goes w m (runOf v u m n) e
+    → runOf v u m (n ++ Stop ∷ []) ≡ lastLeg atStop e w m
+unfolding lastLeg runOf
+last-stop w u m e n v g =
+    run-then n (Stop ∷ []) v u m _ (g .run)
+    ∙ ap (λ (x : Ended). ran (e .answers ++ x .answer ∷ []) (x .side) (x .memory)) (stops (g .bus) (counting e w) u (filled e m) (e .due) (g .due))
+
+last-off : (w : WireSide) (u : Uid) (m : List ℕ) (e : Leg) (n : List Noted) (v : WireSide) → w .host .vcc ≡ true → Goes w m (runOf v u m n) e
+    → runOf v u m (n ++ VccOff ∷ []) ≡ lastLeg atVccOff e w m
+unfolding lastLeg runOf
+last-off w u m e n v h g =
+    run-then n (VccOff ∷ []) v u m _ (g .run)
+    ∙ ap (λ (x : Ended). ran (e .answers ++ x .answer ∷ []) (x .side) (x .memory)) (offs (g .bus) (counting e w) u (filled e m) (e .due) h)
+
+last-refused : (w : WireSide) (u : Uid) (m : List ℕ) (o : Bool) → Ready w m → (ms : List Move) → refuses true ms ≡ true
+    → runOf (sideBus (Started o) w) u m (signals ms ++ []) ≡ lastLeg atRefusal (legOf w u m ms) w m
+unfolding lastLeg
+last-refused w u m o y ms h = ap (runOf (sideBus (Started o) w) u m) (append-nil (signals ms)) ∙ refused-leg w u m o y ms h
+
+last-run : (w : WireSide) (u : Uid) (m : List ℕ) (o : Bool) → Ready w m → (ms : List Move) (end : Finish) → done true (last ms end) ≡ true
+    → runOf (sideBus (Started o) w) u m (signals ms ++ endSignals end) ≡ lastLeg end (legOf w u m ms) w m
+unfolding done endSignals
+last-run w u m o y ms atStop h = last-stop w u m (legOf w u m ms) (signals ms) (sideBus (Started o) w) (leg-goes w u m (y .bytes) o ms)
+last-run w u m o y ms atVccOff h = last-off w u m (legOf w u m ms) (signals ms) (sideBus (Started o) w) (y .vcc) (leg-goes w u m (y .bytes) o ms)
+last-run w u m o y ms atRefusal h = last-refused w u m o y ms h
+
+-- ---- a leg, a Start and the rest
+start-ready : (w : WireSide) (m : List ℕ) (e : Leg) → Ready w m
+    → Ready (settle started (e .due) (counting e w) (filled e m) .side) (settle started (e .due) (counting e w) (filled e m) .memory)
+start-ready w m e y = record {
+  vcc = ap (λ (h : Host). h .vcc) (start-host (e .due) (counting e w) (filled e m)) ∙ y .vcc;
+  still = ap (λ (h : Host). h .programming) (start-host (e .due) (counting e w) (filled e m)) ∙ y .still;
+  bytes = ap (λ (m : List ℕ). length m) (start-memory (e .due) (counting e w) (filled e m)) ∙ length-sets m 768 (e .page) ∙ y .bytes;
+}
+
+leg-run : (w : WireSide) (u : Uid) (m : List ℕ) (o : Bool) → Ready w m → (ms : List Move) (n : List Noted) (rest : WireSide → List ℕ → Ran)
+    → ((w : WireSide) (m : List ℕ) (o : Bool) → Ready w m → runOf (sideBus (Started o) w) u m n ≡ rest w m)
+    → (e : Leg) → Goes w m (runOf (sideBus (Started o) w) u m (signals ms)) e
+    → runOf (sideBus (Started o) w) u m (signals ms ++ Start ∷ n)
+    ≡ before (e .answers ++ Nothing ∷ [])
+    (rest (settle started (e .due) (counting e w) (filled e m) .side) (settle started (e .due) (counting e w) (filled e m) .memory))
+leg-run w u m o y ms n rest ih e g =
+    let r = settle started (e .due) (counting e w) (filled e m) in
+    run-then (signals ms) (Start ∷ n) (sideBus (Started o) w) u m _ (g .run)
+    ∙ ap (before (e .answers)) (first-then (sideBus (g .bus) (counting e w)) u (filled e m) Start n _ _
+    (starts (g .bus) (counting e w) u (filled e m) (e .due) (y .vcc) (g .due))
+    (ih (r .side) (r .memory) (isOpen (g .bus)) (start-ready w m e y)))
+    ∙ rw (append-assoc (e .answers) (Nothing ∷ []))
+
+pub legs-run : (l : Legs) → done true l ≡ true → (u : Uid) (w : WireSide) (m : List ℕ) (o : Bool) → Ready w m
+    → runOf (sideBus (Started o) w) u m (render l) ≡ legsOf w u m l
+unfolding render done legsOf
+legs-run (last ms end) h u w m o y = last-run w u m o y ms end h
+legs-run (leg ms l) h u w m o y =
+    leg-run w u m o y ms (render l) (λ (w : WireSide) (m : List ℕ). legsOf w u m l) (legs-run l h u) (legOf w u m ms) (leg-goes w u m (y .bytes) o ms)
+
+-- the theorem
+pub demand-2 : Demand2
+unfolding transferOf
+demand-2 n h w u m o y =
+    let p = parted n true h in
+    sym (ap (runOf (sideBus (Started o) w) u m) (sym (p .same)) ∙ legs-run (parse n) (p .ends) u w m o y)

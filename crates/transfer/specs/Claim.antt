@@ -1,0 +1,32 @@
+-- Demand 2: the whole transfer is what its signals give one by one: every answer, the wire side and all 1,024 bytes.
+use mathlib.Core.Path.{_≡_}
+use mathlib.Core.Bool.{Bool, true, false}
+use mathlib.Core.List.{List, [], _∷_}
+use Prim.Native.Nat.{ℕ}
+use lib.ListN.{length}
+use Rattle.tag.specs.declared.Bus.the-variants.{Started}
+use Rattle.tag.specs.declared.WireSide.{WireSide}
+use Rattle.tag.specs.declared.Uid.{Uid}
+use Rattle.tag.specs.Layout.{memoryBytes}
+use Rattle.wire.specs.Signal.{sideBus, signalOf}
+use Rattle.transfer.specs.Legs.{Noted, wireSignal, finished}
+use Rattle.transfer.specs.Whole.{Ran, ran, before, transferOf}
+
+-- a list of signals, one by one
+unfoldable pub runOf : WireSide → Uid → List ℕ → List Noted → Ran
+runOf w u m [] = ran [] w m
+runOf w u m (s ∷ n) =
+    let e = signalOf w u m (wireSignal s) in
+    before (e .answer ∷ []) (runOf (e .side) u (e .memory) n)
+
+-- where a select is Acked: with VCC and nothing being programmed; and the lent memory has its length
+pub record Ready (w : WireSide) (m : List ℕ) : Type 0 where
+  pub vcc : w .host .vcc ≡ true
+  pub still : w .host .programming ≡ false
+  pub bytes : length m ≡ memoryBytes
+
+-- n is what comes after the first Start, up to the end of the transfer; the bus is started, a transfer open or not
+abbrev pub Demand2 : Type 0
+Demand2 =
+    (n : List Noted) → finished true n ≡ true → (w : WireSide) (u : Uid) (m : List ℕ) (o : Bool) → Ready w m
+    → transferOf w u m n ≡ runOf (sideBus (Started o) w) u m n

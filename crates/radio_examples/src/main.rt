@@ -2,8 +2,6 @@
 // A line is a letter, a tab and 0, 1 or upper-case hex:
 // V, F, T, D: VCC, the field, a transfer open, programming under way; H: a message that the host puts;
 // R: a frame without its CRC; X: a frame as it stands; and, alone, N: the fresh tag again; E: the CRC of the memory.
-mod text;
-
 use reply::Answer;
 use reply::RadioSide;
 use tag::Tag;
@@ -78,16 +76,26 @@ fn start_again(r: Run, m: &mut [u8]) -> Run {
 
 // The host puts a message, as a transfer would.
 fn host_message(r: Run, s: &[u8], m: &mut [u8], frame: &mut [u8]) -> Run {
-    let n = text::decode(s, frame);
-    parts::put_bytes(m, tag::MAILBOX_AT, frame, 0, n);
+    let n = text::decode(s, frame, 698);
+    parts::put_bytes(m, tag::MAILBOX_AT, frame, 0, n as usize);
     text::none();
-    let mailbox = r.side.core.mailbox.host_put(n as u16);
+    let mailbox = r.side.core.mailbox.host_put(n);
     with_side(r, r.side.with_mailbox(mailbox))
+}
+
+// The bytes of a line's hex, with the CRC behind them if it is asked for. Answers how many there are.
+fn decode_frame(s: &[u8], frame: &mut [u8], close: bool) -> usize {
+    let n = text::decode(s, frame, 698) as usize;
+    if close {
+        crc::close(frame, n);
+        return n + 2;
+    }
+    n
 }
 
 // A frame and its answer.
 fn ask(r: Run, s: &[u8], m: &mut [u8], frame: &mut [u8], out: &mut [u8], close: bool) -> Run {
-    let n = text::decode_frame(s, frame, close);
+    let n = decode_frame(s, frame, close);
     if frame.len() < n {
         return r;
     }

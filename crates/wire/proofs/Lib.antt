@@ -2,3 +2,4 @@ pub mod Page
 pub mod Kept
 pub mod Line
 pub mod Bytes
+pub mod Settle

@@ -5,14 +5,14 @@ use Rattle.radio_examples.proofs.host_message.Tie as tie
 decode-requires : tie.Need-decode-requires
 decode-requires c κs = search needs
 
+cast-put-bytes : tie.Need-cast-put-bytes
+cast-put-bytes c = search needs
+
 put-bytes-requires : tie.Need-put-bytes-requires
 put-bytes-requires c κs = search needs
 
 none-requires : tie.Need-none-requires
 none-requires c κs = search needs
-
-cast-host-put : tie.Need-cast-host-put
-cast-host-put c = search needs
 
 host-put-requires : tie.Need-host-put-requires
 host-put-requires c κs = search needs
@@ -37,9 +37,9 @@ host-message-spec =
     tie.close
     (tie.spec
     decode-requires
+    cast-put-bytes
     put-bytes-requires
     none-requires
-    cast-host-put
     host-put-requires
     with-mailbox-requires
     with-side-requires

@@ -1,0 +1,4 @@
+pub mod Kept
+pub mod Served
+pub mod Value
+pub mod Clear

@@ -1,0 +1,80 @@
+use mathlib.Core.Path.{ap}
+use Rattle.model.specs.Step.{Left, leaves, actOf}
+use borrow.Author.Needs.{needs}
+use Rattle.model.proofs.act.Statement.{statement}
+use Rattle.model.proofs.act.Tie as tie
+use Rattle.model.proofs.act.Reads as reads
+use Rattle.model.proofs.act.Lts as lts
+use Rattle.model.proofs.by_field.Reads as by-field-reads
+use Rattle.model.proofs.by_frame.Reads as by-frame-reads
+use Rattle.model.proofs.by_wire.Reads as by-wire-reads
+
+-- src/lib.rt:163:22
+enum-known-s : tie.Need-enum-known-s
+enum-known-s c = search needs
+
+-- src/lib.rt:163:28
+by-wire-requires : tie.Need-by-wire-requires
+by-wire-requires c κs = search needs
+
+-- src/lib.rt:164:23
+enum-known-s-2 : tie.Need-enum-known-s-2
+enum-known-s-2 c = search needs
+
+-- src/lib.rt:164:30
+by-field-requires : tie.Need-by-field-requires
+by-field-requires c κs = search needs
+
+-- src/lib.rt:165:38
+enum-told : tie.Need-enum-told
+enum-told c = search needs
+
+-- src/lib.rt:165:26
+by-frame-requires : tie.Need-by-frame-requires
+by-frame-requires c κs = search needs
+
+-- src/lib.rt:159:1
+same-length : tie.Need-same-length
+same-length c = search needs
+
+-- src/lib.rt:159:1
+returns : tie.Need-returns
+unfolding actOf
+returns c =
+    let a = c .before .before .before .before .before .before .before .before .before .before .args in
+    rw (c .before .before .before .before .before .s .given .1)
+    (ap (λ (e : Left). leaves (e .answer) (e .tag) (e .memory) (a .out .now)) (c .before .before .by-wire .ensures))
+
+-- src/lib.rt:159:1
+returns-2 : tie.Need-returns-2
+unfolding actOf
+returns-2 c = rw (c .by-field .ensures, c .before .before .s2 .given .1)
+
+-- src/lib.rt:159:1
+same-length-2 : tie.Need-same-length-2
+same-length-2 c = search needs
+
+-- src/lib.rt:159:1
+same-length-3 : tie.Need-same-length-3
+same-length-3 c = search needs
+
+-- src/lib.rt:159:1
+returns-3 : tie.Need-returns-3
+returns-3 c = rw (c .before .before .before .before .before .before .before .enum-told .given .1) (c .before .before .before .before .by-frame .ensures)
+
+pub act-spec : {M : Type 1} → statement M
+act-spec =
+    tie.close
+    (tie.spec
+    enum-known-s
+    by-wire-requires
+    enum-known-s-2
+    by-field-requires
+    enum-told
+    by-frame-requires
+    same-length
+    returns
+    returns-2
+    same-length-2
+    same-length-3
+    returns-3)

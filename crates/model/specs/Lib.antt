@@ -1,0 +1,3 @@
+pub mod Signals
+pub mod Step
+pub mod Claims

@@ -1,0 +1,139 @@
+-- "What the bench hands in": the refusals, and what a call does to the tag and both lent buffers.
+use mathlib.Core.Bool.{Bool, not, _&&_}
+use mathlib.Core.List.{List}
+use Prim.Native.Nat.{ℕ}
+use lib.Dec.{ltb, eqb}
+use lib.ListN.{length, replicate}
+use Rattle.parts.specs.Pick.{pick}
+use Rattle.tag.specs.declared.Air.{Air}
+use Rattle.tag.specs.declared.WireSide.{WireSide}
+use Rattle.tag.specs.declared.Uid.{Uid}
+use Rattle.tag.specs.declared.Tag.{Tag}
+use Rattle.tag.specs.Layout.{memoryBytes, replyBytes}
+use Rattle.tag.specs.Bus.{isOpen}
+use Rattle.tag.specs.Radio.{fieldAt}
+use Rattle.tag.specs.Supply.{freshTag}
+use Rattle.ranges.specs.Ranges.{inRange}
+use Rattle.rule.specs.PageRange.{busInRange}
+use Rattle.wire.specs.declared.Answer.{Answer as WireAnswer}
+use Rattle.wire.specs.declared.Answer.the-variants.{Nothing as WireNothing, Ack as WireAck, NoAck as WireNoAck, Byte as WireByte}
+use Rattle.wire.specs.Signal.{signalOf}
+use Rattle.reply.specs.declared.RadioSide.{RadioSide}
+use Rattle.reply.specs.Reply.{Said, nothing, body, bufferOf}
+use Rattle.reply.specs.declared.Answer.{Answer as RadioAnswer}
+use Rattle.reply.specs.declared.Answer.the-variants.{Silence as RadioSilence, Reply as RadioReply}
+use Rattle.reply.specs.Reply.{answerOf}
+use Rattle.radio.specs.Radio.{radioOf}
+use Rattle.model.specs.declared.Answer.{Answer}
+use Rattle.model.specs.declared.Answer.the-variants.{Refused, Nothing, Ack, NoAck, Byte, Silence, Reply}
+use Rattle.model.specs.declared.Outcome.{Outcome}
+use Rattle.model.specs.declared.Signal.{Signal}
+use Rattle.model.specs.declared.Signal.the-variants.{Wire, Field, Frame}
+use Rattle.model.specs.Signals.{signalInRange, signalBy}
+
+-- the answer, the tag and both lent buffers after a call
+pub record Ended : Type 0 where
+  pub answer : Answer
+  pub tag : Tag
+  pub memory : List ℕ
+  pub reply : List ℕ
+
+abbrev pub leaves : Answer → Tag → List ℕ → List ℕ → Ended
+leaves a t m o = record { answer = a; tag = t; memory = m; reply = o }
+
+-- what a function over both lent buffers leaves
+abbrev pub ended : Outcome → List ℕ → List ℕ → Ended
+ended r m o = leaves (r .answer) (r .tag) m o
+
+-- ---- the answers, case by case
+-- 01's table of refusals
+pub data Refusal : Type 0 where
+  memoryLength : Refusal
+  replyShort : Refusal
+  signalUnknown : Refusal
+  outOfRange : Refusal
+
+unfoldable pub number : Refusal → ℕ
+-- "tag memory is not 1,024 bytes"
+number memoryLength = 1
+-- "reply buffer is shorter than 643"
+number replyShort = 2
+-- "signal code unknown, or its value out of range"
+number signalUnknown = 3
+-- "state breaks a range below"
+number outOfRange = 4
+
+-- "A refusal returns the number and the state handed in; every lent byte stays."
+abbrev pub refused : Refusal → Tag → List ℕ → List ℕ → Ended
+refused r t m o = leaves (Refused (number r)) t m o
+
+-- to a wire signal: none, Ack, NoAck or a byte
+unfoldable pub fromWire : WireAnswer → Answer
+fromWire WireNothing = Nothing
+fromWire WireAck = Ack
+fromWire WireNoAck = NoAck
+fromWire (WireByte x) = Byte x
+
+-- to a frame: silence, or a reply with its length
+unfoldable pub fromRadio : RadioAnswer → Answer
+fromRadio RadioSilence = Silence
+fromRadio (RadioReply n) = Reply n
+
+-- ---- the parts of the tag
+abbrev pub wireSide : Tag → WireSide
+wireSide t = record { host = t .host; core = t .core }
+
+abbrev pub withWire : WireSide → Tag → Tag
+withWire w t = record { air = t .air; host = w .host; core = w .core; uid = t .uid }
+
+abbrev pub radioSide : Tag → RadioSide
+radioSide t = record { air = t .air; core = t .core }
+
+abbrev pub withRadio : RadioSide → Tag → Tag
+withRadio r t = record { air = r .air; host = t .host; core = r .core; uid = t .uid }
+
+abbrev pub withAir : Air → Tag → Tag
+withAir a t = record { air = a; host = t .host; core = t .core; uid = t .uid }
+
+-- a transfer is open
+abbrev pub transferOpen : Tag → Bool
+transferOpen t = isOpen (t .host .bus)
+
+-- ---- 01's sentence "Ranges", whole: refusal 4 exactly where this does not hold
+unfoldable pub tagInRange : Tag → List ℕ → Bool
+tagInRange t m = inRange t && busInRange (t .host .bus) (t .host .counter) (t .core) (t .host .session) m
+
+-- ---- one signal that is not refused; s is the frame, o the reply buffer
+unfoldable pub actOf : Signal → Tag → List ℕ → List ℕ → List ℕ → Ended
+actOf (Wire x) t m o s =
+    let e = signalOf (wireSide t) (t .uid) m x in
+    leaves (fromWire (e .answer)) (withWire (e .side) t) (e .memory) o
+actOf (Field on) t m o s = leaves Nothing (withAir (fieldAt on (t .air)) t) m o
+actOf Frame t m o s =
+    let r = radioOf (radioSide t) (t .uid) (t .host .vcc) (transferOpen t) (t .host .programming) m s in
+    leaves (fromRadio (answerOf (r .reply))) (withRadio (r .side) t) (r .memory) (bufferOf (r .reply) o)
+
+-- ---- the two entry points
+-- one call: the refusals "in this order", then the signal
+unfoldable pub stepOf : Tag → List ℕ → List ℕ → ℕ → ℕ → List ℕ → Ended
+stepOf t m o code value s =
+    pick (not (eqb (length m) memoryBytes)) (refused memoryLength t m o)
+    (pick (ltb (length o) replyBytes) (refused replyShort t m o)
+    (pick (not (signalInRange code value)) (refused signalUnknown t m o)
+    (pick (not (tagInRange t m)) (refused outOfRange t m o)
+    (actOf (signalBy code value) t m o s))))
+
+-- without a reply buffer
+pub record Left : Type 0 where
+  pub answer : Answer
+  pub tag : Tag
+  pub memory : List ℕ
+
+abbrev pub left : Answer → Tag → List ℕ → Left
+left a t m = record { answer = a; tag = t; memory = m }
+
+-- the fresh tag; "all bytes .. 0". Memory of another length is refusal 1 and stays.
+unfoldable pub freshOf : Uid → List ℕ → Left
+freshOf u m =
+    pick (not (eqb (length m) memoryBytes)) (left (Refused (number memoryLength)) (freshTag u) m)
+    (left Nothing (freshTag u) (replicate memoryBytes 0))

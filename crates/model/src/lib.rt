@@ -1,0 +1,231 @@
+// The tag's two entry points: the fresh tag, and one call. Nothing here relies on a check by the caller.
+ghost use mathlib.Core.Path.{_≡_};
+ghost use mathlib.Core.Bool.{true};
+ghost use lib.Dec.{eqb};
+ghost use lib.ListN.{length};
+ghost use Rattle.tag.specs.Layout.{memoryBytes};
+ghost use Rattle.tag.specs.Radio.{fieldAt};
+ghost use Rattle.wire.specs.Signal.{signalOf};
+ghost use Rattle.model.specs.declared.Signal.the-variants.{Field, Frame};
+ghost use Rattle.model.specs.declared.Answer.the-variants.{Refused, Nothing};
+ghost use Rattle.model.specs.Signals.{topValue, signalInRange, signalBy};
+ghost use Rattle.model.specs.Step.{ended, left, fromWire, fromRadio, wireSide, withWire, withAir, tagInRange, actOf, stepOf, freshOf};
+use reply::RadioSide;
+use tag::Tag;
+use tag::Uid;
+use tag::WireSide;
+
+// What the signal of a call is.
+pub enum Signal {
+    Wire(wire::Signal),
+    // The field at a level.
+    Field(bool),
+    Frame,
+}
+
+pub enum Answer {
+    // The number of document 01's table.
+    Refused(u8),
+    Nothing,
+    Ack,
+    NoAck,
+    Byte(u8),
+    Silence,
+    // A reply's length, CRC included; it stands in the reply buffer from place 0 on.
+    Reply(usize),
+}
+
+pub struct Outcome {
+    pub answer: Answer,
+    pub tag: Tag,
+}
+
+// ---- the signal of a code and a value
+// The highest value of a code.
+fn top_value(code: u8) -> u16
+    ensures { λ r. ⌜ r ≡ topValue code ⌝ }
+{
+    if code == 4 {
+        return 255;
+    }
+    if (code == 1) | (code == 2) | (code == 5) {
+        return 1;
+    }
+    0
+}
+
+fn signal_in_range(code: u8, value: u16) -> bool
+    ensures { λ r. ⌜ r ≡ signalInRange code value ⌝ }
+{
+    (1 <= code) & (code <= 8) & (value <= top_value(code))
+}
+
+fn signal_by(code: u8, value: u16) -> Signal
+    requires { ⌜ signalInRange code value ≡ true ⌝ }
+    ensures { λ r. ⌜ r ≡ signalBy code value ⌝ }
+{
+    match code {
+        1 => Signal::Wire(wire::Signal::Vcc(value == 1)),
+        2 => Signal::Field(value == 1),
+        3 => Signal::Wire(wire::Signal::Start),
+        4 => Signal::Wire(wire::Signal::Send(value as u8)),
+        5 => Signal::Wire(wire::Signal::Fetch(value == 1)),
+        6 => Signal::Wire(wire::Signal::Stop),
+        7 => Signal::Wire(wire::Signal::ProgrammingEnd),
+        _ => Signal::Frame,
+    }
+}
+
+// ---- the answers
+fn from_wire(a: wire::Answer) -> Answer
+    ensures { λ r. ⌜ r ≡ fromWire a ⌝ }
+{
+    match a {
+        wire::Answer::Nothing => Answer::Nothing,
+        wire::Answer::Ack => Answer::Ack,
+        wire::Answer::NoAck => Answer::NoAck,
+        wire::Answer::Byte(x) => Answer::Byte(x),
+    }
+}
+
+fn from_radio(a: reply::Answer) -> Answer
+    ensures { λ r. ⌜ r ≡ fromRadio a ⌝ }
+{
+    match a {
+        reply::Answer::Silence => Answer::Silence,
+        reply::Answer::Reply(n) => Answer::Reply(n),
+    }
+}
+
+// ---- a signal that is not refused
+fn by_wire(t: Tag, m: &mut [u8], s: wire::Signal) -> Outcome
+    ensures { λ r. ⌜ left (r .answer) (r .tag) (now (m .exit)) ≡ (let e = signalOf (wireSide t) (t .uid) (now (m .entry)) s in left (fromWire (e .answer)) (withWire (e .side) t) (e .memory)) ⌝ }
+{
+    let host = t.host;
+    let core = t.core;
+    let o = wire::step(WireSide { host, core }, t.uid, m, s);
+    let answer = o.answer;
+    let side = o.side;
+    let next_host = side.host;
+    let next_core = side.core;
+    let mut n = t;
+    n.host = next_host;
+    n.core = next_core;
+    Outcome {
+        answer: from_wire(answer),
+        tag: n,
+    }
+}
+
+fn by_field(t: Tag, on: bool) -> Outcome
+    ensures { λ r. ⌜ r ≡ record { answer = Nothing; tag = withAir (fieldAt on (t .air)) t } ⌝ }
+{
+    let mut n = t;
+    n.air = t.air.field_at(on);
+    Outcome {
+        answer: Answer::Nothing,
+        tag: n,
+    }
+}
+
+fn by_frame(t: Tag, m: &mut [u8], out: &mut [u8], frame: &[u8]) -> Outcome
+    ensures { λ r. ⌜ ended r (now (m .exit)) (now (out .exit)) ≡ actOf Frame t (now (m .entry)) (now (out .entry)) (now (frame .entry)) ⌝ }
+{
+    let air = t.air;
+    let core = t.core;
+    let host = t.host;
+    let bus = host.bus;
+    let transfer = tag::is_open(bus);
+    let o = radio::radio(
+        RadioSide { air, core },
+        t.uid,
+        t.host.vcc,
+        transfer,
+        t.host.programming,
+        m,
+        out,
+        frame,
+    );
+    let answer = o.answer;
+    let side = o.side;
+    let next_air = side.air;
+    let next_core = side.core;
+    let mut n = t;
+    n.air = next_air;
+    n.core = next_core;
+    Outcome {
+        answer: from_radio(answer),
+        tag: n,
+    }
+}
+
+fn act(s: Signal, t: Tag, m: &mut [u8], out: &mut [u8], frame: &[u8]) -> Outcome
+    ensures { λ r. ⌜ ended r (now (m .exit)) (now (out .exit)) ≡ actOf s t (now (m .entry)) (now (out .entry)) (now (frame .entry)) ⌝ }
+{
+    match s {
+        Signal::Wire(x) => by_wire(t, m, x),
+        Signal::Field(on) => by_field(t, on),
+        Signal::Frame => by_frame(t, m, out, frame),
+    }
+}
+
+// ---- the entry points
+// Whether a tag and its memory are within the ranges.
+fn in_range(t: Tag, m: &[u8]) -> bool
+    ensures { λ r. ⌜ r ≡ tagInRange t (now (m .entry)) ⌝ }
+{
+    let host = t.host;
+    let bus = host.bus;
+    ranges::in_range(t) & rule::bus_in_range(bus, t.host.counter, t.core, t.host.session, m)
+}
+
+fn refused(number: u8, t: Tag) -> Outcome
+    ensures { λ r. ⌜ r ≡ record { answer = Refused number; tag = t } ⌝ }
+{
+    Outcome {
+        answer: Answer::Refused(number),
+        tag: t,
+    }
+}
+
+// Whether the lent memory has its length.
+fn is_memory(m: &[u8]) -> bool
+    ensures { λ r. ⌜ r ≡ eqb (length (now (m .entry))) memoryBytes ⌝ }
+{
+    m.len() == tag::MEMORY_BYTES
+}
+
+// One call: a signal's code and value, and a frame.
+pub fn step(t: Tag, m: &mut [u8], out: &mut [u8], code: u8, value: u16, frame: &[u8]) -> Outcome
+    ensures { λ r. ⌜ ended r (now (m .exit)) (now (out .exit)) ≡ stepOf t (now (m .entry)) (now (out .entry)) code value (now (frame .entry)) ⌝ }
+{
+    if !is_memory(m) {
+        return refused(1, t);
+    }
+    if out.len() < tag::REPLY_BYTES {
+        return refused(2, t);
+    }
+    if !signal_in_range(code, value) {
+        return refused(3, t);
+    }
+    if !in_range(t, m) {
+        return refused(4, t);
+    }
+    act(signal_by(code, value), t, m, out, frame)
+}
+
+// The fresh tag; the memory is cleared.
+pub fn fresh(u: Uid, m: &mut [u8]) -> Outcome
+    ensures { λ r. ⌜ left (r .answer) (r .tag) (now (m .exit)) ≡ freshOf u (now (m .entry)) ⌝ }
+{
+    let t = Tag::fresh(u);
+    if !is_memory(m) {
+        return refused(1, t);
+    }
+    let zeros = [0u8; 1024];
+    parts::put_bytes(m, 0, &zeros, 0, tag::MEMORY_BYTES);
+    Outcome {
+        answer: Answer::Nothing,
+        tag: t,
+    }
+}

@@ -1,0 +1,1 @@
+// The twelve pairs of document 01, by computation over the entry point's definition.

@@ -1,0 +1,266 @@
+-- What one noted signal does to an open transfer, and that only an Acked select opens one. Assumes nothing.
+use mathlib.Core.Path.{_≡_, refl, sym, ap, subst, _∙_}
+use mathlib.Core.Bool.{Bool, true, false, not, _&&_, false≢true}
+use mathlib.Core.List.{List}
+use Prim.Native.Nat.{ℕ}
+use lib.Dec.{ltb, eqb}
+use lib.ListN.{length, getD}
+use borrow.Author.Tests.{not-true}
+use Rattle.parts.specs.Pick.{pick}
+use Rattle.parts.proofs.Picks.{pick-false, pick-case}
+use Rattle.tag.specs.declared.Space.{Space}
+use Rattle.tag.specs.declared.Space.the-variants.{User, System}
+use Rattle.tag.specs.declared.Bus.{Bus}
+use Rattle.tag.specs.declared.Bus.the-variants.{Idle, Started, ReadLeg, WriteLeg, LowAddress, DataLeg}
+use Rattle.tag.specs.declared.Host.{Host}
+use Rattle.tag.specs.declared.WireSide.{WireSide}
+use Rattle.tag.specs.declared.Uid.{Uid}
+use Rattle.tag.specs.Bus.{isOpen}
+use Rattle.tag.specs.Keys.{passwordAt, samePassword}
+use Rattle.tag.specs.Supply.{vccAt}
+use Rattle.rule.specs.declared.Choice.{Choice}
+use Rattle.rule.specs.declared.Choice.the-variants.{Refused, Reading, Writing}
+use Rattle.rule.specs.Select.{selectOf, choose}
+use Rattle.leg.specs.Effect.{Left, Due, none, clears, writes, started, stopped, settle, legWritten, userWritten, systemWritten, passwordWritten}
+use Rattle.wire.specs.declared.Signal.{Signal}
+use Rattle.wire.specs.declared.Signal.the-variants.{Start as SignalStart, Send as SignalSend, Fetch as SignalFetch, Stop as SignalStop, Vcc as SignalVcc, ProgrammingEnd as SignalProgrammingEnd}
+use Rattle.wire.specs.Signal.{Ended, sideBus, dueOf, startAt, startOf, stopAt, selectBy, dataOf, sendAt, fetchAt, signalOf}
+use Rattle.transfer.specs.Legs.{Noted, Start, Send, Fetch, Stop, VccOff, wireSignal, isRefused, ends, fresher}
+use Rattle.waiting.specs.Waiting.{isStarted, ackedSelect}
+
+-- a transfer is open: VCC is on and nothing is being programmed
+pub record Open (h : Host) : Type 0 where
+  pub vcc : h .vcc ≡ true
+  pub still : h .programming ≡ false
+  pub bus : isOpen (h .bus) ≡ true
+
+-- the host side after a signal: the transfer is over, or goes on
+pub record Going (fresh : Bool) (s : Noted) (h : Host) : Type 0 where
+  pub over : isOpen (h .bus) ≡ not (ends fresh s)
+  pub vcc : ends fresh s ≡ false → h .vcc ≡ true
+  pub still : ends fresh s ≡ false → h .programming ≡ false
+  pub fresh-is : ends fresh s ≡ false → isStarted (h .bus) ≡ fresher fresh s
+
+-- it ended
+over-at : (fresh : Bool) (s : Noted) (h : Host) → ends fresh s ≡ true → isOpen (h .bus) ≡ false → Going fresh s h
+over-at fresh s h e o = record {
+  over = o ∙ ap not (sym e);
+  vcc = λ n. absurd (false≢true (sym n ∙ e));
+  still = λ n. absurd (false≢true (sym n ∙ e));
+  fresh-is = λ n. absurd (false≢true (sym n ∙ e));
+}
+
+-- it goes on
+on-at : (fresh : Bool) (s : Noted) (h : Host) → ends fresh s ≡ false → Open h → isStarted (h .bus) ≡ fresher fresh s → Going fresh s h
+on-at fresh s h e o f = record { over = o .bus ∙ ap not (sym e); vcc = λ n. o .vcc; still = λ n. o .still; fresh-is = λ n. f }
+
+-- ---- a select
+by-choice : (x : ℕ) (c : Choice) (w : WireSide) (m : List ℕ) → selectOf x ≡ c → w .host .vcc ≡ true → w .host .programming ≡ false
+    → Going true (Send x) (selectBy c w m .side .host)
+unfolding selectBy ends fresher isOpen isStarted isRefused
+by-choice x Refused w m q v p = over-at true (Send x) _ (ap isRefused q) refl
+by-choice x (Reading s) w m q v p = on-at true (Send x) _ (ap isRefused q) (record { vcc = v; still = p; bus = refl }) refl
+by-choice x (Writing s) w m q v p = on-at true (Send x) _ (ap isRefused q) (record { vcc = v; still = p; bus = refl }) refl
+
+choose-ready : (x : ℕ) (v p : Bool) → v ≡ true → p ≡ false → choose v p x ≡ selectOf x
+unfolding choose
+choose-ready x v p h k = sym (pick-false _ _ _ _ (rw (h, k)) refl)
+
+-- ---- a byte sent, a byte fetched
+by-data : (s : Space) (k : ℕ) (w : WireSide) (m : List ℕ) (x : ℕ) → Open (w .host) → Going false (Send x) (dataOf s k w m x .side .host)
+unfolding dataOf ends fresher isOpen isStarted
+by-data s k w m x o =
+    pick-case (λ (r : Ended). Going false (Send x) (r .side .host)) _ _ _
+    (λ t. on-at false (Send x) _ refl (record { vcc = o .vcc; still = o .still; bus = refl }) refl)
+    (λ t. on-at false (Send x) _ refl (record { vcc = o .vcc; still = o .still; bus = refl }) refl)
+
+by-send : (b : Bus) (w : WireSide) (m : List ℕ) (x : ℕ) → w .host .bus ≡ b → Open (w .host) → Going (isStarted b) (Send x) (sendAt b w m x .side .host)
+unfolding sendAt ends fresher isOpen isStarted
+by-send Idle w m x e o = absurd (false≢true (sym (ap isOpen e) ∙ o .bus))
+by-send (Started t) w m x e o =
+    by-choice x (choose (w .host .vcc) (w .host .programming) x) w m (sym (choose-ready x (w .host .vcc) (w .host .programming) (o .vcc) (o .still))) (o .vcc) (o .still)
+by-send (ReadLeg s over last) w m x e o = on-at false (Send x) _ refl o (ap isStarted e)
+by-send (WriteLeg s) w m x e o = on-at false (Send x) _ refl (record { vcc = o .vcc; still = o .still; bus = refl }) refl
+by-send (LowAddress s h) w m x e o = on-at false (Send x) _ refl (record { vcc = o .vcc; still = o .still; bus = refl }) refl
+by-send (DataLeg s k spoiled) w m x e o =
+    pick-case (λ (r : Ended). Going false (Send x) (r .side .host)) spoiled _ _
+    (λ t. on-at false (Send x) _ refl o (ap isStarted e)) (λ t. by-data s k w m x o)
+
+by-fetch : (b : Bus) (w : WireSide) (u : Uid) (m : List ℕ) (a : Bool) → w .host .bus ≡ b → Open (w .host)
+    → Going (isStarted b) (Fetch a) (fetchAt b w u m a .side .host)
+unfolding fetchAt ends fresher isOpen isStarted
+by-fetch Idle w u m a e o = absurd (false≢true (sym (ap isOpen e) ∙ o .bus))
+by-fetch (Started t) w u m a e o = on-at true (Fetch a) _ refl o (ap isStarted e)
+by-fetch (ReadLeg s over last) w u m a e o =
+    pick-case (λ (r : Ended). Going false (Fetch a) (r .side .host)) over _ _
+    (λ t. on-at false (Fetch a) _ refl o (ap isStarted e))
+    (λ t. on-at false (Fetch a) _ refl (record { vcc = o .vcc; still = o .still; bus = refl }) refl)
+by-fetch (WriteLeg s) w u m a e o = on-at false (Fetch a) _ refl o (ap isStarted e)
+by-fetch (LowAddress s h) w u m a e o = on-at false (Fetch a) _ refl o (ap isStarted e)
+by-fetch (DataLeg s k spoiled) w u m a e o = on-at false (Fetch a) _ refl o (ap isStarted e)
+
+-- ---- a Start
+start-host : (d : Due) (w : WireSide) (m : List ℕ) → settle started d w m .side .host ≡ w .host
+unfolding settle
+start-host none w m = refl
+start-host clears w m = refl
+start-host (writes s f xs) w m = refl
+
+started-host : (w : WireSide) (m : List ℕ) → startAt (w .host .bus) w m .side .host ≡ sideBus (Started (isOpen (w .host .bus))) w .host
+unfolding startAt
+started-host w m = start-host (dueOf (w .host .bus) (w .host .counter) m) (sideBus (Started (isOpen (w .host .bus))) w) m
+
+by-start : (w : WireSide) (m : List ℕ) → Open (w .host) → Going (isStarted (w .host .bus)) Start (startOf w m .side .host)
+unfolding startOf ends fresher isOpen isStarted
+by-start w m o =
+    pick-case (λ (r : Ended). Going (isStarted (w .host .bus)) Start (r .side .host)) (w .host .vcc) _ _
+    (λ t. subst (Going (isStarted (w .host .bus)) Start) (sym (started-host w m))
+    (on-at (isStarted (w .host .bus)) Start _ refl (record { vcc = o .vcc; still = o .still; bus = o .bus }) refl))
+    (λ t. absurd (false≢true (sym t ∙ o .vcc)))
+
+-- ---- a Stop, VCC off
+module _ (w : WireSide) (m : List ℕ) where
+  abbrev Same : Left → Type 0
+  Same d = d .side .host .bus ≡ w .host .bus
+
+  user-bus : (f : ℕ) (bs : List ℕ) → Same (userWritten w m f bs)
+  unfolding userWritten
+  user-bus f bs =
+      pick-case Same (ltb f 512) _ _ (λ h. refl)
+      (λ h. pick-case Same (eqb f 0x2003) _ _ (λ h. refl) (λ h. pick-case Same (eqb f 0x2006) _ _ (λ h. refl) (λ h. refl)))
+
+  password-bus : (bs : List ℕ) → Same (passwordWritten w m bs)
+  unfolding passwordWritten
+  password-bus bs =
+      pick-case Same (ltb (length bs) 17) _ _ (λ h. refl)
+      (λ h. pick-case Same (eqb (getD bs 8 0) 0x09) _ _ (λ h. refl)
+      (λ h. pick-case Same (samePassword (passwordAt bs 0) (passwordAt bs 9)) _ _ (λ h. refl) (λ h. refl)))
+
+  leg-bus : (s : Space) (f : ℕ) (bs : List ℕ) → Same (legWritten s w m f bs)
+  unfolding legWritten systemWritten
+  leg-bus User f bs = user-bus f bs
+  leg-bus System f bs = pick-case Same (eqb f 0x0900) _ _ (λ h. password-bus bs) (λ h. refl)
+
+  settle-bus : (d : Due) → Same (settle stopped d w m)
+  unfolding settle
+  settle-bus none = refl
+  settle-bus clears = refl
+  settle-bus (writes s f bs) = leg-bus s f bs
+
+stop-shut : (w : WireSide) (m : List ℕ) → isOpen (stopAt (w .host .bus) w m .side .host .bus) ≡ false
+unfolding stopAt isOpen
+stop-shut w m = ap isOpen (settle-bus (sideBus Idle w) m (dueOf (w .host .bus) (w .host .counter) m))
+
+off-shut : (w : WireSide) → w .host .vcc ≡ true → isOpen (vccAt false w .host .bus) ≡ false
+unfolding vccAt isOpen
+off-shut w v =
+    let P : WireSide → Type 0 = λ x. isOpen (x .host .bus) ≡ false in
+    pick-case P false _ _ (λ t. absurd (false≢true t)) (λ t. pick-case P (w .host .vcc) _ _ (λ y. refl) (λ n. absurd (false≢true (sym n ∙ v))))
+
+-- one signal in an open transfer
+pub going : (w : WireSide) (u : Uid) (m : List ℕ) (s : Noted) → Open (w .host)
+    → Going (isStarted (w .host .bus)) s (signalOf w u m (wireSignal s) .side .host)
+unfolding signalOf wireSignal ends
+going w u m Start o = by-start w m o
+going w u m (Send x) o = by-send (w .host .bus) w m x refl o
+going w u m (Fetch a) o = by-fetch (w .host .bus) w u m a refl o
+going w u m Stop o = over-at _ Stop _ refl (stop-shut w m)
+going w u m VccOff o = over-at _ VccOff _ refl (off-shut w (o .vcc))
+
+-- ---- no transfer open
+-- the signal is an Acked select
+unfoldable pub opens : Host → Signal → Bool
+opens h SignalStart = false
+opens h (SignalSend x) = ackedSelect h x
+opens h (SignalFetch ack) = false
+opens h SignalStop = false
+opens h (SignalVcc on) = false
+opens h SignalProgrammingEnd = false
+
+shut-start : (w : WireSide) (m : List ℕ) → isOpen (w .host .bus) ≡ false → isOpen (startOf w m .side .host .bus) ≡ false
+unfolding startOf isOpen
+shut-start w m h =
+    pick-case (λ (r : Ended). isOpen (r .side .host .bus) ≡ false) (w .host .vcc) _ _
+    (λ t. ap (λ (x : Host). isOpen (x .bus)) (started-host w m) ∙ h) (λ t. h)
+
+shut-select : (c : Choice) (w : WireSide) (m : List ℕ) → not (isRefused c) ≡ false → isOpen (selectBy c w m .side .host .bus) ≡ false
+unfolding selectBy isRefused isOpen
+shut-select Refused w m h = refl
+shut-select (Reading s) w m h = absurd (false≢true (sym h))
+shut-select (Writing s) w m h = absurd (false≢true (sym h))
+
+shut-send : (b : Bus) (w : WireSide) (m : List ℕ) (x : ℕ) → w .host .bus ≡ b → isOpen b ≡ false
+    → (isStarted b && not (isRefused (choose (w .host .vcc) (w .host .programming) x))) ≡ false
+    → isOpen (sendAt b w m x .side .host .bus) ≡ false
+unfolding sendAt isStarted isOpen
+shut-send Idle w m x e h q = ap isOpen e
+shut-send (Started t) w m x e h q = shut-select (choose (w .host .vcc) (w .host .programming) x) w m q
+shut-send (ReadLeg s over last) w m x e h q = absurd (false≢true (sym h))
+shut-send (WriteLeg s) w m x e h q = absurd (false≢true (sym h))
+shut-send (LowAddress s y) w m x e h q = absurd (false≢true (sym h))
+shut-send (DataLeg s k spoiled) w m x e h q = absurd (false≢true (sym h))
+
+shut-fetch : (b : Bus) (w : WireSide) (u : Uid) (m : List ℕ) (a : Bool) → w .host .bus ≡ b → isOpen b ≡ false
+    → isOpen (fetchAt b w u m a .side .host .bus) ≡ false
+unfolding fetchAt isOpen
+shut-fetch Idle w u m a e h = ap isOpen e
+shut-fetch (Started t) w u m a e h = ap isOpen e ∙ h
+shut-fetch (ReadLeg s over last) w u m a e h = absurd (false≢true (sym h))
+shut-fetch (WriteLeg s) w u m a e h = absurd (false≢true (sym h))
+shut-fetch (LowAddress s y) w u m a e h = absurd (false≢true (sym h))
+shut-fetch (DataLeg s k spoiled) w u m a e h = absurd (false≢true (sym h))
+
+shut-vcc : (on : Bool) (w : WireSide) → isOpen (w .host .bus) ≡ false → isOpen (vccAt on w .host .bus) ≡ false
+unfolding vccAt isOpen
+shut-vcc on w h =
+    let P : WireSide → Type 0 = λ x. isOpen (x .host .bus) ≡ false in
+    pick-case P on _ _ (λ t. pick-case P (w .host .vcc) _ _ (λ v. h) (λ v. h)) (λ t. pick-case P (w .host .vcc) _ _ (λ v. refl) (λ v. h))
+
+-- nothing else opens one
+pub stays-shut : (w : WireSide) (u : Uid) (m : List ℕ) (s : Signal) → isOpen (w .host .bus) ≡ false → opens (w .host) s ≡ false
+    → isOpen (signalOf w u m s .side .host .bus) ≡ false
+unfolding signalOf opens ackedSelect
+stays-shut w u m SignalStart h q = shut-start w m h
+stays-shut w u m (SignalSend x) h q = shut-send (w .host .bus) w m x refl h q
+stays-shut w u m (SignalFetch ack) h q = shut-fetch (w .host .bus) w u m ack refl h
+stays-shut w u m SignalStop h q = stop-shut w m
+stays-shut w u m (SignalVcc on) h q = shut-vcc on w h
+stays-shut w u m SignalProgrammingEnd h q = h
+
+-- an Acked select finds the bus started, VCC on and nothing being programmed
+pub record Selects (h : Host) (x : ℕ) : Type 0 where
+  pub before : Bool
+  pub at : h .bus ≡ Started before
+  pub vcc : h .vcc ≡ true
+  pub still : h .programming ≡ false
+  pub goes : ends true (Send x) ≡ false
+
+on-choice : (x : ℕ) (v p : Bool) → not (isRefused (choose v p x)) ≡ true → (v ≡ true) × ((p ≡ false) × (isRefused (selectOf x) ≡ false))
+unfolding choose isRefused pick
+on-choice x true false h = (refl, (refl, not-true (isRefused (selectOf x)) h))
+on-choice x true true h = absurd (false≢true h)
+on-choice x false false h = absurd (false≢true h)
+on-choice x false true h = absurd (false≢true h)
+
+by-started : (b : Bus) (h : Host) (x : ℕ) → h .bus ≡ b → (isStarted b && not (isRefused (choose (h .vcc) (h .programming) x))) ≡ true → Selects h x
+unfolding isStarted ends
+by-started Idle h x e q = absurd (false≢true q)
+by-started (Started t) h x e q =
+    let c = on-choice x (h .vcc) (h .programming) q in
+    record { before = t; at = e; vcc = c .0; still = c .1 .0; goes = c .1 .1 }
+by-started (ReadLeg s over last) h x e q = absurd (false≢true q)
+by-started (WriteLeg s) h x e q = absurd (false≢true q)
+by-started (LowAddress s y) h x e q = absurd (false≢true q)
+by-started (DataLeg s k spoiled) h x e q = absurd (false≢true q)
+
+pub selects : (h : Host) (x : ℕ) → ackedSelect h x ≡ true → Selects h x
+unfolding ackedSelect
+selects h x q = by-started (h .bus) h x refl q
+
+-- after it a transfer is open
+pub first-goes : (w : WireSide) (u : Uid) (m : List ℕ) (x : ℕ) → Selects (w .host) x → Going true (Send x) (signalOf w u m (SignalSend x) .side .host)
+unfolding signalOf sendAt
+first-goes w u m x s =
+    subst (λ (b : Bus). Going true (Send x) (sendAt b w m x .side .host)) (sym (s .at))
+    (by-choice x (choose (w .host .vcc) (w .host .programming) x) w m
+    (sym (choose-ready x (w .host .vcc) (w .host .programming) (s .vcc) (s .still))) (s .vcc) (s .still))

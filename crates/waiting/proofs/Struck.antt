@@ -1,0 +1,102 @@
+-- Lists of calls of the entry point: refusals 1 and 4 never come, frames may be struck out, and each struck one is shut out.
+-- Assumes that every call keeps the ranges.
+use mathlib.Core.Path.{_≡_, refl, sym, ap, subst, _∙_}
+use mathlib.Core.Bool.{Bool, true, false, _||_}
+use mathlib.Core.List.{List, [], _∷_}
+use Rattle.parts.specs.Pick.{pick}
+use Rattle.parts.proofs.Picks.{pick-case}
+use Rattle.parts.proofs.Bools.{and-left, and-right}
+use Rattle.registers.specs.declared.Registers.{Registers}
+use Rattle.tag.specs.declared.Uid.{Uid}
+use Rattle.tag.specs.declared.Tag.{Tag}
+use Rattle.model.specs.Step.{transferOpen}
+use Rattle.model.specs.Claims.{areBytes, Keeps}
+use Rattle.waiting.specs.Calls.{Call, Said, Device, Done, Ran, ran, entry, runBy}
+use Rattle.waiting.specs.Claim.{framesFit, stateRefused, struck, others, otherAnswers, spoken, Shut, startAfter, AllShut}
+use Rattle.waiting.proofs.OneCall.{Fits, shutBy, struck-is, Stays, call-stays, call-judged}
+
+-- ---- one call
+-- the start of the open transfer has the tag's UID and registers
+pub record Since (start t : Tag) : Type 0 where
+  pub uid : start .uid ≡ t .uid
+  pub registers : start .core .registers ≡ t .core .registers
+
+shut-call : (start : Tag) (d : Device) (c : Call) → Fits d → Since start (d .tag) → struck entry d c ≡ true → Shut entry start d c
+shut-call start d c f s h =
+    let e = struck-is d c f h in
+    record {
+      unchanged = ap (λ (e : Done). e .device) e;
+      reply =
+          ap (λ (e : Done). e .says) e
+          ∙ ap (λ (u : Uid). spoken (shutBy (c .frame) (d .tag .air) u (d .tag .core .registers .dynamic)) (c .buffer)) (sym (s .uid))
+          ∙ ap (λ (g : Registers). spoken (shutBy (c .frame) (d .tag .air) (start .uid) (g .dynamic)) (c .buffer)) (sym (s .registers));
+    }
+
+-- with none open the tag itself is the start
+since-after : (start t : Tag) → (transferOpen t ≡ true → Since start t) → Since (startAfter start t) t
+since-after start t h = pick-case (λ (x : Tag). Since x t) (transferOpen t) start t h (λ n. record { uid = refl; registers = refl })
+
+since-next : (start : Tag) (d : Device) (e : Done) → Stays d e → Since start (d .tag) → transferOpen (e .device .tag) ≡ true → Since start (e .device .tag)
+since-next start d e k s h = record { uid = s .uid ∙ sym (k .uid); registers = s .registers ∙ sym (k .registers h) }
+
+-- `rest` are the calls left of the others, `said` their answers
+abbrev RunsTo : Device → List Call → List Said → Device → Type 0
+RunsTo d rest said end = runBy entry d rest ≡ ran said end
+
+strike : (d : Device) (c : Call) (rest : List Call) (said : List Said) (end : Device) → entry d c .device ≡ d
+    → RunsTo (entry d c .device) rest said end → RunsTo d rest said end
+strike d c rest said end h r = subst (λ (x : Device). RunsTo x rest said end) h r
+
+leave : (d : Device) (c : Call) (rest : List Call) (said : List Said) (end : Device)
+    → RunsTo (entry d c .device) rest said end → RunsTo d (c ∷ rest) (entry d c .says ∷ said) end
+unfolding runBy
+leave d c rest said end r = ap (λ (x : Ran). ran (entry d c .says ∷ x .answers) (x .device)) r
+
+-- struck out or not
+by-test : (b : Bool) (d : Device) (c : Call) (rest : List Call) (said : List Said) (end : Device) → (b ≡ true → entry d c .device ≡ d)
+    → RunsTo (entry d c .device) rest said end → RunsTo d (pick b rest (c ∷ rest)) (pick b said (entry d c .says ∷ said)) end
+unfolding pick
+by-test true d c rest said end h r = strike d c rest said end (h refl) r
+by-test false d c rest said end h r = leave d c rest said end r
+
+-- ---- all calls
+pub first-fits : (c : Call) (cs : List Call) → framesFit (c ∷ cs) ≡ true → areBytes (c .frame) ≡ true
+unfolding framesFit
+first-fits c cs b = and-left (areBytes (c .frame)) (framesFit cs) b
+
+pub rest-fits : (c : Call) (cs : List Call) → framesFit (c ∷ cs) ≡ true → framesFit cs ≡ true
+unfolding framesFit
+rest-fits c cs b = and-right (areBytes (c .frame)) (framesFit cs) b
+
+module _ (kept : Keeps) where
+  pub fits-next : (d : Device) (c : Call) → areBytes (c .frame) ≡ true → Fits d → Fits (entry d c .device)
+  unfolding entry
+  fits-next d c b f = kept (d .tag) (d .memory) (c .buffer) (c .code) (c .value) (c .frame) b f
+
+  pub judged : (cs : List Call) (d : Device) → framesFit cs ≡ true → Fits d → stateRefused (runBy entry d cs .answers) ≡ false
+  unfolding stateRefused runBy
+  judged [] d b f = refl
+  judged (c ∷ cs) d b f =
+      ap (λ (x : Bool). x || stateRefused (runBy entry (entry d c .device) cs .answers)) (call-judged d c f)
+      ∙ judged cs (entry d c .device) (rest-fits c cs b) (fits-next d c (first-fits c cs b) f)
+
+  pub striking : (cs : List Call) (d : Device) → framesFit cs ≡ true → Fits d
+      → runBy entry d (others entry d cs) ≡ ran (otherAnswers entry d cs) (runBy entry d cs .device)
+  unfolding others otherAnswers runBy
+  striking [] d b f = refl
+  striking (c ∷ cs) d b f =
+      let e = entry d c .device in
+      by-test (struck entry d c) d c (others entry e cs) (otherAnswers entry e cs) (runBy entry e cs .device)
+      (λ h. ap (λ (e : Done). e .device) (struck-is d c f h))
+      (striking cs e (rest-fits c cs b) (fits-next d c (first-fits c cs b) f))
+
+  pub all-shut : (cs : List Call) (start : Tag) (d : Device) → framesFit cs ≡ true → Fits d → (transferOpen (d .tag) ≡ true → Since start (d .tag))
+      → AllShut entry start d cs
+  unfolding AllShut
+  all-shut [] start d b f s = tt
+  all-shut (c ∷ cs) start d b f s =
+      let now = startAfter start (d .tag) in
+      let since = since-after start (d .tag) s in (
+        shut-call now d c f since,
+        all-shut cs now (entry d c .device) (rest-fits c cs b) (fits-next d c (first-fits c cs b) f) (since-next now d (entry d c) (call-stays d c f) since),
+      )

@@ -1,0 +1,1 @@
+// The waiting tag, and demand 3: definitions and their proofs.

@@ -3,13 +3,14 @@ use mathlib.Core.Path.{_≡_}
 use mathlib.Core.Bool.{Bool, true, not, _&&_, _||_}
 use mathlib.Core.List.{List}
 use mathlib.Core.Logic.{_⊎_}
-use Prim.Native.Nat.{ℕ, _<_}
+use Prim.Native.Nat.{ℕ, _+_, _≤_, _<_}
 use lib.ListN.{length, getD}
 use Rattle.parts.specs.Bits.{isSet}
-use Rattle.ranges.specs.Ranges.{airInRange, coreInRange}
+use Rattle.ranges.specs.Ranges.{airInRange, mailboxInRange, coreInRange}
 use Rattle.tag.specs.declared.Uid.{Uid}
+use Rattle.tag.specs.Layout.{replyBytes}
 use Rattle.reply.specs.declared.RadioSide.{RadioSide}
-use Rattle.reply.specs.Reply.{nothing, fault}
+use Rattle.reply.specs.Reply.{Said, nothing, body, fault}
 use Rattle.reply.specs.Outcome.{told}
 use Rattle.radio.specs.Radio.{radioOf}
 
@@ -28,3 +29,13 @@ abbrev pub Keeps : Type 0
 Keeps = (t : RadioSide) (u : Uid) (vcc transfer programming : Bool) (m s : List ℕ)
     → ((i : ℕ) → getD s i 0 < 256) → radioInRange t vcc ≡ true
     → (radioInRange (radioOf t u vcc transfer programming m s .side) vcc ≡ true) × (length (radioOf t u vcc transfer programming m s .memory) ≡ length m)
+
+-- how many bytes a reply has, CRC included
+unfoldable pub replySize : Said → ℕ
+replySize nothing = 0
+replySize (body b) = length b + 2
+
+-- with the mailbox in range, every reply has room in the 643 bytes of the reply buffer
+abbrev pub RepliesFit : Type 0
+RepliesFit = (t : RadioSide) (u : Uid) (vcc transfer programming : Bool) (m s : List ℕ)
+    → mailboxInRange (t .core .mailbox) ≡ true → replySize (radioOf t u vcc transfer programming m s .reply) ≤ replyBytes

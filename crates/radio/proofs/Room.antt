@@ -1,0 +1,168 @@
+-- Every reply has room in the reply buffer. Assumes nothing.
+use mathlib.Core.Path.{_≡_, refl, sym, ap, subst, _∙_}
+use mathlib.Core.Bool.{Bool, true, false, not, _&&_, _||_}
+use mathlib.Core.List.{List, [], _∷_, _++_}
+use Prim.Native.Nat.{ℕ, zero, suc, _+_, _*_, _-_, _≤_, _<_}
+use native.Mathlib.Omega.{arith}
+use lib.Dec.{leb, ltb, eqb}
+use lib.ListN.{length, length-append}
+use borrow.Author.Tests.{ltb-false, leb-true, leb-false, ltb-true}
+use Rattle.parts.specs.Pick.{pick}
+use Rattle.parts.specs.Bytes.{bytesAt}
+use Rattle.parts.proofs.Bools.{and-left}
+use Rattle.parts.proofs.Lists.{length-bytesAt}
+use Rattle.parts.proofs.Picks.{pick-case}
+use Rattle.registers.specs.declared.Registers.{Registers}
+use Rattle.areas.specs.Ends.{areaOfBlock}
+use Rattle.ranges.specs.Ranges.{mailboxInRange}
+use Rattle.tag.specs.declared.Uid.{Uid}
+use Rattle.tag.specs.declared.Mailbox.{Mailbox}
+use Rattle.reply.specs.declared.RadioSide.{RadioSide}
+use Rattle.reply.specs.Outcome.{Told, told, fails}
+use Rattle.frame.specs.declared.Verdict.{Verdict}
+use Rattle.frame.specs.declared.Verdict.the-variants.{Silence, Error, Request}
+use Rattle.frame.specs.Judge.{judge}
+use Rattle.blocks.specs.Blocks.{leaves, blockOf, blocksOf, readOf, writeOf, lockOf, statusOf, statusesOf, statusReply}
+use Rattle.config.specs.Config.{readConfigOf, writeConfigOf, readDynamicOf, writeDynamicOf}
+use Rattle.message.specs.Message.{writeMessageOf, lengthOf, asked, readMessageOf}
+use Rattle.password.specs.Password.{presentOf, writePasswordOf, quietOf, selectOf, resetOf}
+use Rattle.radio.specs.declared.Request.{Request as Fields}
+use Rattle.radio.specs.Claims.{replySize, RepliesFit}
+use Rattle.radio.specs.Commands.{requestOf, serveOf}
+use Rattle.radio.specs.Radio.{answered, radioOf}
+
+abbrev Small : Told → Type 0
+Small r = replySize (r .reply) ≤ 643
+
+either : (b : Bool) (x y : Told) → Small x → Small y → Small (pick b x y)
+either b x y p q = pick-case Small b x y (λ _. p) (λ _. q)
+
+neither : (a b : Bool) → (a || b) ≡ false → a ≡ false
+neither true b h = h
+neither false b h = refl
+
+-- ---- blocks
+block-size : (r : Registers) (session : ℕ) (m : List ℕ) (option : Bool) (block : ℕ) → length (blockOf r session m option block) ≤ 5
+unfolding blockOf pick
+block-size r session m true block = omega (arith, length-bytesAt m (4 * block) 4)
+block-size r session m false block = omega (arith, length-bytesAt m (4 * block) 4)
+
+blocks-size : (r : Registers) (session : ℕ) (m : List ℕ) (option : Bool) (first n : ℕ) → length (blocksOf r session m option first n) ≤ 5 * n
+unfolding blocksOf
+blocks-size r session m option first zero = omega arith
+blocks-size r session m option first (suc n) =
+    omega (arith, length-append (blocksOf r session m option first n) (blockOf r session m option (first + n)), blocks-size r session m option first n, block-size r session m option (first + n))
+
+statuses-size : (r : Registers) (session first n : ℕ) → length (statusesOf r session first n) ≡ n
+unfolding statusesOf
+statuses-size r session first zero = refl
+statuses-size r session first (suc n) = omega (arith, length-append (statusesOf r session first n) (statusOf r session (first + n) ∷ []), statuses-size r session first n)
+
+-- ---- the rows: an error or a reply without data is short
+read-small : (t : RadioSide) (m : List ℕ) (option : Bool) (first more : ℕ) → Small (readOf t m option first more)
+unfolding readOf replySize leaves
+read-small t m option first more =
+    pick-case Small (leb 128 first) _ _ (λ _. omega arith)
+    (λ _. pick-case Small (leaves (t .core .registers .ends) first (first + more)) _ _ (λ _. omega arith)
+    (λ h. either _ _ _ (omega arith) (omega (arith, leb-false 128 (first + more) (neither _ _ h), blocks-size (t .core .registers) (t .air .session) m option first (more + 1)))))
+
+write-small : (t : RadioSide) (m : List ℕ) (first more : ℕ) (s : List ℕ) (at : ℕ) → Small (writeOf t m first more s at)
+unfolding writeOf replySize
+write-small t m first more s at = either _ _ _ (omega arith) (either _ _ _ (omega arith) (either _ _ _ (omega arith) (either _ _ _ (omega arith) (omega arith))))
+
+lock-small : (t : RadioSide) (m : List ℕ) (block : ℕ) → Small (lockOf t m block)
+unfolding lockOf replySize
+lock-small t m block = either _ _ _ (omega arith) (either _ _ _ (omega arith) (omega arith))
+
+lesser : (a b : ℕ) → pick (ltb a b) a b ≤ a
+lesser a b = pick-case (λ (n : ℕ). n ≤ a) (ltb a b) a b (λ _. omega arith) (λ h. ltb-false a b h)
+
+status-small : (t : RadioSide) (m : List ℕ) (first more : ℕ) → Small (statusReply t m first more)
+unfolding statusReply replySize
+status-small t m first more =
+    let n = pick (ltb (128 - first) (more + 1)) (128 - first) (more + 1) in
+    either _ _ _ (omega arith) (omega (arith, statuses-size (t .core .registers) (t .air .session) first n, lesser (128 - first) (more + 1)))
+
+config-small : (t : RadioSide) (m : List ℕ) (p : ℕ) → Small (readConfigOf t m p)
+unfolding readConfigOf replySize
+config-small t m p = either _ _ _ (omega arith) (omega arith)
+
+set-config-small : (t : RadioSide) (m : List ℕ) (p x : ℕ) → Small (writeConfigOf t m p x)
+unfolding writeConfigOf replySize
+set-config-small t m p x = either _ _ _ (omega arith) (either _ _ _ (omega arith) (either _ _ _ (omega arith) (omega arith)))
+
+dynamic-small : (t : RadioSide) (m : List ℕ) (p : ℕ) → Small (readDynamicOf t m p)
+unfolding readDynamicOf replySize
+dynamic-small t m p = either _ _ _ (omega arith) (omega arith)
+
+set-dynamic-small : (t : RadioSide) (m : List ℕ) (vcc : Bool) (p x : ℕ) → Small (writeDynamicOf t m vcc p x)
+unfolding writeDynamicOf replySize
+set-dynamic-small t m vcc p x = either _ _ _ (omega arith) (omega arith)
+
+message-small : (t : RadioSide) (m : List ℕ) (more : ℕ) (s : List ℕ) (at : ℕ) → Small (writeMessageOf t m more s at)
+unfolding writeMessageOf replySize
+message-small t m more s at = either _ _ _ (omega arith) (omega arith)
+
+length-small : (t : RadioSide) (m : List ℕ) → Small (lengthOf t m)
+unfolding lengthOf replySize
+length-small t m = either _ _ _ (omega arith) (omega arith)
+
+-- a message in range has at most 256 bytes, and a read does not go past it
+longest : (b : Mailbox) → mailboxInRange b ≡ true → b .length ≤ 256
+unfolding mailboxInRange
+longest b h = leb-true (b .length) 256 (and-left _ _ (and-left _ _ (and-left _ _ (and-left _ _ (and-left _ _ h)))))
+
+read-message-small : (t : RadioSide) (m : List ℕ) (p n : ℕ) → mailboxInRange (t .core .mailbox) ≡ true → Small (readMessageOf t m p n)
+unfolding readMessageOf replySize
+read-message-small t m p n r =
+    let b = t .core .mailbox in
+    either _ _ _ (omega arith)
+    (pick-case Small (ltb (b .length) (p + asked b p n) || eqb (b .length) 0) _ _ (λ _. omega arith)
+    (λ h. omega (arith, longest b r, ltb-false (b .length) (p + asked b p n) (neither _ _ h), length-bytesAt m (512 + p) (asked b p n))))
+
+present-small : (t : RadioSide) (m : List ℕ) (n : ℕ) (s : List ℕ) (at : ℕ) → Small (presentOf t m n s at)
+unfolding presentOf replySize
+present-small t m n s at = either _ _ _ (omega arith) (either _ _ _ (omega arith) (omega arith))
+
+password-small : (t : RadioSide) (m : List ℕ) (n : ℕ) (s : List ℕ) (at : ℕ) → Small (writePasswordOf t m n s at)
+unfolding writePasswordOf replySize
+password-small t m n s at = either _ _ _ (omega arith) (either _ _ _ (omega arith) (omega arith))
+
+select-small : (t : RadioSide) (m : List ℕ) (own : Bool) → Small (selectOf t m own)
+unfolding selectOf replySize
+select-small t m own = either _ _ _ (omega arith) (omega arith)
+
+-- ---- the table
+serve-small : (q : Fields) (t : RadioSide) (vcc : Bool) (m s : List ℕ) → mailboxInRange (t .core .mailbox) ≡ true → Small (serveOf q t vcc m s)
+unfolding serveOf quietOf resetOf replySize
+serve-small q t vcc m s r =
+    either _ _ _ (omega arith)
+    (either _ _ _ (select-small t m (q .own))
+    (either _ _ _ (omega arith)
+    (either _ _ _ (read-small t m (q .option) (q .first) 0)
+    (either _ _ _ (read-small t m (q .option) (q .first) (q .second))
+    (either _ _ _ (write-small t m (q .first) 0 s (q .at + 1))
+    (either _ _ _ (write-small t m (q .first) (q .second) s (q .at + 2))
+    (either _ _ _ (lock-small t m (q .first))
+    (either _ _ _ (status-small t m (q .first) (q .second))
+    (either _ _ _ (config-small t m (q .first))
+    (either _ _ _ (set-config-small t m (q .first) (q .second))
+    (either _ _ _ (dynamic-small t m (q .first))
+    (either _ _ _ (set-dynamic-small t m vcc (q .first) (q .second))
+    (either _ _ _ (message-small t m (q .first) s (q .at + 1))
+    (either _ _ _ (length-small t m)
+    (either _ _ _ (read-message-small t m (q .first) (q .second) r)
+    (either _ _ _ (present-small t m (q .first) s (q .at + 1))
+    (either _ _ _ (password-small t m (q .first) s (q .at + 1))
+    (omega arith))))))))))))))))))
+
+answered-small : (v : Verdict) (t : RadioSide) (u : Uid) (vcc : Bool) (m s : List ℕ) → mailboxInRange (t .core .mailbox) ≡ true → Small (answered v t u vcc m s)
+unfolding answered replySize
+answered-small Silence t u vcc m s r = omega arith
+answered-small (Error code) t u vcc m s r = omega arith
+answered-small Request t u vcc m s r = serve-small (requestOf s u) t vcc m s r
+
+pub replies-fit : RepliesFit
+unfolding radioOf
+replies-fit t u vcc transfer programming m s r =
+    answered-small (judge s (t .air) u (t .core .registers .dynamic) (transfer || programming)) t u vcc m s r

@@ -1,0 +1,11 @@
+-- What is proved of a reply, beside the functions' contracts.
+use mathlib.Core.Path.{_≡_}
+use mathlib.Core.List.{List, _++_}
+use Prim.Native.Nat.{ℕ, _+_, _≤_}
+use lib.ListN.{length, drop}
+use Rattle.crc.specs.Crc.{closed}
+use Rattle.reply.specs.Reply.{body, bufferOf}
+
+-- where it has room, the buffer holds the reply, then its CRC, and past it what it held
+abbrev pub ReplyWhole : Type 0
+ReplyWhole = (b o : List ℕ) → length b + 2 ≤ length o → bufferOf (body b) o ≡ closed b ++ drop (length b + 2) o

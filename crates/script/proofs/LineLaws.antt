@@ -1,0 +1,105 @@
+-- Laws of lines that hold a frame. Assumes nothing.
+use mathlib.Core.Path.{_≡_, refl, sym, ap, _∙_}
+use mathlib.Core.Bool.{Bool, true, false, _&&_, _||_}
+use mathlib.Core.List.{List, [], _∷_, _++_}
+use Prim.Native.Nat.{ℕ, suc, _+_, _-_, _/_, _%_, _≤_, _<_}
+use native.Mathlib.Omega.{arith}
+use lib.Dec.{leb, ltb, eqb}
+use borrow.Author.Tests.{leb-true, ltb-false}
+use lib.ListN.{length, take, drop, getD, length-drop, length-append}
+use lib.Seq.{sets, sets-eq, take-at}
+use Rattle.parts.specs.Pick.{pick}
+use Rattle.parts.proofs.Picks.{pick-case}
+use Rattle.parts.proofs.Bools.{and-left, and-right}
+use Rattle.crc.specs.Crc.{closed, crcBytes, closedAt}
+use Rattle.crc.proofs.Frames.{closed-at}
+use Rattle.script.specs.Hex.{allHex, hexBytes}
+use Rattle.script.specs.Line.{Said, bad, signal, frame, alone, level, byteSent, frameSent, tabbed, lineOf}
+
+isFrame : Said → Bool
+isFrame bad = false
+isFrame (signal code value) = false
+isFrame (frame s) = true
+
+-- what holds of the digits of a frame
+abbrev Digits : List ℕ → Type 0
+Digits s = (2 ≤ length s) × (allHex s ≡ true)
+
+never : {A : Type 0} → false ≡ true → A
+never h = let z : _≡_ {A = ℕ} 0 1 = cc in absurd (omega arith)
+
+-- a reading that says a frame has G
+abbrev Says : Type 0 → Said → Type 0
+Says G x = isFrame x ≡ true → G
+
+module _ (G : Type 0) where
+  in-alone : (x : ℕ) → Says G (alone x)
+  unfolding alone isFrame
+  in-alone x =
+      pick-case (Says G) _ _ _ (λ _ e. never e)
+      (λ _. pick-case (Says G) _ _ _ (λ _ e. never e)
+      (λ _. pick-case (Says G) _ _ _ (λ _ e. never e)
+      (λ _ e. never e)))
+
+  in-level : (code : ℕ) (s : List ℕ) → Says G (level code s)
+  unfolding level isFrame
+  in-level code s = pick-case (Says G) _ _ _ (λ _ e. never e) (λ _ e. never e)
+
+  in-byte : (s : List ℕ) → Says G (byteSent s)
+  unfolding byteSent isFrame
+  in-byte s = pick-case (Says G) _ _ _ (λ _ e. never e) (λ _ e. never e)
+
+in-frame : (s : List ℕ) → Says (Digits s) (frameSent s)
+unfolding frameSent isFrame
+in-frame s =
+    let a = leb 2 (length s) in
+    let b = eqb (length s % 2) 0 in
+    pick-case (Says (Digits s)) _ _ _
+    (λ h _. (leb-true 2 (length s) (and-left a b (and-left (a && b) (allHex s) h)), and-right (a && b) (allHex s) h))
+    (λ _ e. never e)
+
+in-tabbed : (x : ℕ) (s : List ℕ) → Says (Digits s) (tabbed x s)
+unfolding tabbed isFrame
+in-tabbed x s =
+    let P = Says (Digits s) in
+    pick-case P _ _ _ (λ _. in-level (Digits s) 1 s)
+    (λ _. pick-case P _ _ _ (λ _. in-level (Digits s) 2 s)
+    (λ _. pick-case P _ _ _ (λ _. in-byte (Digits s) s)
+    (λ _. pick-case P _ _ _ (λ _. in-level (Digits s) 5 s)
+    (λ _. pick-case P _ _ _ (λ _. in-frame s)
+    (λ _ e. never e)))))
+
+abbrev pub Framed : List ℕ → Type 0
+Framed s = (length s ≤ 1200) × ((2 ≤ length s) × (allHex (drop 2 s) ≡ true))
+
+in-line : (s : List ℕ) → Says (Framed s) (lineOf s)
+unfolding lineOf isFrame
+in-line s =
+    let P = Says (Framed s) in
+    pick-case P _ _ _ (λ _ e. never e)
+    (λ h. pick-case P _ _ _ (λ _. in-alone (Framed s) (getD s 0 0))
+    (λ _. pick-case P _ _ _
+    (λ _ e.
+    let d = in-tabbed (getD s 0 0) (drop 2 s) e in
+    (ltb-false 1200 (length s) h, (omega (arith, length-drop 2 s), d .1)))
+    (λ _ e. never e)))
+
+-- a line that says a frame
+pub framed : (s f : List ℕ) → lineOf s ≡ frame f → Framed s
+unfolding isFrame
+framed s f e = in-line s (ap isFrame e)
+
+-- ---- the frame's bytes with their CRC
+pub length-hex-bytes : (s : List ℕ) → length (hexBytes s) ≡ length s / 2
+unfolding hexBytes
+length-hex-bytes [] = refl
+length-hex-bytes (x ∷ []) = refl
+length-hex-bytes (x ∷ y ∷ s) = omega (arith, length-hex-bytes s)
+
+pub frame-closed : (p o : List ℕ) (n : ℕ) → length p ≡ n → n + 2 ≤ length o
+    → take (n + 2) (closedAt (sets o 0 p) n) ≡ closed p
+frame-closed p o n l h =
+    let k : length (closed p) ≡ n + 2 = simp length-append (omega arith) in
+    ap (λ (x : List ℕ). take (n + 2) x)
+    (closed-at p o n l h ∙ sets-eq (closed p) o 0 (omega arith))
+    ∙ take-at (closed p) (drop (0 + length (closed p)) o) (n + 2) k

@@ -1,0 +1,72 @@
+-- From line to line: the tag, its memory and the line number are carried on.
+use mathlib.Core.List.{List, [], _∷_, _++_}
+use Prim.Native.Nat.{ℕ, suc, _+_, _%_}
+use lib.ListN.{length as size, replicate}
+use lib.Seq.{sets}
+use Rattle.tag.specs.declared.Uid.{Uid}
+use Rattle.tag.specs.declared.Tag.{Tag}
+use Rattle.tag.specs.Layout.{replyBytes}
+use Rattle.crc.specs.Crc.{closed}
+use Rattle.model.specs.Step.{Ended, stepOf, freshOf}
+use Rattle.script.specs.declared.Bench.{Bench}
+use Rattle.script.specs.Line.{Said, bad, signal, frame, lineOf}
+use Rattle.script.specs.Text.{badText, answerText, lineText}
+
+-- what a line leaves: the tag and the number of lines, the memory, and the text that it prints
+pub record Printed : Type 0 where
+  pub bench : Bench
+  pub memory : List ℕ
+  pub text : List ℕ
+
+-- "It starts fresh with UID 01 02 03 04 05 24 02 E0"
+abbrev pub benchUid : Uid
+benchUid = record { bytes = 0x01 ∷ 0x02 ∷ 0x03 ∷ 0x04 ∷ 0x05 ∷ 0x24 ∷ 0x02 ∷ 0xE0 ∷ [] }
+
+-- line numbers from 1
+abbrev pub nextLine : Bench → ℕ
+nextLine b = (b .number + 1) % 18446744073709551616
+
+abbrev pub prints : Bench → Tag → List ℕ → List ℕ → Printed
+prints b t m a = record { bench = record { tag = t; number = nextLine b }; memory = m; text = lineText (nextLine b) a }
+
+-- a call with a reply buffer of 643 zeros
+abbrev pub calls : Bench → List ℕ → ℕ → ℕ → List ℕ → Printed
+calls b m code value s =
+    let e = stepOf (b .tag) m (replicate replyBytes 0) code value s in
+    prints b (e .tag) (e .memory) (answerText (e .answer) (e .reply))
+
+-- the program adds a frame's CRC
+unfoldable pub saidOf : Said → Bench → List ℕ → Printed
+saidOf bad b m = prints b (b .tag) m badText
+saidOf (signal code value) b m = calls b m code value []
+saidOf (frame s) b m = calls b m 8 0 (closed s)
+
+-- the line s
+unfoldable pub benchOf : Bench → List ℕ → List ℕ → Printed
+benchOf b m s = saidOf (lineOf s) b m
+
+-- ---- what the program's function leaves of both lent buffers: the text stands in `buffer` from place 0 on
+pub record Shown : Type 0 where
+  pub bench : Bench
+  pub length : ℕ
+  pub memory : List ℕ
+  pub buffer : List ℕ
+
+abbrev pub shown : Bench → ℕ → List ℕ → List ℕ → Shown
+shown b n m o = record { bench = b; length = n; memory = m; buffer = o }
+
+abbrev pub show : Printed → List ℕ → Shown
+show p o = shown (p .bench) (size (p .text)) (p .memory) (sets o 0 (p .text))
+
+-- the start: "fresh with UID 01 02 03 04 05 24 02 E0", before line 1
+pub record Begun : Type 0 where
+  pub bench : Bench
+  pub memory : List ℕ
+
+abbrev pub begun : Bench → List ℕ → Begun
+begun b m = record { bench = b; memory = m }
+
+unfoldable pub startOf : List ℕ → Begun
+startOf m =
+    let e = freshOf benchUid m in
+    begun (record { tag = e .tag; number = 0 }) (e .memory)

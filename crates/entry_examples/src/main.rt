@@ -260,8 +260,8 @@ fn lines(s: &[u8], m: &mut [u8], out: &mut [u8], bytes: &mut [u8]) {
 fn main() {
     let mut input = io::large_buffer();
     let n = io::read_full(0, &mut input);
-    let mut m = [0u8; 1100];
-    let mut out = [0u8; 700];
+    let mut m = [0u8; MEMORY];
+    let mut out = [0u8; REPLY];
     let mut bytes = [0u8; 1103];
     lines(&input[0..n], &mut m, &mut out, &mut bytes);
 }

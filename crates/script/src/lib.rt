@@ -9,7 +9,7 @@ ghost use Prim.Native.Nat.{_≤_};
 ghost use lib.ListN.{length};
 ghost use Rattle.crc.specs.Crc.{closed};
 ghost use Rattle.script.specs.Hex.{allHex, hexBytes};
-ghost use Rattle.script.specs.Bench.{begun, startOf, shown, show, calls, benchOf};
+ghost use Rattle.script.specs.Bench.{begun, startOf, nextLine, shown, show, calls, benchOf};
 use reading::Reading;
 use tag::Tag;
 use tag::Uid;
@@ -39,6 +39,13 @@ pub fn start(m: &mut [u8]) -> Bench
     Bench { tag, number: 0 }
 }
 
+// The number of the next line.
+fn next_line(b: Bench) -> u64
+    ensures { λ r. ⌜ r ≡ nextLine b ⌝ }
+{
+    std::num::wrapping_add_u64(b.number, 1)
+}
+
 // A call, and its answer's line.
 fn call(b: Bench, m: &mut [u8], code: u8, value: u16, frame: &[u8], text: &mut [u8]) -> Outcome
     ensures { λ r. ⌜ shown (r .bench) (r .length) (now (m .exit)) (now (text .exit)) ≡ show (calls b (now (m .entry)) code value (now (frame .entry))) (now (text .entry)) ⌝ }
@@ -48,7 +55,7 @@ fn call(b: Bench, m: &mut [u8], code: u8, value: u16, frame: &[u8], text: &mut [
     let o = model::step(t, m, &mut out, code, value, frame);
     let answer = o.answer;
     let tag = o.tag;
-    let number = std::num::wrapping_add_u64(b.number, 1);
+    let number = next_line(b);
     let length = text::put_line(text, number, answer, &out);
     Outcome {
         bench: Bench { tag, number },
@@ -76,7 +83,7 @@ pub fn line(b: Bench, m: &mut [u8], s: &[u8], text: &mut [u8]) -> Outcome
     match reading::read(s) {
         Reading::Bad => {
             let tag = b.tag;
-            let number = std::num::wrapping_add_u64(b.number, 1);
+            let number = next_line(b);
             let length = text::put_bad(text, number);
             Outcome {
                 bench: Bench { tag, number },

@@ -9,8 +9,8 @@ slice-aggregate-step c = search needs
 step-requires : tie.Need-step-requires
 step-requires c κs = search needs
 
-wrapping-add-u64-requires : tie.Need-wrapping-add-u64-requires
-wrapping-add-u64-requires c κs = search needs
+next-line-requires : tie.Need-next-line-requires
+next-line-requires c κs = search needs
 
 slice-aggregate-put-line : tie.Need-slice-aggregate-put-line
 slice-aggregate-put-line c = search needs
@@ -25,7 +25,7 @@ same-length-2 : tie.Need-same-length-2
 same-length-2 c = search needs
 
 returns : tie.Need-returns
-returns c = rw (← c .before .before .before .before .before .before .before .before .before .before .step .ensures, c .before .before .put-line .ensures .1, c .before .before .put-line .ensures .0, c .before .before .before .before .before .wrapping-add-u64 .ensures)
+returns c = rw (← c .before .before .before .before .before .before .before .before .before .before .step .ensures, c .before .before .put-line .ensures .1, c .before .before .put-line .ensures .0, c .before .before .before .before .before .next-line .ensures)
 
 pub call-spec : {M : Type 1} → statement M
 call-spec =
@@ -33,7 +33,7 @@ call-spec =
     (tie.spec
     slice-aggregate-step
     step-requires
-    wrapping-add-u64-requires
+    next-line-requires
     slice-aggregate-put-line
     put-line-requires
     same-length

@@ -29,8 +29,8 @@ read-requires c κs = search needs
 enum-told : tie.Need-enum-told
 enum-told c = search needs
 
-wrapping-add-u64-requires : tie.Need-wrapping-add-u64-requires
-wrapping-add-u64-requires c κs = search needs
+next-line-requires : tie.Need-next-line-requires
+next-line-requires c κs = search needs
 
 put-bad-requires : tie.Need-put-bad-requires
 put-bad-requires c κs = search needs
@@ -76,7 +76,7 @@ returns : tie.Need-returns
 unfolding benchOf saidOf saidBy
 returns c =
     let e : lineOf (c .before .before .before .before .before .before .before .before .before .before .before .before .args .s .now) ≡ bad = said _ _ _ (c .before .before .before .before .before .before .before .before .read .ensures) (c .before .before .before .before .before .before .enum-told .given .1) in
-    rw (e, c .before .before .put-bad .ensures .1, c .before .before .put-bad .ensures .0, c .before .before .before .before .wrapping-add-u64 .ensures)
+    rw (e, c .before .before .put-bad .ensures .1, c .before .before .put-bad .ensures .0, c .before .before .before .before .next-line .ensures)
 
 same-length-2 : tie.Need-same-length-2
 same-length-2 c = search needs
@@ -111,7 +111,7 @@ line-spec =
     (tie.spec
     read-requires
     enum-told
-    wrapping-add-u64-requires
+    next-line-requires
     put-bad-requires
     enum-known-code
     sub-call

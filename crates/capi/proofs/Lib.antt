@@ -1,0 +1,5 @@
+pub mod Narrow
+pub mod Fit
+pub mod Refusals
+pub mod Tags
+pub mod Calls

@@ -1,0 +1,109 @@
+-- A refusal leaves every lent byte. Assumes nothing.
+use mathlib.Core.Path.{_≡_, refl, sym, _∙_}
+use mathlib.Core.Bool.{true, false, false≢true}
+use mathlib.Core.List.{List}
+use Prim.Native.Nat.{ℕ, _<_}
+use native.Mathlib.Omega.{arith}
+use Rattle.parts.specs.Pick.{pick}
+use Rattle.parts.proofs.Picks.{pick-case}
+use Rattle.tag.specs.declared.Tag.{Tag}
+use Rattle.tag.specs.declared.Uid.{Uid}
+use Rattle.tag.specs.Keys.{uidAt}
+use Rattle.state.specs.Layout.{tagOf}
+use Rattle.wire.specs.declared.Answer.{Answer as WireAnswer}
+use Rattle.wire.specs.declared.Answer.the-variants.{Nothing as WireNothing, Ack as WireAck, NoAck as WireNoAck, Byte as WireByte}
+use Rattle.wire.specs.Signal.{signalOf}
+use Rattle.reply.specs.Reply.{Said, nothing, body, answerOf}
+use Rattle.radio.specs.Radio.{radioOf}
+use Rattle.model.specs.declared.Answer.{Answer}
+use Rattle.model.specs.declared.Answer.the-variants.{Refused, Nothing, Ack, NoAck, Byte, Silence, Reply}
+use Rattle.model.specs.declared.Signal.{Signal}
+use Rattle.model.specs.declared.Signal.the-variants.{Wire, Field, Frame}
+use Rattle.model.specs.Signals.{signalBy}
+use Rattle.model.specs.Step.{Ended, Left, fromWire, fromRadio, radioSide, wireSide, transferOpen, actOf, stepOf, freshOf}
+use Rattle.capi.specs.Interface.{answerNumber, isRefused, stateAfter, Called, called, stepCall, Made, made, freshCall}
+use Rattle.capi.specs.Claims.{RefusedStepKeeps, RefusedFreshKeeps}
+
+-- a number below 0x100 is a refusal's
+number-refused : (a : Answer) → answerNumber a < 0x100 → isRefused a ≡ true
+unfolding answerNumber isRefused
+number-refused (Refused n) h = refl
+number-refused Nothing h = absurd (omega arith)
+number-refused Ack h = absurd (omega arith)
+number-refused NoAck h = absurd (omega arith)
+number-refused (Byte x) h = absurd (omega arith)
+number-refused Silence h = absurd (omega arith)
+number-refused (Reply n) h = absurd (omega arith)
+
+-- ---- what is served is not refused
+wire-served : (a : WireAnswer) → isRefused (fromWire a) ≡ false
+unfolding isRefused fromWire
+wire-served WireNothing = refl
+wire-served WireAck = refl
+wire-served WireNoAck = refl
+wire-served (WireByte x) = refl
+
+radio-served : (r : Said) → isRefused (fromRadio (answerOf r)) ≡ false
+unfolding isRefused fromRadio answerOf
+radio-served nothing = refl
+radio-served (body b) = refl
+
+act-served : (x : Signal) (t : Tag) (m o f : List ℕ) → isRefused (actOf x t m o f .answer) ≡ false
+unfolding actOf isRefused
+act-served (Wire x) t m o f = wire-served (signalOf (wireSide t) (t .uid) m x .answer)
+act-served (Field on) t m o f = refl
+act-served Frame t m o f = radio-served (radioOf (radioSide t) (t .uid) (t .host .vcc) (transferOpen t) (t .host .programming) m f .reply)
+
+-- ---- one call
+abbrev Keeps : List ℕ → List ℕ → Ended → Type 0
+Keeps m o e = isRefused (e .answer) ≡ true → (e .memory ≡ m) × (e .reply ≡ o)
+
+step-keeps : (t : Tag) (m o : List ℕ) (code value : ℕ) (f : List ℕ) → Keeps m o (stepOf t m o code value f)
+unfolding stepOf
+step-keeps t m o code value f =
+    pick-case (Keeps m o) _ _ _ (λ _ _. (refl, refl))
+    (λ _. pick-case (Keeps m o) _ _ _ (λ _ _. (refl, refl))
+    (λ _. pick-case (Keeps m o) _ _ _ (λ _ _. (refl, refl))
+    (λ _. pick-case (Keeps m o) _ _ _ (λ _ _. (refl, refl))
+    (λ _ r. absurd (false≢true (sym (act-served (signalBy code value) t m o f) ∙ r))))))
+
+abbrev Still : List ℕ → List ℕ → List ℕ → Called → Type 0
+Still s m o c = c .number < 0x100 → c ≡ called (c .number) s m o
+
+stepped : (s m o : List ℕ) (e : Ended) → Keeps m o e
+    → Still s m o (called (answerNumber (e .answer)) (stateAfter s (e .answer) (e .tag)) (e .memory) (e .reply))
+unfolding stateAfter pick
+stepped s m o e k h =
+    let r = number-refused (e .answer) h in
+    rw (r, k r .0, k r .1)
+
+pub refused-step-keeps : RefusedStepKeeps
+unfolding stepCall
+refused-step-keeps s m o code value f =
+    pick-case (Still s m o) _ _ _ (λ _ _. refl)
+    (λ _. pick-case (Still s m o) _ _ _ (λ _ _. refl)
+    (λ _. stepped s m o (stepOf (tagOf s) m o code value f) (step-keeps (tagOf s) m o code value f)))
+
+-- ---- the fresh tag
+abbrev KeepsMemory : List ℕ → Left → Type 0
+KeepsMemory m e = isRefused (e .answer) ≡ true → e .memory ≡ m
+
+fresh-keeps : (u : Uid) (m : List ℕ) → KeepsMemory m (freshOf u m)
+unfolding freshOf isRefused
+fresh-keeps u m = pick-case (KeepsMemory m) _ _ _ (λ _ _. refl) (λ _ r. absurd (false≢true r))
+
+abbrev StillMade : List ℕ → List ℕ → Made → Type 0
+StillMade s m c = c .number < 0x100 → c ≡ made (c .number) s m
+
+freshly : (s m : List ℕ) (e : Left) → KeepsMemory m e
+    → StillMade s m (made (answerNumber (e .answer)) (stateAfter s (e .answer) (e .tag)) (e .memory))
+unfolding stateAfter pick
+freshly s m e k h =
+    let r = number-refused (e .answer) h in
+    rw (r, k r)
+
+pub refused-fresh-keeps : RefusedFreshKeeps
+unfolding freshCall
+refused-fresh-keeps u m s =
+    pick-case (StillMade s m) _ _ _ (λ _ _. refl)
+    (λ _. pick-case (StillMade s m) _ _ _ (λ _ _. refl) (λ _. freshly s m (freshOf (uidAt u 0) m) (fresh-keeps (uidAt u 0) m)))

@@ -1,0 +1,94 @@
+use native.Mathlib.Omega.{arith}
+use Rattle.capi.proofs.Fit.{short}
+use Rattle.capi.specs.Interface.{answerNumber}
+use borrow.Author.Needs.{needs}
+use Rattle.capi.proofs.answer_number.Statement.{statement}
+use Rattle.capi.proofs.answer_number.Tie as tie
+
+enum-known-a : tie.Need-enum-known-a
+enum-known-a c = search needs
+
+cast-result : tie.Need-cast-result
+cast-result c = search needs
+
+enum-told : tie.Need-enum-told
+enum-told c = search needs
+
+enum-told-2 : tie.Need-enum-told-2
+enum-told-2 c = search needs
+
+enum-told-3 : tie.Need-enum-told-3
+enum-told-3 c = search needs
+
+enum-known-a-2 : tie.Need-enum-known-a-2
+enum-known-a-2 c = search needs
+
+cast-result-2 : tie.Need-cast-result-2
+cast-result-2 c = search needs
+
+add-result : tie.Need-add-result
+add-result c = search needs
+
+enum-told-4 : tie.Need-enum-told-4
+enum-told-4 c = search needs
+
+enum-known-a-3 : tie.Need-enum-known-a-3
+enum-known-a-3 c = search needs
+
+cast-result-3 : tie.Need-cast-result-3
+cast-result-3 c = omega (arith, short (c .before .before .before .args .a) _ (c .before .a3 .given .1) (c .before .before .before .pre))
+
+add-result-2 : tie.Need-add-result-2
+add-result-2 c = omega (arith, short (c .before .before .before .args .a) _ (c .before .a3 .given .1) (c .before .before .before .pre))
+
+returns : tie.Need-returns
+unfolding answerNumber
+returns c = rw (c .before .a .given .1)
+
+returns-2 : tie.Need-returns-2
+unfolding answerNumber
+returns-2 c = rw (c .enum-told .given .1)
+
+returns-3 : tie.Need-returns-3
+unfolding answerNumber
+returns-3 c = rw (c .enum-told2 .given .1)
+
+returns-4 : tie.Need-returns-4
+unfolding answerNumber
+returns-4 c = rw (c .enum-told3 .given .1)
+
+returns-5 : tie.Need-returns-5
+unfolding answerNumber
+returns-5 c = rw (c .before .a2 .given .1)
+
+returns-6 : tie.Need-returns-6
+unfolding answerNumber
+returns-6 c = rw (c .enum-told4 .given .1)
+
+returns-7 : tie.Need-returns-7
+unfolding answerNumber
+returns-7 c = rw (c .before .a3 .given .1)
+
+pub answer-number-spec : {M : Type 1} → statement M
+answer-number-spec =
+    tie.close
+    (tie.spec
+    enum-known-a
+    cast-result
+    enum-told
+    enum-told-2
+    enum-told-3
+    enum-known-a-2
+    cast-result-2
+    add-result
+    enum-told-4
+    enum-known-a-3
+    cast-result-3
+    add-result-2
+    returns
+    returns-2
+    returns-3
+    returns-4
+    returns-5
+    returns-6
+    returns-7)

@@ -1,0 +1,56 @@
+use mathlib.Core.Path.{ap, _∙_}
+use borrow.Author.Tests.{eq-eqb}
+use Rattle.model.specs.Step.{Left, left}
+use Rattle.capi.specs.Interface.{replyFits, freshCall}
+use Rattle.capi.proofs.Fit.{fresh-fits}
+use Rattle.capi.proofs.Calls.{freshened}
+use Rattle.parts.proofs.Picks.{picks}
+use borrow.Author.Needs.{needs}
+use Rattle.capi.proofs.st25dv_fresh.Statement.{statement}
+use Rattle.capi.proofs.st25dv_fresh.Tie as tie
+
+returns : tie.Need-returns
+unfolding freshCall
+returns c = search picks depth 20
+
+returns-2 : tie.Need-returns-2
+unfolding freshCall
+returns-2 c = search picks depth 20
+
+at-requires : tie.Need-at-requires
+at-requires c κs = search needs
+
+fresh-requires : tie.Need-fresh-requires
+fresh-requires c κs = search needs
+
+keep-requires : tie.Need-keep-requires
+keep-requires c κs = search needs
+
+answer-number-requires : tie.Need-answer-number-requires
+answer-number-requires c κs = ap (λ (e : Left). replyFits (e .answer)) (c .before .before .before .before .before .before .fresh .ensures) ∙ fresh-fits _ _
+
+same-length : tie.Need-same-length
+same-length c = search needs
+
+same-length-2 : tie.Need-same-length-2
+same-length-2 c = search needs
+
+returns-3 : tie.Need-returns-3
+returns-3 c =
+    let a = c .before .before .before .before .before .before .before .before .before .before .before .before .before .before .before .args in
+    let o = c .before .before .before .before .before .before .before in
+    freshened (a .uid .now) (a .m .now) (a .s .now) (left (o .fresh .result .answer) (o .fresh .result .tag) (o .fresh .last .1 .0)) (c .answer-number .result) (c .before .before .before .keep .last .1 .0) (eq-eqb _ 83 (c .before .before .before .before .before .before .before .before .before .before .before .if1 .left)) (eq-eqb _ 8 (c .before .before .before .before .before .before .before .before .before .before .if2 .left)) (o .fresh .ensures ∙ rw (c .before .before .before .before .before .before .before .before .before .at .ensures)) (c .answer-number .ensures) (c .before .before .before .keep .ensures)
+
+pub st25dv-fresh-spec : {M : Type 1} → statement M
+st25dv-fresh-spec =
+    tie.close
+    (tie.spec
+    returns
+    returns-2
+    at-requires
+    fresh-requires
+    keep-requires
+    answer-number-requires
+    same-length
+    same-length-2
+    returns-3)

@@ -1,0 +1,162 @@
+// The tag for programs in C and Rust: two functions over numbers and lent bytes. Nothing here relies on a check by the caller.
+ghost use mathlib.Core.Path.{_≡_};
+ghost use mathlib.Core.Bool.{true};
+ghost use lib.ListN.{length};
+ghost use Rattle.parts.specs.Pick.{pick};
+ghost use Rattle.state.specs.Layout.{stateBytes};
+ghost use Rattle.model.specs.Signals.{topValue, signalInRange};
+ghost use Rattle.capi.specs.Interface.{answerNumber, isRefused, replyFits, stateAfter, undecoded, called, stepCall, made, freshCall};
+use model::Answer;
+use model::Outcome;
+use tag::Uid;
+
+// The state buffer has not its 83 bytes.
+pub const STATE_LENGTH: u32 = 13;
+
+// The UID has not its 8 bytes.
+pub const UID_LENGTH: u32 = 14;
+
+// ---- the signal's code and value, 32 bits wide
+fn top_value(code: u32) -> u32
+    ensures { λ r. ⌜ r ≡ topValue code ⌝ }
+{
+    if code == 4 {
+        return 255;
+    }
+    if (code == 1) | (code == 2) | (code == 5) {
+        return 1;
+    }
+    0
+}
+
+fn signal_in_range(code: u32, value: u32) -> bool
+    ensures { λ r. ⌜ r ≡ signalInRange code value ⌝ }
+{
+    (1 <= code) & (code <= 8) & (value <= top_value(code))
+}
+
+// The code at the model's width; 0, which is none, for a signal that is unknown.
+fn narrow_code(code: u32, value: u32) -> u8
+    ensures { λ r. ⌜ r ≡ pick (signalInRange code value) code 0 ⌝ }
+{
+    if signal_in_range(code, value) {
+        return code as u8;
+    }
+    0
+}
+
+fn narrow_value(code: u32, value: u32) -> u16
+    ensures { λ r. ⌜ r ≡ pick (signalInRange code value) value 0 ⌝ }
+{
+    if signal_in_range(code, value) {
+        return value as u16;
+    }
+    0
+}
+
+// ---- the answers
+fn is_refused(a: Answer) -> bool
+    ensures { λ r. ⌜ r ≡ isRefused a ⌝ }
+{
+    match a {
+        Answer::Refused(n) => true,
+        Answer::Nothing => false,
+        Answer::Ack => false,
+        Answer::NoAck => false,
+        Answer::Byte(x) => false,
+        Answer::Silence => false,
+        Answer::Reply(n) => false,
+    }
+}
+
+fn answer_number(a: Answer) -> u32
+    requires { ⌜ replyFits a ≡ true ⌝ }
+    ensures { λ r. ⌜ r ≡ answerNumber a ⌝ }
+{
+    match a {
+        Answer::Refused(n) => n as u32,
+        Answer::Nothing => 0x100,
+        Answer::Ack => 0x101,
+        Answer::NoAck => 0x102,
+        Answer::Byte(x) => 0x200 + x as u32,
+        Answer::Silence => 0x103,
+        Answer::Reply(n) => 0x1000 + n as u32,
+    }
+}
+
+// Stores the next state, unless the call was refused.
+fn keep(o: Outcome, s: &mut [u8])
+    requires { ⌜ length (now s) ≡ stateBytes ⌝ }
+    ensures { λ _. ⌜ now (s .exit) ≡ stateAfter (now (s .entry)) (o .answer) (o .tag) ⌝ }
+{
+    let answer = o.answer;
+    if !is_refused(answer) {
+        state::encode(o.tag, s);
+    }
+}
+
+// The refusal of a state that does not decode.
+fn undecoded(m: &[u8], out: &[u8], code: u32, value: u32) -> u32
+    ensures { λ r. ⌜ r ≡ undecoded (now (m .entry)) (now (out .entry)) code value ⌝ }
+{
+    if m.len() != tag::MEMORY_BYTES {
+        return 1;
+    }
+    if out.len() < tag::REPLY_BYTES {
+        return 2;
+    }
+    if !signal_in_range(code, value) {
+        return 3;
+    }
+    4
+}
+
+// ---- the exported functions
+// One call: the state's 83 bytes, the memory, the reply buffer, a signal's code and value, and a frame.
+#[no_mangle]
+pub extern "C" fn st25dv_step(
+    s: &mut [u8],
+    m: &mut [u8],
+    out: &mut [u8],
+    code: u32,
+    value: u32,
+    frame: &[u8],
+) -> u32
+    ensures { λ r. ⌜ called r (now (s .exit)) (now (m .exit)) (now (out .exit)) ≡ stepCall (now (s .entry)) (now (m .entry)) (now (out .entry)) code value (now (frame .entry)) ⌝ }
+{
+    if s.len() != state::STATE_BYTES {
+        return STATE_LENGTH;
+    }
+    if !state::decodes(s) {
+        return undecoded(m, out, code, value);
+    }
+    let t = state::decode(s);
+    let o = model::step(
+        t,
+        m,
+        out,
+        narrow_code(code, value),
+        narrow_value(code, value),
+        frame,
+    );
+    keep(o, s);
+    let answer = o.answer;
+    answer_number(answer)
+}
+
+// The fresh tag with a UID; the memory is cleared.
+#[no_mangle]
+pub extern "C" fn st25dv_fresh(uid: &[u8], m: &mut [u8], s: &mut [u8]) -> u32
+    ensures { λ r. ⌜ made r (now (s .exit)) (now (m .exit)) ≡ freshCall (now (uid .entry)) (now (m .entry)) (now (s .entry)) ⌝ }
+{
+    if s.len() != state::STATE_BYTES {
+        return STATE_LENGTH;
+    }
+    if uid.len() != 8 {
+        return UID_LENGTH;
+    }
+    let o = model::fresh(Uid::at(uid, 0), m);
+    keep(o, s);
+    let answer = o.answer;
+    answer_number(answer)
+}

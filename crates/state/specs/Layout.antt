@@ -1,0 +1,209 @@
+-- The tag's state as 83 bytes. Of each part: its bytes; the part that stands at a place; and, where not every byte will do, whether bytes at a place are one.
+-- Byte i of a part that stands at place `at` is at + i.
+use mathlib.Core.Bool.{Bool, _&&_, _||_}
+use mathlib.Core.List.{List, [], _∷_, _++_}
+use Prim.Native.Nat.{ℕ, _+_, _*_, _/_, _%_}
+use lib.Dec.{leb, eqb}
+use lib.ListN.{length, getD}
+use Rattle.parts.specs.Pick.{pick}
+use Rattle.registers.specs.declared.Registers.{Registers}
+use Rattle.tag.specs.declared.RadioState.{RadioState}
+use Rattle.tag.specs.declared.RadioState.the-variants.{Ready, Quiet, Selected}
+use Rattle.tag.specs.declared.Air.{Air}
+use Rattle.tag.specs.declared.Mailbox.{Mailbox}
+use Rattle.tag.specs.declared.Passwords.{Passwords}
+use Rattle.tag.specs.declared.Space.{Space}
+use Rattle.tag.specs.declared.Space.the-variants.{User, System}
+use Rattle.tag.specs.declared.Bus.{Bus}
+use Rattle.tag.specs.declared.Bus.the-variants.{Idle, Started, ReadLeg, WriteLeg, LowAddress, DataLeg}
+use Rattle.tag.specs.declared.Host.{Host}
+use Rattle.tag.specs.declared.Tag.{Tag}
+use Rattle.tag.specs.Keys.{passwordAt, uidAt}
+
+-- "there are 83 of them"
+abbrev pub stateBytes : ℕ
+stateBytes = 83
+
+-- ---- numbers
+-- "0 or 1"
+unfoldable pub flagByte : Bool → ℕ
+flagByte b = pick b 1 0
+
+abbrev pub isFlag : ℕ → Bool
+isFlag x = leb x 1
+
+abbrev pub flagOf : ℕ → Bool
+flagOf x = eqb x 1
+
+-- "low byte first"
+abbrev pub lowByte : ℕ → ℕ
+lowByte n = n % 256
+
+abbrev pub highByte : ℕ → ℕ
+highByte n = n / 256
+
+abbrev pub wordOf : ℕ → ℕ → ℕ
+wordOf low high = low + high * 256
+
+-- "radio state: 0 Ready, 1 Quiet, 2 Selected"
+unfoldable pub radioNumber : RadioState → ℕ
+radioNumber Ready = 0
+radioNumber Quiet = 1
+radioNumber Selected = 2
+
+unfoldable pub radioStateOf : ℕ → RadioState
+radioStateOf n = pick (eqb n 1) Quiet (pick (eqb n 2) Selected Ready)
+
+-- "space of the leg: 0 user, 1 system"
+unfoldable pub spaceNumber : Space → ℕ
+spaceNumber User = 0
+spaceNumber System = 1
+
+unfoldable pub spaceOf : ℕ → Space
+spaceOf n = pick (eqb n 1) System User
+
+-- ---- places 0 to 2: field, radio state, radio session
+unfoldable pub airBytes : Air → List ℕ
+airBytes a = flagByte (a .field) ∷ radioNumber (a .radio) ∷ a .session ∷ []
+
+unfoldable pub airDecodes : List ℕ → ℕ → Bool
+airDecodes s at = isFlag (getD s (at + 0) 0) && leb (getD s (at + 1) 0) 2
+
+unfoldable pub airAt : List ℕ → ℕ → Air
+airAt s at = record { field = flagOf (getD s (at + 0) 0); radio = radioStateOf (getD s (at + 1) 0); session = getD s (at + 2) 0 }
+
+-- ---- places 8 to 14: the bus
+-- "bus: 0 idle, 1 started, 2 read leg, 3 write leg before its address, 4 write leg after the high address byte, 5 write leg past its address"; "space of the leg";
+-- "bus 1: transfer open; bus 2: the host has NoAcked; bus 5: the leg is spoiled"; "bus 2: the last byte of an RF message was fetched"; "bus 4: the high address byte"; "bus 5: page bytes, low byte first"
+unfoldable pub busBytes : Bus → List ℕ
+busBytes Idle = 0 ∷ 0 ∷ 0 ∷ 0 ∷ 0 ∷ 0 ∷ 0 ∷ []
+busBytes (Started open-) = 1 ∷ 0 ∷ flagByte open- ∷ 0 ∷ 0 ∷ 0 ∷ 0 ∷ []
+busBytes (ReadLeg space over last) = 2 ∷ spaceNumber space ∷ flagByte over ∷ flagByte last ∷ 0 ∷ 0 ∷ 0 ∷ []
+busBytes (WriteLeg space) = 3 ∷ spaceNumber space ∷ 0 ∷ 0 ∷ 0 ∷ 0 ∷ 0 ∷ []
+busBytes (LowAddress space high) = 4 ∷ spaceNumber space ∷ 0 ∷ 0 ∷ high ∷ 0 ∷ 0 ∷ []
+busBytes (DataLeg space count spoiled) = 5 ∷ spaceNumber space ∷ flagByte spoiled ∷ 0 ∷ 0 ∷ lowByte count ∷ highByte count ∷ []
+
+-- "every byte of 9 to 14 that the bus does not use is 0"
+abbrev pub usedOr0 : Bool → ℕ → Bool
+usedOr0 used x = used || eqb x 0
+
+-- the seven bytes are a bus
+unfoldable pub isBus : ℕ → ℕ → ℕ → ℕ → ℕ → ℕ → ℕ → Bool
+isBus kind space flag last high low top =
+    leb kind 5
+    && (isFlag space && usedOr0 (leb 2 kind) space)
+    && (isFlag flag && usedOr0 (eqb kind 1 || eqb kind 2 || eqb kind 5) flag)
+    && (isFlag last && usedOr0 (eqb kind 2) last)
+    && usedOr0 (eqb kind 4) high
+    && usedOr0 (eqb kind 5) low
+    && usedOr0 (eqb kind 5) top
+
+-- the bus of a kind
+unfoldable pub busOf : ℕ → Space → Bool → Bool → ℕ → ℕ → Bus
+busOf kind space flag last high count =
+    pick (eqb kind 1) (Started flag)
+    (pick (eqb kind 2) (ReadLeg space flag last)
+    (pick (eqb kind 3) (WriteLeg space)
+    (pick (eqb kind 4) (LowAddress space high)
+    (pick (eqb kind 5) (DataLeg space count flag)
+    Idle))))
+
+unfoldable pub busDecodes : List ℕ → ℕ → Bool
+busDecodes s at =
+    isBus (getD s (at + 0) 0) (getD s (at + 1) 0) (getD s (at + 2) 0) (getD s (at + 3) 0) (getD s (at + 4) 0) (getD s (at + 5) 0) (getD s (at + 6) 0)
+
+unfoldable pub busAt : List ℕ → ℕ → Bus
+busAt s at =
+    busOf (getD s (at + 0) 0) (spaceOf (getD s (at + 1) 0)) (flagOf (getD s (at + 2) 0)) (flagOf (getD s (at + 3) 0)) (getD s (at + 4) 0)
+    (wordOf (getD s (at + 5) 0) (getD s (at + 6) 0))
+
+-- ---- places 3 to 14: VCC, I2C session open, programming under way, address counter low byte first, the bus
+unfoldable pub hostBytes : Host → List ℕ
+hostBytes h =
+    flagByte (h .vcc) ∷ flagByte (h .session) ∷ flagByte (h .programming) ∷ lowByte (h .counter) ∷ highByte (h .counter) ∷ busBytes (h .bus)
+
+unfoldable pub hostDecodes : List ℕ → ℕ → Bool
+hostDecodes s at =
+    isFlag (getD s (at + 0) 0) && isFlag (getD s (at + 1) 0) && isFlag (getD s (at + 2) 0) && busDecodes s (at + 5)
+
+unfoldable pub hostAt : List ℕ → ℕ → Host
+hostAt s at =
+    record {
+      vcc = flagOf (getD s (at + 0) 0);
+      session = flagOf (getD s (at + 1) 0);
+      programming = flagOf (getD s (at + 2) 0);
+      counter = wordOf (getD s (at + 3) 0) (getD s (at + 4) 0);
+      bus = busAt s (at + 5);
+    }
+
+-- ---- places 15 to 27: "RF_MNGT, RF_MNGT_Dyn, RFA1SS, ENDA1, RFA2SS, ENDA2, RFA3SS, ENDA3, RFA4SS, I2CSS, LOCK_CCFILE, MB_MODE, LOCK_CFG"
+unfoldable pub registerBytes : Registers → List ℕ
+registerBytes r =
+    r .mngt .bits ∷ r .dynamic .bits
+    ∷ r .security .area1 .bits ∷ r .ends .end1 .bits ∷ r .security .area2 .bits ∷ r .ends .end2 .bits
+    ∷ r .security .area3 .bits ∷ r .ends .end3 .bits ∷ r .security .area4 .bits
+    ∷ r .i2css .bits ∷ r .ccfile .bits ∷ r .mode .bits ∷ r .config .bits ∷ []
+
+unfoldable pub registersAt : List ℕ → ℕ → Registers
+registersAt s at =
+    record {
+      mngt = record { bits = getD s (at + 0) 0 };
+      dynamic = record { bits = getD s (at + 1) 0 };
+      security = record { area1 = record { bits = getD s (at + 2) 0 }; area2 = record { bits = getD s (at + 4) 0 }; area3 = record { bits = getD s (at + 6) 0 }; area4 = record { bits = getD s (at + 8) 0 } };
+      ends = record { end1 = record { bits = getD s (at + 3) 0 }; end2 = record { bits = getD s (at + 5) 0 }; end3 = record { bits = getD s (at + 7) 0 } };
+      i2css = record { bits = getD s (at + 9) 0 };
+      ccfile = record { bits = getD s (at + 10) 0 };
+      mode = record { bits = getD s (at + 11) 0 };
+      config = record { bits = getD s (at + 12) 0 };
+    }
+
+-- ---- places 28 to 34: "MB_EN, HOST_PUT, RF_PUT, HOST_CURRENT, RF_CURRENT", "message length, low byte first"
+unfoldable pub mailboxBytes : Mailbox → List ℕ
+mailboxBytes m =
+    flagByte (m .enabled) ∷ flagByte (m .host .put) ∷ flagByte (m .rf .put) ∷ flagByte (m .host .current) ∷ flagByte (m .rf .current)
+    ∷ lowByte (m .length) ∷ highByte (m .length) ∷ []
+
+unfoldable pub mailboxDecodes : List ℕ → ℕ → Bool
+mailboxDecodes s at =
+    isFlag (getD s (at + 0) 0) && isFlag (getD s (at + 1) 0) && isFlag (getD s (at + 2) 0) && isFlag (getD s (at + 3) 0) && isFlag (getD s (at + 4) 0)
+
+unfoldable pub mailboxAt : List ℕ → ℕ → Mailbox
+mailboxAt s at =
+    record {
+      enabled = flagOf (getD s (at + 0) 0);
+      host = record { put = flagOf (getD s (at + 1) 0); current = flagOf (getD s (at + 3) 0) };
+      rf = record { put = flagOf (getD s (at + 2) 0); current = flagOf (getD s (at + 4) 0) };
+      length = wordOf (getD s (at + 5) 0) (getD s (at + 6) 0);
+    }
+
+-- ---- places 35 to 74: "I2C password", "passwords 0 to 3, eight bytes each"
+unfoldable pub passwordBytes : Passwords → List ℕ
+passwordBytes p = p .i2c .bytes ++ (p .rf0 .bytes ++ (p .rf1 .bytes ++ (p .rf2 .bytes ++ p .rf3 .bytes)))
+
+unfoldable pub passwordsAt : List ℕ → ℕ → Passwords
+passwordsAt s at =
+    record { rf0 = passwordAt s (at + 8); rf1 = passwordAt s (at + 16); rf2 = passwordAt s (at + 24); rf3 = passwordAt s (at + 32); i2c = passwordAt s (at + 0) }
+
+-- ---- the state; places 75 to 82: "UID, lowest byte first"
+unfoldable pub bytesOf : Tag → List ℕ
+bytesOf t =
+    airBytes (t .air)
+    ++ (hostBytes (t .host)
+    ++ (registerBytes (t .core .registers)
+    ++ (mailboxBytes (t .core .mailbox)
+    ++ (passwordBytes (t .core .passwords)
+    ++ t .uid .bytes))))
+
+-- "Bytes decode to a state exactly when there are 83 of them, the flags are 0 or 1, places 1 and 8 and 9 hold one of their numbers, and every byte of 9 to 14 that the bus does not use is 0."
+unfoldable pub decodes : List ℕ → Bool
+decodes s = eqb (length s) stateBytes && airDecodes s 0 && hostDecodes s 3 && mailboxDecodes s 28
+
+-- the state; where bytes decode to none, some tag
+unfoldable pub tagOf : List ℕ → Tag
+tagOf s =
+    record {
+      air = airAt s 0;
+      host = hostAt s 3;
+      core = record { registers = registersAt s 15; mailbox = mailboxAt s 28; passwords = passwordsAt s 35 };
+      uid = uidAt s 75;
+    }

@@ -1,0 +1,187 @@
+//! One call of the model: refusals, ranges, and the signal itself.
+
+use crate::tag::*;
+use crate::{radio, wire};
+
+// Signal codes, in 01's order.
+pub const VCC: u8 = 0;
+pub const FIELD: u8 = 1;
+pub const START: u8 = 2;
+pub const SEND: u8 = 3;
+pub const FETCH: u8 = 4;
+pub const STOP: u8 = 5;
+pub const PROGRAMMING_END: u8 = 6;
+pub const FRAME: u8 = 7;
+
+/// One signal as it is handed in; `frame` counts for the radio frame only.
+#[derive(Clone, Copy, Debug)]
+pub struct Signal<'a> {
+    pub code: u8,
+    pub value: u16,
+    pub frame: &'a [u8],
+}
+
+#[derive(Clone, Copy, PartialEq, Eq, Debug)]
+pub enum Answer {
+    None,
+    Ack,
+    NoAck,
+    Byte(u8),
+    Silence,
+    /// The reply's length in the lent buffer, CRC included.
+    Reply(usize),
+}
+
+/// 01's four refusals.
+#[derive(Clone, Copy, PartialEq, Eq, Debug)]
+pub enum Refusal {
+    Memory = 1,
+    ReplyBuffer = 2,
+    Signal = 3,
+    Range = 4,
+}
+
+/// 01: "all bytes, registers and passwords 0, ends 0Fh, UID as set, Ready, all supplies off".
+/// The bytes are the caller's 1,024 zeros.
+pub fn fresh(uid: [u8; 8]) -> Tag {
+    Tag {
+        uid,
+        vcc: false,
+        field: false,
+        registers: Registers::fresh(),
+        rf_mngt_dyn: 0,
+        mailbox: Mailbox {
+            control: 0,
+            length: 0,
+        },
+        i2c_password: [0; 8],
+        i2c_session: false,
+        programming: false,
+        counter: 0,
+        bus: Bus::Idle,
+        radio_state: RadioState::Ready,
+        radio_session: 0,
+        radio_passwords: [[0; 8]; 4],
+    }
+}
+
+/// One signal. A refusal leaves the tag and every lent byte as they were.
+pub fn step(
+    tag: &mut Tag,
+    memory: &mut [u8],
+    reply: &mut [u8],
+    signal: Signal,
+) -> Result<Answer, Refusal> {
+    if memory.len() != MEMORY_SIZE {
+        return Err(Refusal::Memory);
+    }
+    if reply.len() < REPLY_SIZE {
+        return Err(Refusal::ReplyBuffer);
+    }
+    if !value_in_range(signal.code, signal.value) {
+        return Err(Refusal::Signal);
+    }
+    if !in_range(tag, memory) {
+        return Err(Refusal::Range);
+    }
+    Ok(act(tag, memory, reply, signal))
+}
+
+/// A level or Ack is 0 or 1, a byte at most FFh, all others have value 0 (reading 31).
+fn value_in_range(code: u8, value: u16) -> bool {
+    match code {
+        VCC | FIELD | FETCH => value <= 1,
+        SEND => value <= 0xFF,
+        START | STOP | PROGRAMMING_END | FRAME => value == 0,
+        _ => false,
+    }
+}
+
+fn act(tag: &mut Tag, memory: &mut [u8], reply: &mut [u8], signal: Signal) -> Answer {
+    let on = signal.value == 1;
+    match signal.code {
+        VCC => wire::vcc(tag, on),
+        FIELD => radio::field(tag, on),
+        START => wire::start(tag),
+        SEND if wire::send(tag, memory, signal.value as u8) => return Answer::Ack,
+        SEND => return Answer::NoAck,
+        FETCH => return Answer::Byte(wire::fetch(tag, memory, on)),
+        STOP => wire::stop(tag, memory),
+        PROGRAMMING_END => wire::programming_end(tag),
+        _ => {
+            return match radio::frame(tag, memory, reply, signal.frame) {
+                Some(length) => Answer::Reply(length),
+                None => Answer::Silence,
+            }
+        }
+    }
+    Answer::None
+}
+
+/// 01, Ranges: all of them.
+pub fn in_range(tag: &Tag, memory: &[u8]) -> bool {
+    tag.radio_session <= 4 && wire_in_range(tag, memory)
+}
+
+/// 01, Ranges: those of registers, mailbox, supplies and bus.
+pub fn wire_in_range(tag: &Tag, memory: &[u8]) -> bool {
+    ends_in_range(&tag.registers.enda)
+        && defined_bits_only(tag)
+        && mailbox_in_range(&tag.mailbox)
+        && supply_in_range(tag)
+        && !(tag.programming && tag.bus.transfer_open())
+        && page_in_range(tag, memory)
+}
+
+/// 01: "Ends rise; two are equal only at 0Fh".
+fn ends_in_range(enda: &[u8; 3]) -> bool {
+    let rise = |low: u8, high: u8| low < high || (low == LAST_END && high == LAST_END);
+    enda[2] <= LAST_END && rise(enda[0], enda[1]) && rise(enda[1], enda[2])
+}
+
+/// 01: "undefined register bits 0".
+fn defined_bits_only(tag: &Tag) -> bool {
+    let registers = &tag.registers;
+    registers.rf_mngt & !defined_bits(RF_MNGT) == 0
+        && tag.rf_mngt_dyn & !defined_bits(RF_MNGT) == 0
+        && registers
+            .rfass
+            .iter()
+            .all(|rfass| rfass & !defined_bits(RFA1SS) == 0)
+        && registers.lock_ccfile & !defined_bits(LOCK_CCFILE) == 0
+        && registers.mb_mode & !defined_bits(MB_MODE) == 0
+        && registers.lock_cfg & !defined_bits(LOCK_CFG) == 0
+        && tag.mailbox.control & !(MB_EN | HOST_PUT | RF_PUT | HOST_CURRENT | RF_CURRENT) == 0
+}
+
+/// 01: at most one CURRENT; a PUT only with its CURRENT; a CURRENT exactly when
+/// length is over 0; length over 0 only with MB_EN; length at most 256.
+fn mailbox_in_range(mailbox: &Mailbox) -> bool {
+    let set = |bit: u8| mailbox.control & bit != 0;
+    !(set(HOST_CURRENT) && set(RF_CURRENT))
+        && (!set(HOST_PUT) || set(HOST_CURRENT))
+        && (!set(RF_PUT) || set(RF_CURRENT))
+        && set(HOST_CURRENT | RF_CURRENT) == (mailbox.length > 0)
+        && (mailbox.length == 0 || mailbox.enabled())
+        && mailbox.length <= 256
+}
+
+/// 01: "MB_EN, I2C session, programming and any bus activity only with VCC".
+fn supply_in_range(tag: &Tag) -> bool {
+    tag.vcc
+        || (!tag.mailbox.enabled() && !tag.i2c_session && !tag.programming && tag.bus == Bus::Idle)
+}
+
+/// 01: "page bytes 0 to 256 .. each one that would be Acked there".
+/// The leg's first address is the counter less the page bytes (reading 29).
+fn page_in_range(tag: &Tag, memory: &[u8]) -> bool {
+    let Bus::Data { space, count, .. } = tag.bus else {
+        return true;
+    };
+    if usize::from(count) > PAGE_SIZE {
+        return false;
+    }
+    let first = tag.counter.wrapping_sub(count);
+    let page = &memory[PAGE_PLACE..PAGE_PLACE + usize::from(count)];
+    (0..page.len()).all(|k| wire::data_acked(tag, space, first, &page[..k], page[k]))
+}

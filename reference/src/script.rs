@@ -1,0 +1,280 @@
+//! Seeded random scripts for the bench program, made to reach deep states.
+//!
+//! The author feeds each line it writes to a bench of its own, the reference, and so knows where
+//! the tag stands: supplies, sessions, ends, passwords, mailbox. Most of what it writes is valid
+//! there; the rest is broken on purpose.
+
+mod frames;
+mod legs;
+mod noise;
+
+use crate::bench::{Bench, LONGEST_LINE};
+use crate::dice::Dice;
+use crate::tag::*;
+use legs::USER_WRITE;
+
+/// A line without its line feed.
+pub type Line = Vec<u8>;
+
+pub struct Script {
+    pub lines: Vec<Line>,
+    /// The last line has a line feed too.
+    pub ended: bool,
+}
+
+/// The lines as the bench program reads them.
+pub fn text(lines: &[Line], ended: bool) -> Vec<u8> {
+    let mut text = lines.join(&b'\n');
+    if ended && !lines.is_empty() {
+        text.push(b'\n');
+    }
+    text
+}
+
+/// The script of a seed, `size` lines long.
+pub fn script(seed: u64, size: usize) -> Script {
+    let mut author = Author::new(seed);
+    author.opening();
+    while author.lines.len() < size {
+        author.act();
+    }
+    author.lines.truncate(size);
+    Script {
+        lines: author.lines,
+        ended: !author.dice.one_in(4),
+    }
+}
+
+/// How rough a seed is: each happens once in so many times, never for 0.
+#[derive(Clone, Copy)]
+struct Roughness {
+    /// Something else before a line of a transfer.
+    disturb: usize,
+    /// A leg that ends before its bytes do.
+    short: usize,
+    /// A transfer not ended by a Stop.
+    broken: usize,
+    /// A frame changed in one place.
+    changed: usize,
+    /// A wrong line after an action.
+    wrong: usize,
+}
+
+const CALM: Roughness = Roughness {
+    disturb: 0,
+    short: 0,
+    broken: 0,
+    changed: 0,
+    wrong: 0,
+};
+
+const ACTIONS: usize = 16;
+
+/// How often each action comes in a scene, in the order of `act`: bytes read and written by wire,
+/// system, dynamic, password and mailbox legs, chains of legs; block, lock, config, message,
+/// password and state frames; supplies, noise, a look.
+const SCENES: [[usize; ACTIONS]; 7] = [
+    [4, 4, 5, 3, 3, 6, 2, 12, 3, 8, 12, 8, 8, 3, 3, 6], // of all
+    [0, 0, 0, 1, 0, 8, 1, 0, 0, 0, 20, 0, 0, 0, 1, 2],  // the mailbox
+    [0, 0, 0, 0, 0, 6, 0, 0, 0, 1, 20, 1, 0, 0, 0, 1],  // the mailbox, undisturbed
+    [2, 1, 2, 0, 0, 0, 0, 16, 3, 6, 0, 6, 0, 0, 0, 2],  // areas and rights
+    [8, 6, 6, 2, 2, 2, 3, 2, 0, 1, 0, 0, 0, 2, 4, 3],   // the wire
+    [0, 0, 0, 2, 0, 0, 0, 4, 1, 0, 0, 1, 16, 2, 1, 2],  // radio states
+    [1, 1, 1, 0, 4, 0, 0, 4, 0, 6, 0, 16, 0, 1, 0, 2],  // passwords
+];
+
+/// Something that brings the tag back to where it answers.
+type Repair = fn(&mut Author);
+
+struct Author {
+    dice: Dice,
+    bench: Bench,
+    lines: Vec<Line>,
+    /// The seed's taste, and what comes of it in the scene.
+    taste: [usize; ACTIONS],
+    weights: [usize; ACTIONS],
+    roughness: Roughness,
+    /// One action in so many is led by a repair.
+    repairs: usize,
+    /// One message or leg in so many is long.
+    long: usize,
+    /// A length that the seed's messages have more often than others.
+    favourite: usize,
+}
+
+impl Author {
+    /// A seed has a taste: some actions often, some never.
+    fn new(seed: u64) -> Author {
+        let mut dice = Dice::new(seed);
+        let taste = [(); ACTIONS].map(|()| dice.pick(&[0, 1, 2, 2, 3, 6]));
+        let roughness = Roughness {
+            disturb: dice.pick(&[0, 200, 60, 20]),
+            short: dice.pick(&[0, 30, 12, 5]),
+            broken: dice.pick(&[0, 30, 12, 5]),
+            changed: dice.pick(&[0, 40, 16, 6]),
+            wrong: dice.pick(&[0, 100, 30, 10]),
+        };
+        let repairs = dice.pick(&[1, 2, 3]);
+        let long = dice.pick(&[0, 80, 30, 12]);
+        let favourite = dice.pick(&[1, 1, 2, 3, 9, 9, 255, 256]);
+        Author {
+            dice,
+            bench: Bench::fresh(),
+            lines: Vec::new(),
+            taste,
+            weights: taste,
+            roughness,
+            repairs,
+            long,
+            favourite,
+        }
+    }
+
+    /// Writes a line and lets the own bench take it; its answer.
+    fn put(&mut self, line: Line) -> Vec<u8> {
+        let mut answer = Vec::new();
+        let taken = (line.len() <= LONGEST_LINE).then_some(&line[..]);
+        let _ = self.bench.answer(taken, &mut answer); // a Vec takes every byte
+        self.lines.push(line);
+        answer
+    }
+
+    /// Does it without any roughness.
+    fn calmly(&mut self, what: impl FnOnce(&mut Author)) {
+        let roughness = std::mem::replace(&mut self.roughness, CALM);
+        what(self);
+        self.roughness = roughness;
+    }
+
+    /// V and F.
+    fn level(&mut self, letter: u8, on: bool) {
+        self.put(vec![letter, b'\t', b'0' + u8::from(on)]);
+    }
+
+    /// Supplies on and bytes in the memory, most of the time.
+    fn opening(&mut self) {
+        if !self.dice.one_in(4) {
+            self.level(b'F', true);
+            self.calmly(Author::fill);
+        }
+        if !self.dice.one_in(6) {
+            self.level(b'V', true);
+        }
+        if self.dice.one_in(2) {
+            self.calmly(Author::lay_out_areas);
+        }
+        self.next_scene();
+    }
+
+    fn next_scene(&mut self) {
+        let scene = self.dice.pick(&SCENES);
+        for (weight, (often, taste)) in self.weights.iter_mut().zip(scene.iter().zip(self.taste)) {
+            *weight = often * taste;
+        }
+    }
+
+    fn act(&mut self) {
+        if self.dice.one_in(16) {
+            self.next_scene();
+        }
+        if self.dice.one_in(self.repairs) {
+            self.calmly(Author::repair);
+        }
+        if self.dice.one_in(self.roughness.wrong) {
+            self.wrong_line();
+        }
+        if !self.dice.one_in(6) {
+            self.settle();
+        }
+        match self.dice.weighted(&self.weights) {
+            0 => self.memory_leg(),
+            1 => self.memory_read(),
+            2 => self.system_leg(),
+            3 => self.dynamic_leg(),
+            4 => self.password_leg(),
+            5 => self.mailbox_leg(),
+            6 => self.chain_of_legs(),
+            7 => self.block_frame(),
+            8 => self.lock_frame(),
+            9 => self.config_frame(),
+            10 => self.message_frame(),
+            11 => self.password_frame(),
+            12 => self.state_frames(),
+            13 => self.supplies(),
+            14 => self.noise(),
+            _ => self.observe(),
+        }
+        if self.dice.one_in(24) {
+            self.frames_in_transfer();
+        }
+    }
+
+    /// Ends what is open and what is programming.
+    fn settle(&mut self) {
+        if self.bench.tag.bus != Bus::Idle {
+            self.put(b"P".to_vec());
+        }
+        if self.bench.tag.programming {
+            self.put(b"D".to_vec());
+        }
+    }
+
+    /// Mends one thing that keeps the tag from answering, some things seldom.
+    fn repair(&mut self) {
+        self.settle();
+        let seldom = self.dice.one_in(8);
+        let tag = &self.bench.tag;
+        let registers = &tag.registers;
+        let mailbox = tag.mailbox.enabled();
+        let system = tag.vcc && !mailbox;
+        let repairs: [(bool, Repair); 8] = [
+            (!tag.vcc, |a| a.level(b'V', true)),
+            (!tag.field, |a| a.level(b'F', true)),
+            (tag.vcc && tag.rf_mngt_dyn != 0, |a| {
+                a.write(USER_WRITE, RF_MNGT_DYN, &[0])
+            }),
+            (system && registers.rf_mngt != 0, |a| {
+                a.write_system(RF_MNGT, &[0])
+            }),
+            (tag.radio_state == RadioState::Quiet, |a| {
+                a.frame_to_own_uid(0x26)
+            }),
+            (seldom && system && registers.lock_ccfile != 0, |a| {
+                a.write_system(LOCK_CCFILE, &[0])
+            }),
+            (seldom && system && registers.lock_cfg != 0, |a| {
+                a.write_system(LOCK_CFG, &[0])
+            }),
+            (seldom && mailbox, |a| {
+                a.write(USER_WRITE, MB_CTRL_DYN, &[0])
+            }),
+        ];
+        let needed = repairs.map(|(needed, _)| usize::from(needed));
+        if needed.contains(&1) {
+            let (_, repair) = repairs[self.dice.weighted(&needed)];
+            repair(self);
+        }
+    }
+
+    /// V and F changed, repeated, put back.
+    fn supplies(&mut self) {
+        let letter = self.dice.pick(b"VF");
+        let on = self.dice.one_in(3);
+        if self.dice.one_in(4) {
+            self.dynamic_leg();
+        }
+        self.level(letter, on);
+        if self.dice.one_in(3) {
+            self.level(letter, on);
+        }
+        if !on && !self.dice.one_in(3) {
+            if self.dice.one_in(2) {
+                self.any_frame();
+            }
+            self.level(letter, true);
+            if self.dice.one_in(2) {
+                self.read_from_counter();
+            }
+        }
+    }
+}

@@ -1,7 +1,8 @@
 -- The CRC of a frame. 01, Frames: "CRC low byte first (ISO/IEC 13239: 8408h, start FFFFh, complemented ..)". One bit at a time.
+use mathlib.Core.Path.{_≡_}
 use mathlib.Core.Bool.{Bool, _&&_}
 use mathlib.Core.List.{List, [], _∷_, _++_}
-use Prim.Native.Nat.{ℕ, zero, suc, _+_, _/_, _%_, _-_}
+use Prim.Native.Nat.{ℕ, zero, suc, _+_, _/_, _%_, _-_, _<_}
 use lib.Bits.{bitXor}
 use lib.Dec.{leb, eqb}
 use lib.ListN.{length, take, getD}
@@ -19,6 +20,10 @@ bit c = shifted (c % 2) (c / 2)
 unfoldable pub bits : ℕ → ℕ → ℕ
 bits zero c = c
 bits (suc n) c = bits n (bit c)
+
+-- "a sixteen-entry table": entry k is the register k after four bits
+abbrev pub remainders : List ℕ → Type 0
+remainders t = (k : ℕ) → k < 16 → getD t k 0 ≡ bits 4 k
 
 -- the register after a byte, and after a list of bytes
 unfoldable pub byte : ℕ → ℕ → ℕ

@@ -1,6 +1,6 @@
 // The CRC of a frame (ISO/IEC 13239), four bits at a time.
 ghost use mathlib.Core.Path.{_≡_};
-ghost use Rattle.crc.specs.Crc.{crcOf, byte, bits, goodFrame, closedAt};
+ghost use Rattle.crc.specs.Crc.{remainders, crcOf, byte, goodFrame, closedAt};
 
 // The register after four bits, for each register below 16.
 const NIBBLES: [u16; 16] = [
@@ -22,31 +22,37 @@ const NIBBLES: [u16; 16] = [
     0xf78f,
 ];
 
-// The register after four bits.
-fn nibble(c: u16) -> u16
-    ensures { λ r. ⌜ r ≡ bits 4 c ⌝ }
-{
-    (c >> 4) ^ NIBBLES[(c % 16) as usize]
-}
-
-// The register after a byte.
-fn feed(c: u16, b: u8) -> u16
+// The register after a byte, whose low four bits go first. An entry's low four bits are its place: so the second
+// entry is known without waiting for the first.
+fn feed(t: &[u16; 16], c: u16, b: u8) -> u16
+    requires { ⌜ remainders (now t) ⌝ }
     ensures { λ r. ⌜ r ≡ byte c b ⌝ }
 {
-    nibble(nibble(c ^ (b as u16)))
+    let v = c ^ (b as u16);
+    let low = t[(v % 16) as usize];
+    let high = t[(((v >> 4) ^ v) % 16) as usize];
+    (v >> 8) ^ (low >> 4) ^ high
 }
 
-// The CRC of a list of bytes.
-pub fn crc(s: &[u8]) -> u16
+fn over(t: &[u16; 16], s: &[u8]) -> u16
+    requires { ⌜ remainders (now t) ⌝ }
     ensures { λ r. ⌜ r ≡ crcOf (now (s .entry)) ⌝ }
 {
     let mut c: u16 = 0xffff;
     let mut i = 0;
     while i < s.len() {
-        c = feed(c, s[i]);
+        c = feed(t, c, s[i]);
         i += 1;
     }
     c ^ 0xffff
+}
+
+// The CRC of a list of bytes. The table is lent, and so not built anew for each byte.
+pub fn crc(s: &[u8]) -> u16
+    ensures { λ r. ⌜ r ≡ crcOf (now (s .entry)) ⌝ }
+{
+    let t = NIBBLES;
+    over(&t, s)
 }
 
 // Whether a frame ends in the CRC of the bytes before.

@@ -1,18 +1,39 @@
-use mathlib.Core.Path.{ap, _∙_}
 use borrow.Author.Needs.{needs}
-use Rattle.crc.specs.Crc.{byte, bits}
+use Rattle.crc.specs.Crc.{bits, byte}
+use Rattle.crc.proofs.Nibbles.{by-two}
 use Rattle.crc.proofs.feed.Statement.{statement}
 use Rattle.crc.proofs.feed.Tie as tie
 
-nibble-requires : tie.Need-nibble-requires
-nibble-requires c κs = search needs
+cast-low : tie.Need-cast-low
+cast-low c = search needs
 
-nibble-requires-2 : tie.Need-nibble-requires-2
-nibble-requires-2 c κs = search needs
+mul-low : tie.Need-mul-low
+mul-low c = search needs
+
+element-copy-out-low : tie.Need-element-copy-out-low
+element-copy-out-low c = search needs
+
+cast-high : tie.Need-cast-high
+cast-high c = search needs
+
+mul-high : tie.Need-mul-high
+mul-high c = search needs
+
+element-copy-out-high : tie.Need-element-copy-out-high
+element-copy-out-high c = search needs
 
 returns : tie.Need-returns
-unfolding byte bits
-returns c = c .nibble2 .ensures ∙ ap (bits 4) (c .before .nibble .ensures)
+unfolding byte
+returns c = search by-two
 
 pub feed-spec : {M : Type 1} → statement M
-feed-spec = tie.close (tie.spec nibble-requires nibble-requires-2 returns)
+feed-spec =
+    tie.close
+    (tie.spec
+    cast-low
+    mul-low
+    element-copy-out-low
+    cast-high
+    mul-high
+    element-copy-out-high
+    returns)

@@ -52,34 +52,23 @@ static void enable_mailbox(void)
 }
 
 /* ---- the till */
-static uint16_t crc(const uint8_t *s, size_t n)
-{
-    uint16_t c = 0xFFFF;
-    size_t i;
-    int bit;
-    for (i = 0; i < n; i++) {
-        c ^= s[i];
-        for (bit = 0; bit < 8; bit++)
-            c = (uint16_t)((c & 1) != 0 ? (c >> 1) ^ 0x8408 : c >> 1);
-    }
-    return (uint16_t)~c;
-}
-
 /* A request, closed with its CRC; the length of the reply without status and CRC, which start at place 1. */
 static size_t ask(const uint8_t *request, size_t n)
 {
     uint8_t frame[16];
     uint32_t a;
-    uint16_t c = crc(request, n);
+    size_t end;
+    uint16_t c = st25dv_crc(request, n);
     memcpy(frame, request, n);
     frame[n] = (uint8_t)(c & 0xFF);
     frame[n + 1] = (uint8_t)(c >> 8);
     a = frame_call(ST25DV_FRAME, 0, frame, n + 2);
-    if (a < ST25DV_REPLY + 3 || reply[0] != 0x00 || crc(reply, a - ST25DV_REPLY - 2) != (uint16_t)(reply[a - ST25DV_REPLY - 2] | reply[a - ST25DV_REPLY - 1] << 8)) {
+    end = a < ST25DV_REPLY + 3 ? 0 : a - ST25DV_REPLY - 2; /* where the reply's CRC stands */
+    if (end == 0 || reply[0] != 0x00 || st25dv_crc(reply, end) != (uint16_t)(reply[end] | reply[end + 1] << 8)) {
         printf("request %02x: answer 0x%x\n", request[1], (unsigned)a);
         exit(1);
     }
-    return a - ST25DV_REPLY - 3;
+    return end - 1;
 }
 
 int main(void)

@@ -31,6 +31,7 @@ extern "C" {
         frame: *const u8,
         frame_bytes: usize,
     ) -> u32;
+    fn st25dv_crc(bytes: *const u8, count: usize) -> u16;
 }
 
 struct Tag {
@@ -111,14 +112,8 @@ impl Tag {
 }
 
 fn crc(s: &[u8]) -> u16 {
-    let mut c = 0xFFFF;
-    for &b in s {
-        c ^= u16::from(b);
-        for _ in 0..8 {
-            c = if c & 1 != 0 { (c >> 1) ^ 0x8408 } else { c >> 1 };
-        }
-    }
-    !c
+    // The slice is there for the call.
+    unsafe { st25dv_crc(s.as_ptr(), s.len()) }
 }
 
 fn fail(why: &str) -> ! {

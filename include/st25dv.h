@@ -54,6 +54,9 @@ uint32_t st25dv_step(uint8_t *state, size_t state_bytes,
                      uint32_t code, uint32_t value,
                      const uint8_t *frame, size_t frame_bytes);
 
+/* The CRC of a list of bytes (ISO/IEC 13239). A frame ends in that of the bytes before it, low byte first. */
+uint16_t st25dv_crc(const uint8_t *bytes, size_t count);
+
 #ifdef __cplusplus
 }
 #endif

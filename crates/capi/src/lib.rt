@@ -1,8 +1,9 @@
-// The tag for programs in C and Rust: two functions over numbers and lent bytes. Nothing here relies on a check by the caller.
+// The tag for programs in C and Rust: functions over numbers and lent bytes. Nothing here relies on a check by the caller.
 ghost use mathlib.Core.Path.{_≡_};
 ghost use mathlib.Core.Bool.{true};
 ghost use lib.ListN.{length};
 ghost use Rattle.parts.specs.Pick.{pick};
+ghost use Rattle.crc.specs.Crc.{crcOf};
 ghost use Rattle.state.specs.Layout.{stateBytes};
 ghost use Rattle.model.specs.Signals.{topValue, signalInRange};
 ghost use Rattle.capi.specs.Interface.{answerNumber, isRefused, replyFits, stateAfter, undecoded, called, stepCall, made, freshCall};
@@ -89,6 +90,10 @@ fn keep(o: Outcome, s: &mut [u8])
     requires { ⌜ length (now s) ≡ stateBytes ⌝ }
     ensures { λ _. ⌜ now (s .exit) ≡ stateAfter (now (s .entry)) (o .answer) (o .tag) ⌝ }
 {
+    // Known from here on, the length is not tested again at each byte.
+    if s.len() != state::STATE_BYTES {
+        return;
+    }
     let answer = o.answer;
     if !is_refused(answer) {
         state::encode(o.tag, s);
@@ -159,4 +164,12 @@ pub extern "C" fn st25dv_fresh(uid: &[u8], m: &mut [u8], s: &mut [u8]) -> u32
     keep(o, s);
     let answer = o.answer;
     answer_number(answer)
+}
+
+// The CRC of a list of bytes, for a program that forms frames.
+#[no_mangle]
+pub extern "C" fn st25dv_crc(s: &[u8]) -> u16
+    ensures { λ r. ⌜ r ≡ crcOf (now (s .entry)) ⌝ }
+{
+    crc::crc(s)
 }

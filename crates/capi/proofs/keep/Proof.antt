@@ -8,6 +8,9 @@ use borrow.Author.Needs.{needs}
 use Rattle.capi.proofs.keep.Statement.{statement}
 use Rattle.capi.proofs.keep.Tie as tie
 
+returns : tie.Need-returns
+returns c = absurd (c .if1 .taken (c .before .before .pre))
+
 is-refused-requires : tie.Need-is-refused-requires
 is-refused-requires c κs = search needs
 
@@ -17,16 +20,17 @@ encode-requires c κs = search needs
 same-length : tie.Need-same-length
 same-length c = search needs
 
-returns : tie.Need-returns
-unfolding stateAfter
-returns c =
-    let a = c .before .before .before .before .before .before .before .args in
-    let e = c .before .before .encode .ensures in
-    pick-false _ _ _ _ (sym (c .before .before .before .before .before .is-refused .ensures) ∙ not-true _ (c .before .before .before .before .if1 .taken)) (e .0 ∙ replaced (bytesOf (a .o .tag)) (a .s .now) (c .before .before .before .before .before .before .before .pre ∙ sym (e .1)))
-
 returns-2 : tie.Need-returns-2
 unfolding stateAfter
-returns-2 c = pick-true _ _ _ _ (sym (c .before .is-refused .ensures) ∙ not-false _ (c .if1 .left)) refl
+returns-2 c =
+    let first = c .before .before .before .before .before .before .before .before in
+    let e = c .before .before .encode .ensures in
+    let o = first .args .o in
+    pick-false _ _ _ _ (sym (c .before .before .before .before .before .is-refused .ensures) ∙ not-true _ (c .before .before .before .before .if2 .taken)) (e .0 ∙ replaced (bytesOf (o .tag)) (first .args .s .now) (first .pre ∙ sym (e .1)))
+
+returns-3 : tie.Need-returns-3
+unfolding stateAfter
+returns-3 c = pick-true _ _ _ _ (sym (c .before .is-refused .ensures) ∙ not-false _ (c .if2 .left)) refl
 
 pub keep-spec : {M : Type 1} → statement M
-keep-spec = tie.close (tie.spec is-refused-requires encode-requires same-length returns returns-2)
+keep-spec = tie.close (tie.spec returns is-refused-requires encode-requires same-length returns-2 returns-3)

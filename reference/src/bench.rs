@@ -9,10 +9,10 @@ use crate::tag::{Tag, MEMORY_SIZE, REPLY_SIZE};
 pub const UID: [u8; 8] = [0x01, 0x02, 0x03, 0x04, 0x05, 0x24, 0x02, 0xE0];
 pub const LONGEST_LINE: usize = 1200;
 /// The longest R line's bytes and its CRC.
-const LONGEST_FRAME: usize = (LONGEST_LINE - 2) / 2 + 2;
+pub const LONGEST_FRAME: usize = (LONGEST_LINE - 2) / 2 + 2;
 
 /// Hands each line's bytes, or none for one over `N` bytes, to `each`. The line feed
-/// is no part of the line; a last line without one counts if it has a byte (reading 34).
+/// is no part of the line; a last line without one counts if it has a byte (D38).
 pub fn each_line<const N: usize>(
     mut input: impl Read,
     mut each: impl FnMut(Option<&[u8]>) -> Result<()>,
@@ -104,7 +104,7 @@ fn read_frame<'a>(text: &[u8], frame: &'a mut [u8; LONGEST_FRAME]) -> Option<&'a
 }
 
 /// The signal a line names; none for a bad line.
-fn read_line<'a>(line: &[u8], frame: &'a mut [u8; LONGEST_FRAME]) -> Option<Signal<'a>> {
+pub fn read_line<'a>(line: &[u8], frame: &'a mut [u8; LONGEST_FRAME]) -> Option<Signal<'a>> {
     let plain = |code, value| {
         Some(Signal {
             code,

@@ -1,12 +1,15 @@
 //! A plain reference model of the 512-byte ST25DV04K, written from document 01.
-//! Numbers of "reading" in the comments are those of the readings paper.
+//! D and a number in a comment is an entry of docs/DECISIONS.md.
 
 pub mod bench;
 pub mod crc;
 pub mod cut;
 pub mod dice;
+#[cfg(feature = "library")]
+pub mod library;
 pub mod model;
 pub mod radio;
 pub mod script;
+pub mod state;
 pub mod tag;
 pub mod wire;

@@ -72,6 +72,15 @@ pub fn step(
     reply: &mut [u8],
     signal: Signal,
 ) -> Result<Answer, Refusal> {
+    judge_call(memory, reply, signal)?;
+    if !in_range(tag, memory) {
+        return Err(Refusal::Range);
+    }
+    Ok(act(tag, memory, reply, signal))
+}
+
+/// The refusals that do not look at the tag: 1 to 3.
+pub fn judge_call(memory: &[u8], reply: &[u8], signal: Signal) -> Result<(), Refusal> {
     if memory.len() != MEMORY_SIZE {
         return Err(Refusal::Memory);
     }
@@ -81,13 +90,10 @@ pub fn step(
     if !value_in_range(signal.code, signal.value) {
         return Err(Refusal::Signal);
     }
-    if !in_range(tag, memory) {
-        return Err(Refusal::Range);
-    }
-    Ok(act(tag, memory, reply, signal))
+    Ok(())
 }
 
-/// A level or Ack is 0 or 1, a byte at most FFh, all others have value 0 (reading 31).
+/// A level or Ack is 0 or 1, a byte at most FFh, all others have value 0 (D2).
 fn value_in_range(code: u8, value: u16) -> bool {
     match code {
         VCC | FIELD | FETCH => value <= 1,
@@ -173,7 +179,7 @@ fn supply_in_range(tag: &Tag) -> bool {
 }
 
 /// 01: "page bytes 0 to 256 .. each one that would be Acked there".
-/// The leg's first address is the counter less the page bytes (reading 29).
+/// The leg's first address is the counter less the page bytes (D3).
 fn page_in_range(tag: &Tag, memory: &[u8]) -> bool {
     let Bus::Data { space, count, .. } = tag.bus else {
         return true;

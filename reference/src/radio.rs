@@ -3,7 +3,7 @@
 use crate::crc::{crc, crc_bytes};
 use crate::tag::*;
 
-// Flags. 01h and 02h choose the answer's modulation only (reading 19).
+// Flags. 01h and 02h choose the answer's modulation only (D27).
 const INVENTORY: u8 = 0x04;
 const EXTENSION: u8 = 0x08;
 const SELECT_FLAG: u8 = 0x10;

@@ -260,7 +260,7 @@ impl Tag {
             self.rf_mngt_dyn = self.registers.rf_mngt;
         }
         if address == MB_MODE && self.registers.mb_mode == 0 && self.mailbox.enabled() {
-            // Datasheet, MB_EN falls with MB_MODE (reading 2).
+            // Datasheet, MB_EN falls with MB_MODE (D23).
             self.mailbox.switch_off();
         }
     }

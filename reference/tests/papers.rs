@@ -3,6 +3,7 @@
 use reference::bench::{self, UID};
 use reference::crc::crc;
 use reference::model::{self, Answer, Refusal, Signal};
+use reference::state::{self, STATE_SIZE};
 use reference::tag::*;
 
 /// Runs lines of (input, wanted answer) on the bench program; spaces stand for tabs.
@@ -472,4 +473,29 @@ fn ranges_are_kept() {
         }
     }
     assert!(replies > 1000);
+}
+
+/// The state's bytes: those that decode come back the same, and a byte that the bus does not use must be 0.
+#[test]
+fn state_bytes() {
+    let mut bytes = state::encode(&model::fresh(UID));
+    assert_eq!(bytes[18..24], [0x0F, 0, 0x0F, 0, 0x0F, 0]);
+    assert_eq!(bytes[75..], UID);
+    for place in 0..STATE_SIZE {
+        for value in 0..=255 {
+            let before = std::mem::replace(&mut bytes[place], value);
+            if let Some(tag) = state::decode(&bytes) {
+                assert_eq!(state::encode(&tag), bytes);
+            } else {
+                assert!(
+                    [0, 1, 3, 4, 5].contains(&place)
+                        || (8..15).contains(&place)
+                        || (28..33).contains(&place)
+                );
+            }
+            bytes[place] = before;
+        }
+    }
+    bytes[14] = 1; // a page byte count with the bus idle
+    assert_eq!(state::decode(&bytes), None);
 }

@@ -1,0 +1,71 @@
+//! The proved library, as include/st25dv.h declares it.
+
+mod linked {
+    #[link(name = "capi", kind = "static")]
+    extern "C" {
+        pub fn st25dv_fresh(
+            uid: *const u8,
+            uid_bytes: usize,
+            memory: *mut u8,
+            memory_bytes: usize,
+            state: *mut u8,
+            state_bytes: usize,
+        ) -> u32;
+        pub fn st25dv_step(
+            state: *mut u8,
+            state_bytes: usize,
+            memory: *mut u8,
+            memory_bytes: usize,
+            reply: *mut u8,
+            reply_bytes: usize,
+            code: u32,
+            value: u32,
+            frame: *const u8,
+            frame_bytes: usize,
+        ) -> u32;
+        pub fn st25dv_crc(bytes: *const u8, count: usize) -> u16;
+    }
+}
+
+// In each call the slices are there for the call, never null, and do not overlap.
+
+pub fn fresh(uid: &[u8], memory: &mut [u8], state: &mut [u8]) -> u32 {
+    unsafe {
+        linked::st25dv_fresh(
+            uid.as_ptr(),
+            uid.len(),
+            memory.as_mut_ptr(),
+            memory.len(),
+            state.as_mut_ptr(),
+            state.len(),
+        )
+    }
+}
+
+pub fn step(
+    state: &mut [u8],
+    memory: &mut [u8],
+    reply: &mut [u8],
+    code: u32,
+    value: u32,
+    frame: &[u8],
+) -> u32 {
+    unsafe {
+        linked::st25dv_step(
+            state.as_mut_ptr(),
+            state.len(),
+            memory.as_mut_ptr(),
+            memory.len(),
+            reply.as_mut_ptr(),
+            reply.len(),
+            code,
+            value,
+            frame.as_ptr(),
+            frame.len(),
+        )
+    }
+}
+
+pub fn crc(bytes: &[u8]) -> u16 {
+    unsafe { linked::st25dv_crc(bytes.as_ptr(), bytes.len()) }
+}

@@ -1,7 +1,8 @@
 // Total access to lent bytes: a byte past the end reads 0, and a store past the end changes nothing.
 ghost use mathlib.Core.Path.{_≡_};
-ghost use Prim.Native.Nat.{_+_};
-ghost use lib.ListN.{getD, set};
+ghost use Prim.Native.Nat.{_+_, _≤_};
+ghost use lib.Dec.{leb};
+ghost use lib.ListN.{length, getD, set};
 ghost use lib.Seq.{sets};
 ghost use Rattle.parts.specs.Bytes.{bytesAt, copied, agree};
 
@@ -49,8 +50,30 @@ pub fn put_in(m: &mut [u8], at: usize, i: usize, b: u8)
     }
 }
 
-// Stores n bytes of s, from a place of it on, at a place.
-pub fn put_bytes(m: &mut [u8], at: usize, s: &[u8], from: usize, n: usize)
+// Whether n bytes from a place on lie within a length. The two are not added before they are known to fit.
+fn within(length: usize, at: usize, n: usize) -> bool
+    ensures { λ r. ⌜ r ≡ leb (at + n) length ⌝ }
+{
+    if length < at {
+        return false;
+    }
+    n <= length - at
+}
+
+// A run that lies within both: no byte needs a test.
+fn put_run(m: &mut [u8], at: usize, s: &[u8], from: usize, n: usize)
+    requires { ⌜ (at + n ≤ length (now m)) × (from + n ≤ length (now s)) ⌝ }
+    ensures { λ _. ⌜ now (m .exit) ≡ sets (now (m .entry)) at (bytesAt (now (s .entry)) from n) ⌝ }
+{
+    let mut i = 0;
+    while i < n {
+        m[at + i] = s[from + i];
+        i += 1;
+    }
+}
+
+// Any run, byte by byte.
+fn put_each(m: &mut [u8], at: usize, s: &[u8], from: usize, n: usize)
     ensures { λ _. ⌜ now (m .exit) ≡ sets (now (m .entry)) at (bytesAt (now (s .entry)) from n) ⌝ }
 {
     let mut i = 0;
@@ -58,6 +81,17 @@ pub fn put_bytes(m: &mut [u8], at: usize, s: &[u8], from: usize, n: usize)
         let b = byte_in(s, from, i);
         put_in(m, at, i, b);
         i += 1;
+    }
+}
+
+// Stores n bytes of s, from a place of it on, at a place.
+pub fn put_bytes(m: &mut [u8], at: usize, s: &[u8], from: usize, n: usize)
+    ensures { λ _. ⌜ now (m .exit) ≡ sets (now (m .entry)) at (bytesAt (now (s .entry)) from n) ⌝ }
+{
+    if within(m.len(), at, n) & within(s.len(), from, n) {
+        put_run(m, at, s, from, n);
+    } else {
+        put_each(m, at, s, from, n);
     }
 }
 

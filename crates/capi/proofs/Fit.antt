@@ -11,9 +11,9 @@ use Rattle.tag.specs.declared.WireSide.{WireSide}
 use Rattle.tag.specs.declared.Uid.{Uid}
 use Rattle.ranges.specs.Ranges.{registersInRange, airInRange, mailboxInRange, suppliedInRange, hostInRange, coreInRange, wireInRange, inRange}
 use Rattle.rule.specs.PageRange.{busInRange}
-use Rattle.wire.specs.declared.Answer.{Answer as WireAnswer}
-use Rattle.wire.specs.declared.Answer.the-variants.{Nothing as WireNothing, Ack as WireAck, NoAck as WireNoAck, Byte as WireByte}
-use Rattle.wire.specs.Signal.{signalOf}
+use Rattle.signal.specs.declared.Answer.{Answer as WireAnswer}
+use Rattle.signal.specs.declared.Answer.the-variants.{Nothing as WireNothing, Ack as WireAck, NoAck as WireNoAck, Byte as WireByte}
+use Rattle.signal.specs.Signal.{signalOf}
 use Rattle.reply.specs.Reply.{Said, nothing, body, answerOf}
 use Rattle.radio.specs.Claims.{replySize}
 use Rattle.radio.specs.Radio.{radioOf}

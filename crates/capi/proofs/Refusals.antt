@@ -10,9 +10,9 @@ use Rattle.tag.specs.declared.Tag.{Tag}
 use Rattle.tag.specs.declared.Uid.{Uid}
 use Rattle.tag.specs.Keys.{uidAt}
 use Rattle.state.specs.Layout.{tagOf}
-use Rattle.wire.specs.declared.Answer.{Answer as WireAnswer}
-use Rattle.wire.specs.declared.Answer.the-variants.{Nothing as WireNothing, Ack as WireAck, NoAck as WireNoAck, Byte as WireByte}
-use Rattle.wire.specs.Signal.{signalOf}
+use Rattle.signal.specs.declared.Answer.{Answer as WireAnswer}
+use Rattle.signal.specs.declared.Answer.the-variants.{Nothing as WireNothing, Ack as WireAck, NoAck as WireNoAck, Byte as WireByte}
+use Rattle.signal.specs.Signal.{signalOf}
 use Rattle.reply.specs.Reply.{Said, nothing, body, answerOf}
 use Rattle.radio.specs.Radio.{radioOf}
 use Rattle.model.specs.declared.Answer.{Answer}

@@ -22,8 +22,8 @@ use Rattle.tag.specs.Supply.{freshTag}
 use Rattle.ranges.specs.Ranges.{airInRange, coreInRange, hostInRange, suppliedInRange, wireInRange, inRange}
 use Rattle.ranges.proofs.Fresh.{fresh-in-range}
 use Rattle.rule.specs.PageRange.{busInRange}
-use Rattle.wire.specs.declared.Signal.{Signal as WireSignal}
-use Rattle.wire.proofs.Kept.{keeps as wire-keeps}
+use Rattle.signal.specs.declared.Signal.{Signal as WireSignal}
+use Rattle.signal.proofs.Kept.{keeps as wire-keeps}
 use Rattle.reply.specs.Outcome.{Told}
 use Rattle.radio.specs.Radio.{radioOf}
 use Rattle.radio.proofs.Kept.{keeps as radio-keeps}

@@ -15,9 +15,9 @@ use Rattle.tag.specs.Radio.{fieldAt}
 use Rattle.tag.specs.Supply.{freshTag}
 use Rattle.ranges.specs.Ranges.{inRange}
 use Rattle.rule.specs.PageRange.{busInRange}
-use Rattle.wire.specs.declared.Answer.{Answer as WireAnswer}
-use Rattle.wire.specs.declared.Answer.the-variants.{Nothing as WireNothing, Ack as WireAck, NoAck as WireNoAck, Byte as WireByte}
-use Rattle.wire.specs.Signal.{signalOf}
+use Rattle.signal.specs.declared.Answer.{Answer as WireAnswer}
+use Rattle.signal.specs.declared.Answer.the-variants.{Nothing as WireNothing, Ack as WireAck, NoAck as WireNoAck, Byte as WireByte}
+use Rattle.signal.specs.Signal.{signalOf}
 use Rattle.reply.specs.declared.RadioSide.{RadioSide}
 use Rattle.reply.specs.Reply.{Said, nothing, body, bufferOf}
 use Rattle.reply.specs.declared.Answer.{Answer as RadioAnswer}

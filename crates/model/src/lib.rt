@@ -5,7 +5,7 @@ ghost use lib.Dec.{eqb};
 ghost use lib.ListN.{length};
 ghost use Rattle.tag.specs.Layout.{memoryBytes};
 ghost use Rattle.tag.specs.Radio.{fieldAt};
-ghost use Rattle.wire.specs.Signal.{signalOf};
+ghost use Rattle.signal.specs.Signal.{signalOf};
 ghost use Rattle.model.specs.declared.Signal.the-variants.{Field, Frame};
 ghost use Rattle.model.specs.declared.Answer.the-variants.{Refused, Nothing};
 ghost use Rattle.model.specs.Signals.{topValue, signalInRange, signalBy};
@@ -17,7 +17,7 @@ use tag::WireSide;
 
 // What the signal of a call is.
 pub enum Signal {
-    Wire(wire::Signal),
+    Wire(signal::Signal),
     // The field at a level.
     Field(bool),
     Frame,
@@ -65,26 +65,26 @@ fn signal_by(code: u8, value: u16) -> Signal
     ensures { λ r. ⌜ r ≡ signalBy code value ⌝ }
 {
     match code {
-        1 => Signal::Wire(wire::Signal::Vcc(value == 1)),
+        1 => Signal::Wire(signal::Signal::Vcc(value == 1)),
         2 => Signal::Field(value == 1),
-        3 => Signal::Wire(wire::Signal::Start),
-        4 => Signal::Wire(wire::Signal::Send(value as u8)),
-        5 => Signal::Wire(wire::Signal::Fetch(value == 1)),
-        6 => Signal::Wire(wire::Signal::Stop),
-        7 => Signal::Wire(wire::Signal::ProgrammingEnd),
+        3 => Signal::Wire(signal::Signal::Start),
+        4 => Signal::Wire(signal::Signal::Send(value as u8)),
+        5 => Signal::Wire(signal::Signal::Fetch(value == 1)),
+        6 => Signal::Wire(signal::Signal::Stop),
+        7 => Signal::Wire(signal::Signal::ProgrammingEnd),
         _ => Signal::Frame,
     }
 }
 
 // ---- the answers
-fn from_wire(a: wire::Answer) -> Answer
+fn from_wire(a: signal::Answer) -> Answer
     ensures { λ r. ⌜ r ≡ fromWire a ⌝ }
 {
     match a {
-        wire::Answer::Nothing => Answer::Nothing,
-        wire::Answer::Ack => Answer::Ack,
-        wire::Answer::NoAck => Answer::NoAck,
-        wire::Answer::Byte(x) => Answer::Byte(x),
+        signal::Answer::Nothing => Answer::Nothing,
+        signal::Answer::Ack => Answer::Ack,
+        signal::Answer::NoAck => Answer::NoAck,
+        signal::Answer::Byte(x) => Answer::Byte(x),
     }
 }
 
@@ -98,7 +98,7 @@ fn from_radio(a: reply::Answer) -> Answer
 }
 
 // ---- a signal that is not refused
-fn by_wire(t: Tag, m: &mut [u8], s: wire::Signal) -> Outcome
+fn by_wire(t: Tag, m: &mut [u8], s: signal::Signal) -> Outcome
     ensures { λ r. ⌜ left (r .answer) (r .tag) (now (m .exit)) ≡ (let e = signalOf (wireSide t) (t .uid) (now (m .entry)) s in left (fromWire (e .answer)) (withWire (e .side) t) (e .memory)) ⌝ }
 {
     let host = t.host;

@@ -18,8 +18,8 @@ use Rattle.rule.specs.Rule.{memoryAcked, mailboxAcked, userAcked, writtenAll, i
 use Rattle.rule.specs.Select.{selectOf, choose, firstOf}
 use Rattle.leg.specs.Effect.{userWritten, passwordWritten, systemWritten, legWritten, settle}
 use Rattle.leg.specs.Fetch.{memoryByte, mailboxByte, userByte, systemByte, fetched, isLast}
-use Rattle.wire.specs.Claims.{sentByte}
-use Rattle.wire.specs.Signal.{dueOf, startAt, startOf, stopAt, selectBy, dataOf, sendAt, fetchAt, signalOf}
+use Rattle.signal.specs.Claims.{sentByte}
+use Rattle.signal.specs.Signal.{dueOf, startAt, startOf, stopAt, selectBy, dataOf, sendAt, fetchAt, signalOf}
 use Rattle.reply.specs.Reply.{answerOf, bufferOf}
 use Rattle.frame.specs.Fields.{uidPlace, paramPlace, ownUid, param, isKnown, takesOption, paramBytes}
 use Rattle.frame.specs.Judge.{isSilent, isMute, errorOf, shutOut, badFlags, wrongLength, judge}

@@ -19,12 +19,12 @@ use Rattle.tag.specs.Bus.{nextAddress}
 use Rattle.rule.specs.Select.{firstOf}
 use Rattle.rule.specs.Rule.{acked}
 use Rattle.rule.specs.PageRange.{page}
-use Rattle.wire.specs.declared.Answer.the-variants.{Ack, NoAck}
-use Rattle.wire.specs.Signal.{says, sideLine, dataOf, sendAt, fetchAt, signalOf}
+use Rattle.signal.specs.declared.Answer.the-variants.{Ack, NoAck}
+use Rattle.signal.specs.Signal.{says, sideLine, dataOf, sendAt, fetchAt, signalOf}
 use Rattle.transfer.specs.Legs.{Send, Fetch, wireSignal, Move, send, fetch}
 use Rattle.transfer.specs.Whole.{Ran, ran, before, bytesSent, replies, onward, accepted}
 use Rattle.transfer.specs.Claim.{runOf}
-use Rattle.wire.proofs.Page.{first-next, acked-room}
+use Rattle.signal.proofs.Page.{first-next, acked-room}
 use Rattle.transfer.proofs.Page.{page-set}
 use Rattle.transfer.proofs.Run.{stepOf, signals, first-then, still}
 

@@ -10,8 +10,8 @@ use Rattle.tag.specs.declared.WireSide.{WireSide}
 use Rattle.tag.specs.declared.Uid.{Uid}
 use Rattle.tag.specs.Bus.{nextAddress}
 use Rattle.leg.specs.Fetch.{fetched, isLast}
-use Rattle.wire.specs.declared.Answer.the-variants.{Byte}
-use Rattle.wire.specs.Signal.{says, sideLine, sendAt, fetchAt, signalOf}
+use Rattle.signal.specs.declared.Answer.the-variants.{Byte}
+use Rattle.signal.specs.Signal.{says, sideLine, sendAt, fetchAt, signalOf}
 use Rattle.transfer.specs.Legs.{Send, Fetch, wireSignal, Move, send, fetch}
 use Rattle.transfer.specs.Whole.{ran, served, replies, onward, bytesFetched, lastAmong}
 use Rattle.transfer.specs.Claim.{runOf}

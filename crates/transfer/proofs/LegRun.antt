@@ -23,12 +23,12 @@ use Rattle.rule.specs.Select.{choose, address, firstOf}
 use Rattle.rule.specs.Rule.{acked}
 use Rattle.rule.specs.PageRange.{page}
 use Rattle.leg.specs.Effect.{none, writes}
-use Rattle.wire.specs.declared.Answer.the-variants.{Ack, NoAck, Byte}
-use Rattle.wire.specs.Signal.{Ended, says, sideBus, sideLine, dueOf, selectBy, sendAt, fetchAt, signalOf}
+use Rattle.signal.specs.declared.Answer.the-variants.{Ack, NoAck, Byte}
+use Rattle.signal.specs.Signal.{Ended, says, sideBus, sideLine, dueOf, selectBy, sendAt, fetchAt, signalOf}
 use Rattle.transfer.specs.Legs.{Noted, Send, Fetch, wireSignal, Move, send, fetch}
 use Rattle.transfer.specs.Whole.{Ran, ran, bytesSent, served, replies, onward, lastAmong, accepted, Leg, answering, idleLeg, readLeg, dataLeg, writeLeg, selected, legOf, filled}
 use Rattle.transfer.specs.Claim.{runOf}
-use Rattle.wire.proofs.Page.{first-next, acked-room}
+use Rattle.signal.proofs.Page.{first-next, acked-room}
 use Rattle.transfer.proofs.Page.{page-sets}
 use Rattle.transfer.proofs.Run.{stepOf, signals, first-then, still}
 use Rattle.transfer.proofs.FetchRun.{over, fetch-run}

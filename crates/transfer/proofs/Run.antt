@@ -5,8 +5,8 @@ use mathlib.Core.List.{List, [], _∷_, _++_}
 use Prim.Native.Nat.{ℕ}
 use Rattle.tag.specs.declared.WireSide.{WireSide}
 use Rattle.tag.specs.declared.Uid.{Uid}
-use Rattle.wire.specs.declared.Answer.the-variants.{NoAck, Byte}
-use Rattle.wire.specs.Signal.{Ended, says, signalOf}
+use Rattle.signal.specs.declared.Answer.the-variants.{NoAck, Byte}
+use Rattle.signal.specs.Signal.{Ended, says, signalOf}
 use Rattle.transfer.specs.Legs.{Noted, Send, Fetch, wireSignal, Move, send, fetch}
 use Rattle.transfer.specs.Whole.{Ran, ran, before, replies}
 use Rattle.transfer.specs.Claim.{runOf}

@@ -18,8 +18,8 @@ use Rattle.rule.specs.declared.Choice.{Choice}
 use Rattle.rule.specs.declared.Choice.the-variants.{Refused, Reading, Writing}
 use Rattle.rule.specs.Select.{selectOf, choose}
 use Rattle.leg.specs.Effect.{Left, left, stopped, started, unpowered, Due, none, clears, writes, settle}
-use Rattle.wire.specs.declared.Answer.the-variants.{Nothing, NoAck}
-use Rattle.wire.specs.Signal.{Ended, says, sideBus, dueOf, startAt, startOf, stopAt, selectBy, sendAt, fetchAt, signalOf}
+use Rattle.signal.specs.declared.Answer.the-variants.{Nothing, NoAck}
+use Rattle.signal.specs.Signal.{Ended, says, sideBus, dueOf, startAt, startOf, stopAt, selectBy, sendAt, fetchAt, signalOf}
 use Rattle.transfer.specs.Legs.{Noted, Start, Send, Fetch, Stop, VccOff, wireSignal, isRefused, Move, send, fetch, Finish, atStop, atVccOff, atRefusal, Legs, leg, last, parse}
 use Rattle.transfer.specs.Whole.{Ran, ran, before, Leg, selected, legOf, counting, filled, lastLeg, legsOf, transferOf}
 use Rattle.transfer.specs.Claim.{runOf, Ready, Demand2}

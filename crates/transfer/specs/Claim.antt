@@ -8,7 +8,7 @@ use Rattle.tag.specs.declared.Bus.the-variants.{Started}
 use Rattle.tag.specs.declared.WireSide.{WireSide}
 use Rattle.tag.specs.declared.Uid.{Uid}
 use Rattle.tag.specs.Layout.{memoryBytes}
-use Rattle.wire.specs.Signal.{sideBus, signalOf}
+use Rattle.signal.specs.Signal.{sideBus, signalOf}
 use Rattle.transfer.specs.Legs.{Noted, wireSignal, finished}
 use Rattle.transfer.specs.Whole.{Ran, ran, before, transferOf}
 

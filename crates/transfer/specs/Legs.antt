@@ -6,8 +6,8 @@ use Rattle.parts.specs.Pick.{pick}
 use Rattle.rule.specs.declared.Choice.{Choice}
 use Rattle.rule.specs.declared.Choice.the-variants.{Refused, Reading, Writing}
 use Rattle.rule.specs.Select.{selectOf}
-use Rattle.wire.specs.declared.Signal.{Signal}
-use Rattle.wire.specs.declared.Signal.the-variants.{Start as SignalStart, Send as SignalSend, Fetch as SignalFetch, Stop as SignalStop, Vcc as SignalVcc}
+use Rattle.signal.specs.declared.Signal.{Signal}
+use Rattle.signal.specs.declared.Signal.the-variants.{Start as SignalStart, Send as SignalSend, Fetch as SignalFetch, Stop as SignalStop, Vcc as SignalVcc}
 
 -- "That select and each later Start, byte, fetch, Stop and VCC off are noted"
 pub data Noted : Type 0 where

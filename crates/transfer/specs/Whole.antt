@@ -19,8 +19,8 @@ use Rattle.rule.specs.Select.{choose, address}
 use Rattle.rule.specs.Rule.{acked}
 use Rattle.leg.specs.Fetch.{fetched, isLast}
 use Rattle.leg.specs.Effect.{withHost, stopped, started, unpowered, Due, none, clears, writes, settle}
-use Rattle.wire.specs.declared.Answer.{Answer}
-use Rattle.wire.specs.declared.Answer.the-variants.{Nothing, Ack, NoAck, Byte}
+use Rattle.signal.specs.declared.Answer.{Answer}
+use Rattle.signal.specs.declared.Answer.the-variants.{Nothing, Ack, NoAck, Byte}
 use Rattle.transfer.specs.Legs.{Noted, Move, send, fetch, Finish, atStop, atVccOff, atRefusal, Legs, leg, last, parse}
 
 -- the answers, the wire side and the memory after a list of signals

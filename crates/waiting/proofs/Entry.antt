@@ -16,10 +16,10 @@ use Rattle.tag.specs.declared.Tag.{Tag}
 use Rattle.tag.specs.Layout.{memoryBytes, replyBytes}
 use Rattle.ranges.specs.Ranges.{airInRange, wireInRange, inRange}
 use Rattle.rule.specs.PageRange.{busInRange}
-use Rattle.wire.specs.declared.Signal.{Signal as WireSignal}
-use Rattle.wire.specs.Signal.{sideBus, signalOf}
-use Rattle.wire.specs.Claims.{InRange}
-use Rattle.wire.proofs.Kept.{keeps}
+use Rattle.signal.specs.declared.Signal.{Signal as WireSignal}
+use Rattle.signal.specs.Signal.{sideBus, signalOf}
+use Rattle.signal.specs.Claims.{InRange}
+use Rattle.signal.proofs.Kept.{keeps}
 use Rattle.transfer.specs.Legs.{Noted, Start, Send, Fetch, Stop, VccOff, wireSignal}
 use Rattle.transfer.specs.Whole.{Ran as WireRan}
 use Rattle.transfer.specs.Claim.{runOf}

@@ -19,10 +19,10 @@ use Rattle.tag.specs.Layout.{replyBytes}
 use Rattle.tag.specs.Radio.{fieldAt}
 use Rattle.tag.specs.Supply.{vccAt}
 use Rattle.leg.specs.Effect.{withHost}
-use Rattle.wire.specs.declared.Signal.{Signal as WireSignal}
-use Rattle.wire.specs.declared.Signal.the-variants.{Start as SignalStart, Send as SignalSend, Fetch as SignalFetch, Stop as SignalStop, Vcc as SignalVcc, ProgrammingEnd as SignalProgrammingEnd}
-use Rattle.wire.specs.Signal.{Ended, sideBus, programmed, signalOf}
-use Rattle.wire.proofs.Line.{registers-stay}
+use Rattle.signal.specs.declared.Signal.{Signal as WireSignal}
+use Rattle.signal.specs.declared.Signal.the-variants.{Start as SignalStart, Send as SignalSend, Fetch as SignalFetch, Stop as SignalStop, Vcc as SignalVcc, ProgrammingEnd as SignalProgrammingEnd}
+use Rattle.signal.specs.Signal.{Ended, sideBus, programmed, signalOf}
+use Rattle.signal.proofs.Line.{registers-stay}
 use Rattle.transfer.specs.Legs.{Noted, Start, Send, Fetch, Stop, VccOff, wireSignal, ends, finished}
 use Rattle.transfer.specs.Whole.{Ran, ran, transferOf}
 use Rattle.transfer.specs.Claim.{runOf, Ready}

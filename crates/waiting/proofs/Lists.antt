@@ -9,8 +9,8 @@ use Rattle.parts.specs.Pick.{pick}
 use Rattle.parts.proofs.Picks.{pick-false}
 use Rattle.tag.specs.declared.WireSide.{WireSide}
 use Rattle.tag.specs.declared.Uid.{Uid}
-use Rattle.wire.specs.declared.Answer.{Answer as WireAnswer}
-use Rattle.wire.specs.Signal.{signalOf}
+use Rattle.signal.specs.declared.Answer.{Answer as WireAnswer}
+use Rattle.signal.specs.Signal.{signalOf}
 use Rattle.transfer.specs.Legs.{Noted, wireSignal, ends, fresher, isEmpty, finished}
 use Rattle.transfer.specs.Whole.{ran}
 use Rattle.transfer.specs.Claim.{runOf}

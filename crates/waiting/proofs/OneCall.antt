@@ -17,9 +17,9 @@ use Rattle.tag.specs.declared.Tag.{Tag}
 use Rattle.tag.specs.Layout.{memoryBytes, replyBytes}
 use Rattle.ranges.specs.Ranges.{airInRange, coreInRange, hostInRange, suppliedInRange, wireInRange, inRange}
 use Rattle.rule.specs.PageRange.{busInRange}
-use Rattle.wire.specs.declared.Answer.{Answer as WireAnswer}
-use Rattle.wire.specs.declared.Answer.the-variants.{Nothing as WireNothing, Ack as WireAck, NoAck as WireNoAck, Byte as WireByte}
-use Rattle.wire.proofs.Line.{registers-stay}
+use Rattle.signal.specs.declared.Answer.{Answer as WireAnswer}
+use Rattle.signal.specs.declared.Answer.the-variants.{Nothing as WireNothing, Ack as WireAck, NoAck as WireNoAck, Byte as WireByte}
+use Rattle.signal.proofs.Line.{registers-stay}
 use Rattle.reply.specs.declared.RadioSide.{RadioSide}
 use Rattle.reply.specs.declared.Answer.{Answer as RadioAnswer}
 use Rattle.reply.specs.declared.Answer.the-variants.{Silence as RadioSilence, Reply as RadioReply}

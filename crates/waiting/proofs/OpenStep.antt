@@ -22,9 +22,9 @@ use Rattle.rule.specs.declared.Choice.{Choice}
 use Rattle.rule.specs.declared.Choice.the-variants.{Refused, Reading, Writing}
 use Rattle.rule.specs.Select.{selectOf, choose}
 use Rattle.leg.specs.Effect.{Left, Due, none, clears, writes, started, stopped, settle, legWritten, userWritten, systemWritten, passwordWritten}
-use Rattle.wire.specs.declared.Signal.{Signal}
-use Rattle.wire.specs.declared.Signal.the-variants.{Start as SignalStart, Send as SignalSend, Fetch as SignalFetch, Stop as SignalStop, Vcc as SignalVcc, ProgrammingEnd as SignalProgrammingEnd}
-use Rattle.wire.specs.Signal.{Ended, sideBus, dueOf, startAt, startOf, stopAt, selectBy, dataOf, sendAt, fetchAt, signalOf}
+use Rattle.signal.specs.declared.Signal.{Signal}
+use Rattle.signal.specs.declared.Signal.the-variants.{Start as SignalStart, Send as SignalSend, Fetch as SignalFetch, Stop as SignalStop, Vcc as SignalVcc, ProgrammingEnd as SignalProgrammingEnd}
+use Rattle.signal.specs.Signal.{Ended, sideBus, dueOf, startAt, startOf, stopAt, selectBy, dataOf, sendAt, fetchAt, signalOf}
 use Rattle.transfer.specs.Legs.{Noted, Start, Send, Fetch, Stop, VccOff, wireSignal, isRefused, ends, fresher}
 use Rattle.waiting.specs.Waiting.{isStarted, ackedSelect}
 

@@ -24,7 +24,7 @@ use Rattle.rule.specs.Select.{selectOf, choose, firstOf}
 use Rattle.rule.specs.Rule.{memoryAcked, userAcked, spaceAcked, acked}
 use Rattle.rule.specs.PageRange.{pageAcked, busInRange}
 use Rattle.leg.specs.Effect.{userWritten, legWritten, settle}
-use Rattle.wire.specs.Signal.{dueOf, startAt, startOf, stopAt, selectBy, dataOf, sendAt, signalOf}
+use Rattle.signal.specs.Signal.{dueOf, startAt, startOf, stopAt, selectBy, dataOf, sendAt, signalOf}
 use Rattle.transfer.specs.Legs.{isRefused, ends, fresher, isEmpty, finished, push, parse}
 use Rattle.transfer.specs.Whole.{bytesSent, accepted, writeLeg, selected, legOf, lastLeg, legsOf, transferOf}
 use Rattle.reply.specs.Reply.{answerOf}

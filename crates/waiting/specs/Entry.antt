@@ -7,7 +7,7 @@ use lib.Dec.{leb}
 use lib.ListN.{length}
 use Rattle.tag.specs.declared.Bus.the-variants.{Started}
 use Rattle.tag.specs.Layout.{memoryBytes, replyBytes}
-use Rattle.wire.specs.declared.Answer.{Answer as WireAnswer}
+use Rattle.signal.specs.declared.Answer.{Answer as WireAnswer}
 use Rattle.parts.specs.Pick.{pick}
 use Rattle.transfer.specs.Legs.{Noted, Start, Send, Fetch, Stop, VccOff, finished}
 use Rattle.transfer.specs.Whole.{transferOf}

@@ -12,9 +12,9 @@ use Rattle.tag.specs.declared.Host.{Host}
 use Rattle.tag.specs.Layout.{replyBytes}
 use Rattle.tag.specs.Radio.{fieldAt}
 use Rattle.rule.specs.Select.{choose}
-use Rattle.wire.specs.declared.Answer.{Answer as WireAnswer}
-use Rattle.wire.specs.declared.Signal.{Signal as WireSignal}
-use Rattle.wire.specs.declared.Signal.the-variants.{Start as SignalStart, Send as SignalSend, Fetch as SignalFetch, Stop as SignalStop, Vcc as SignalVcc, ProgrammingEnd as SignalProgrammingEnd}
+use Rattle.signal.specs.declared.Answer.{Answer as WireAnswer}
+use Rattle.signal.specs.declared.Signal.{Signal as WireSignal}
+use Rattle.signal.specs.declared.Signal.the-variants.{Start as SignalStart, Send as SignalSend, Fetch as SignalFetch, Stop as SignalStop, Vcc as SignalVcc, ProgrammingEnd as SignalProgrammingEnd}
 use Rattle.transfer.specs.Legs.{Noted, Start, Send, Fetch, Stop, VccOff, isRefused, finished}
 use Rattle.transfer.specs.Whole.{transferOf}
 use Rattle.reply.specs.Reply.{answerOf, bufferOf}

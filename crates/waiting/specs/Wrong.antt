@@ -11,7 +11,7 @@ use Rattle.tag.specs.declared.Core.{Core}
 use Rattle.tag.specs.declared.Tag.{Tag}
 use Rattle.tag.specs.Layout.{userBytes}
 use Rattle.tag.specs.Radio.{deselected}
-use Rattle.wire.specs.Signal.{sideBus}
+use Rattle.signal.specs.Signal.{sideBus}
 use Rattle.frame.specs.Fields.{command, ownUid}
 use Rattle.frame.specs.Judge.{isSilent}
 use Rattle.model.specs.declared.Answer.the-variants.{NoAck}

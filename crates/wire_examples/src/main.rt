@@ -5,11 +5,11 @@
 // and, alone, N: the fresh tag again; I: whether the wire side is in range; E: the CRC of the memory; Z: the wire side.
 mod state;
 
+use signal::Answer;
+use signal::Signal;
 use tag::Tag;
 use tag::Uid;
 use tag::WireSide;
-use wire::Answer;
-use wire::Signal;
 
 struct Run {
     side: WireSide,

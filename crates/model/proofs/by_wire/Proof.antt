@@ -1,5 +1,5 @@
 use mathlib.Core.Path.{ap}
-use Rattle.wire.specs.Signal.{Ended}
+use Rattle.signal.specs.Signal.{Ended}
 use Rattle.model.specs.Step.{left, fromWire, withWire}
 use borrow.Author.Needs.{needs}
 use Rattle.model.proofs.by_wire.Statement.{statement}

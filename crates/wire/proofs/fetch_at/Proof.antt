@@ -1,4 +1,4 @@
-use Rattle.wire.specs.Signal.{fetchAt}
+use Rattle.signal.specs.Signal.{fetchAt}
 use borrow.Author.Needs.{needs}
 use Rattle.wire.proofs.fetch_at.Statement.{statement}
 use Rattle.wire.proofs.fetch_at.Tie as tie

@@ -1,4 +1,4 @@
-use Rattle.wire.specs.Signal.{signalOf}
+use Rattle.signal.specs.Signal.{signalOf}
 use borrow.Author.Needs.{needs}
 use Rattle.wire.proofs.step.Statement.{statement}
 use Rattle.wire.proofs.step.Tie as tie

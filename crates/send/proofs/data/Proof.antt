@@ -1,0 +1,72 @@
+use mathlib.Core.Path.{sym, _∙_}
+use native.Mathlib.Omega.{arith}
+use native.Mathlib.Numerals.{add-one}
+use Rattle.parts.proofs.Picks.{pick-true, pick-false}
+use Rattle.signal.specs.Signal.{dataOf}
+use Rattle.signal.proofs.Page.{acked-room}
+use borrow.Author.Needs.{needs}
+use Rattle.send.proofs.data.Statement.{statement}
+use Rattle.send.proofs.data.Tie as tie
+
+first-of-requires : tie.Need-first-of-requires
+first-of-requires c κs = search needs
+
+acked-requires : tie.Need-acked-requires
+acked-requires c κs = search needs
+
+put-in-requires : tie.Need-put-in-requires
+put-in-requires c κs = search needs
+
+next-address-requires : tie.Need-next-address-requires
+next-address-requires c κs = search needs
+
+add-count : tie.Need-add-count
+add-count c =
+    let branch = c .before .before .before .before .before in
+    let asked = c .before .before .before .before .before .before in
+    omega (arith, acked-room _ _ _ _ _ _ _ (sym (asked .acked .ensures) ∙ branch .if1 .taken))
+
+with-line-requires : tie.Need-with-line-requires
+with-line-requires c κs = search needs
+
+same-length : tie.Need-same-length
+same-length c = search needs
+
+returns : tie.Need-returns
+unfolding dataOf
+returns c =
+    let moved = c .before in
+    let put = moved .before .before .before in
+    let branch = moved .before .before .before .before .before in
+    let asked = moved .before .before .before .before .before .before in
+    let a = asked .before .before .before .before .args in
+    pick-true _ _ _ _ (rw (asked .before .before .first-of .ensures) at (sym (asked .acked .ensures) ∙ branch .if1 .taken))
+    (rw (c .with-line .ensures, moved .next-address .ensures, put .put-in .ensures, add-one (a .k)))
+
+with-bus-requires : tie.Need-with-bus-requires
+with-bus-requires c κs = search needs
+
+same-length-2 : tie.Need-same-length-2
+same-length-2 c = search needs
+
+returns-2 : tie.Need-returns-2
+unfolding dataOf
+returns-2 c =
+    let asked = c .before .before in
+    pick-false _ _ _ _ (rw (asked .before .before .first-of .ensures) at (sym (asked .acked .ensures) ∙ c .before .if1 .left)) (rw (c .with-bus .ensures))
+
+pub data-spec : {M : Type 1} → statement M
+data-spec =
+    tie.close
+    (tie.spec
+    first-of-requires
+    acked-requires
+    put-in-requires
+    next-address-requires
+    add-count
+    with-line-requires
+    same-length
+    returns
+    with-bus-requires
+    same-length-2
+    returns-2)

@@ -1,0 +1,135 @@
+// A byte sent on the bus: the select, the address and the data bytes.
+ghost use mathlib.Core.Path.{_≡_};
+ghost use mathlib.Core.Bool.{false};
+ghost use Rattle.tag.specs.declared.Bus.the-variants.{DataLeg};
+ghost use Rattle.rule.specs.Select.{choose, address};
+ghost use Rattle.signal.specs.declared.Answer.the-variants.{NoAck};
+ghost use Rattle.signal.specs.Signal.{says, sideLine, selectBy, dataOf, sendAt};
+use rule::Choice;
+use signal::Answer;
+use signal::Outcome;
+use tag::Bus;
+use tag::Space;
+use tag::WireSide;
+
+// The first byte sent after a Start.
+fn select(w: WireSide, m: &[u8], x: u8) -> Outcome
+    ensures { λ r. ⌜ says (r .answer) (r .side) (now (m .entry)) ≡ selectBy (choose (w .host .vcc) (w .host .programming) x) w (now (m .entry)) ⌝ }
+{
+    match rule::choose(w.host.vcc, w.host.programming, x) {
+        Choice::Refused => Outcome {
+            answer: Answer::NoAck,
+            side: signal::with_bus(w, Bus::Idle),
+        },
+        Choice::Reading(space) => Outcome {
+            answer: Answer::Ack,
+            side: signal::with_bus(
+                w,
+                Bus::ReadLeg {
+                    space: space,
+                    over: false,
+                    last: false,
+                },
+            ),
+        },
+        Choice::Writing(space) => Outcome {
+            answer: Answer::Ack,
+            side: signal::with_bus(w, Bus::WriteLeg(space)),
+        },
+    }
+}
+
+// A data byte of a leg that is not spoiled.
+fn data(space: Space, k: u16, w: WireSide, m: &mut [u8], x: u8) -> Outcome
+    ensures { λ r. ⌜ says (r .answer) (r .side) (now (m .exit)) ≡ dataOf space k w (now (m .entry)) x ⌝ }
+{
+    let counter = w.host.counter;
+    let first = rule::first_of(counter, k);
+    if rule::acked(space, w.core, w.host.session, m, first, k, x) {
+        parts::put_in(m, tag::PAGE_AT, k as usize, x);
+        let next = tag::next_address(counter);
+        let count = k + 1;
+        let leg = Bus::DataLeg {
+            space: space,
+            count: count,
+            spoiled: false,
+        };
+        return Outcome {
+            answer: Answer::Ack,
+            side: signal::with_line(w, next, leg),
+        };
+    }
+    let spoiled = Bus::DataLeg {
+        space: space,
+        count: k,
+        spoiled: true,
+    };
+    Outcome {
+        answer: Answer::NoAck,
+        side: signal::with_bus(w, spoiled),
+    }
+}
+
+// A data byte, NoAcked in a spoiled leg.
+fn send_data(space: Space, k: u16, spoiled: bool, w: WireSide, m: &mut [u8], x: u8) -> Outcome
+    ensures { λ r. ⌜ says (r .answer) (r .side) (now (m .exit)) ≡ sendAt (DataLeg space k spoiled) w (now (m .entry)) x ⌝ }
+{
+    if spoiled {
+        return Outcome {
+            answer: Answer::NoAck,
+            side: w,
+        };
+    }
+    data(space, k, w, m, x)
+}
+
+fn no_ack(w: WireSide) -> Outcome
+    ensures { λ r. ⌜ r ≡ record { answer = NoAck; side = w } ⌝ }
+{
+    Outcome {
+        answer: Answer::NoAck,
+        side: w,
+    }
+}
+
+// The second byte of an address.
+fn low_address(space: Space, high: u8, w: WireSide, x: u8) -> WireSide
+    ensures { λ r. ⌜ r ≡ sideLine (address high x) (DataLeg space 0 false) w ⌝ }
+{
+    let leg = Bus::DataLeg {
+        space: space,
+        count: 0,
+        spoiled: false,
+    };
+    signal::with_line(w, rule::address(high, x), leg)
+}
+
+// A byte sent.
+pub fn send_at(b: Bus, w: WireSide, m: &mut [u8], x: u8) -> Outcome
+    ensures { λ r. ⌜ says (r .answer) (r .side) (now (m .exit)) ≡ sendAt b w (now (m .entry)) x ⌝ }
+{
+    match b {
+        Bus::Idle => no_ack(w),
+        Bus::Started(transfer) => select(w, m, x),
+        Bus::ReadLeg { space, over, last } => no_ack(w),
+        Bus::WriteLeg(space) => Outcome {
+            answer: Answer::Ack,
+            side: signal::with_bus(
+                w,
+                Bus::LowAddress {
+                    space: space,
+                    high: x,
+                },
+            ),
+        },
+        Bus::LowAddress { space, high } => Outcome {
+            answer: Answer::Ack,
+            side: low_address(space, high, w, x),
+        },
+        Bus::DataLeg {
+            space,
+            count,
+            spoiled,
+        } => send_data(space, count, spoiled, w, m, x),
+    }
+}

@@ -1,0 +1,385 @@
+-- Every signal keeps the ranges. Assumes nothing.
+use mathlib.Core.Path.{_≡_, refl, ap, subst, _∙_}
+use mathlib.Core.Bool.{Bool, true, false, not, _&&_, _||_, and-false, true≢false, false≢true}
+use mathlib.Core.List.{List}
+use Prim.Native.Nat.{ℕ, zero, suc, _+_, _<_}
+use native.Mathlib.Omega.{arith}
+use lib.Dec.{leb, ltb, eqb}
+use lib.ListN.{length, getD, set, length-set}
+use lib.Seq.{sets, length-sets}
+use borrow.Author.Tests.{le-leb, not-false}
+use Rattle.parts.proofs.Bools.{and-left, and-right, and-both}
+use Rattle.parts.proofs.Picks.{pick-case}
+use Rattle.parts.proofs.Lists.{length-bytesAt}
+use Rattle.registers.specs.declared.Registers.{Registers}
+use Rattle.registers.specs.Defined.{rfMngt}
+use Rattle.registers.specs.Map.{withDynamic}
+use Rattle.tag.specs.declared.Space.{Space}
+use Rattle.tag.specs.declared.Space.the-variants.{User, System}
+use Rattle.tag.specs.declared.Mailbox.{Mailbox}
+use Rattle.tag.specs.declared.Bus.{Bus}
+use Rattle.tag.specs.declared.Bus.the-variants.{Idle, Started, ReadLeg, WriteLeg, LowAddress, DataLeg}
+use Rattle.tag.specs.declared.Core.{Core}
+use Rattle.tag.specs.declared.WireSide.{WireSide}
+use Rattle.tag.specs.declared.Uid.{Uid}
+use Rattle.tag.specs.Bus.{isOpen, isActive, pageBytes, nextAddress}
+use Rattle.tag.specs.Mailbox.{controlled, hostPut, hostRead}
+use Rattle.tag.specs.Keys.{passwordAt, samePassword, withI2cPassword}
+use Rattle.tag.specs.Supply.{withRegisters, withMailbox, withPasswords, vccOff, vccOn, vccAt}
+use Rattle.ranges.specs.Ranges.{registersInRange, mailboxInRange, coreInRange, hostInRange, suppliedInRange, wireInRange}
+use Rattle.ranges.proofs.MailboxKept.{empty-kept, host-read-kept, host-put-kept, controlled-kept}
+use Rattle.ranges.proofs.RegistersKept.{dynamic-kept, reload-kept}
+use Rattle.rule.specs.declared.Choice.{Choice}
+use Rattle.rule.specs.declared.Choice.the-variants.{Refused, Reading, Writing}
+use Rattle.rule.specs.Select.{choose, selectOf, firstOf}
+use Rattle.rule.specs.Rule.{mailboxAcked, userAcked, spaceAcked, acked, writtenAll}
+use Rattle.rule.specs.PageRange.{page, pageAcked, busInRange}
+use Rattle.leg.specs.Effect.{Left, Due, none, clears, writes, started, stopped, settle, legWritten, userWritten, systemWritten, passwordWritten, left, withCore, withSession, programming}
+use Rattle.signal.specs.declared.Signal.{Signal}
+use Rattle.signal.specs.declared.Signal.the-variants.{Start, Send, Fetch, Stop, Vcc, ProgrammingEnd}
+use Rattle.signal.specs.Signal.{Ended, sideBus, sideLine, dueOf, startAt, startOf, stopAt, selectBy, dataOf, sendAt, fetchAt, programmed, signalOf}
+use Rattle.signal.specs.Claims.{Keeps}
+use Rattle.signal.proofs.Page.{first-next, acked-room, acked-space, page-last, page-more, of-mailbox, free, registers-kept}
+
+-- ---- the tests of supply: v is VCC
+quieter : (v a b : Bool) → (v || not (a || b)) ≡ true → (v || not (a || false)) ≡ true
+quieter true a b h = refl
+quieter false true b h = h
+quieter false false b h = refl
+
+less : (v a p b : Bool) → (v || not (a || p || b)) ≡ true → (v || not (a || false || b)) ≡ true
+less true a p b h = refl
+less false true p b h = h
+less false false false b h = h
+less false false true true h = h
+less false false true false h = refl
+
+powered : (v a b : Bool) → (v || not (a || b)) ≡ true → b ≡ true → v ≡ true
+powered true a b h q = refl
+powered false true b h q = h
+powered false false true h q = h
+powered false false false h q = q
+
+pub inactive : (v a b : Bool) → (v || not (a || b)) ≡ true → v ≡ false → b ≡ false
+inactive v a false h q = refl
+inactive true a true h q = absurd (true≢false q)
+inactive false true true h q = absurd (false≢true h)
+inactive false false true h q = absurd (false≢true h)
+
+-- never programming and a transfer open together
+apart : (p o : Bool) → not (p && o) ≡ true → o ≡ true → p ≡ false
+apart false o h q = refl
+apart true true h q = absurd (false≢true h)
+apart true false h q = absurd (false≢true q)
+
+neither : (a b : Bool) → (a || b) ≡ false → (a ≡ false) × (b ≡ false)
+neither false b h = (refl, h)
+neither true b h = absurd (true≢false h)
+
+-- ---- the ranges as facts
+record Fits (w : WireSide) : Type 0 where
+  registers : registersInRange (w .core .registers) ≡ true
+  mailbox : mailboxInRange (w .core .mailbox) ≡ true
+  room : leb (pageBytes (w .host .bus)) 256 ≡ true
+  alone : not (w .host .programming && isOpen (w .host .bus)) ≡ true
+  supplied : (w .host .vcc || not (w .core .mailbox .enabled || w .host .session || w .host .programming || isActive (w .host .bus))) ≡ true
+
+fits : (w : WireSide) → wireInRange w ≡ true → Fits w
+unfolding wireInRange coreInRange hostInRange suppliedInRange
+fits w e =
+    let r = registersInRange (w .core .registers) in
+    let b = mailboxInRange (w .core .mailbox) in
+    let n = leb (pageBytes (w .host .bus)) 256 in
+    let a = not (w .host .programming && isOpen (w .host .bus)) in
+    let s = suppliedInRange (w .host) (w .core .mailbox .enabled) in
+    let both = and-left (coreInRange (w .core) && hostInRange (w .host)) s e in
+    let c = and-left (coreInRange (w .core)) (hostInRange (w .host)) both in
+    let h = and-right (coreInRange (w .core)) (hostInRange (w .host)) both in
+    record { registers = and-left r b c; mailbox = and-right r b c; room = and-left n a h; alone = and-right n a h; supplied = and-right (coreInRange (w .core) && hostInRange (w .host)) s e }
+
+in-range : (w : WireSide) → Fits w → wireInRange w ≡ true
+unfolding wireInRange coreInRange hostInRange suppliedInRange
+in-range w f =
+    and-both (coreInRange (w .core) && hostInRange (w .host)) (suppliedInRange (w .host) (w .core .mailbox .enabled))
+    (and-both (coreInRange (w .core)) (hostInRange (w .host)) (and-both _ _ (f .registers) (f .mailbox)) (and-both _ _ (f .room) (f .alone))) (f .supplied)
+
+record Kept (w : WireSide) (m : List ℕ) : Type 0 where
+  side : Fits w
+  bus : busInRange (w .host .bus) (w .host .counter) (w .core) (w .host .session) m ≡ true
+  size : length m ≡ 1024
+
+-- in a leg: VCC, and nothing being programmed
+record Leg (w : WireSide) : Type 0 where
+  vcc : w .host .vcc ≡ true
+  still : w .host .programming ≡ false
+
+module _ (w : WireSide) (f : Fits w) where
+  active : isActive (w .host .bus) ≡ true → w .host .vcc ≡ true
+  active a = powered (w .host .vcc) (w .core .mailbox .enabled || w .host .session || w .host .programming) (isActive (w .host .bus)) (f .supplied) a
+
+  in-leg : isOpen (w .host .bus) ≡ true → isActive (w .host .bus) ≡ true → Leg w
+  in-leg o a = record { vcc = active a; still = apart (w .host .programming) (isOpen (w .host .bus)) (f .alone) o }
+
+  idle-fits : Fits (sideBus Idle w)
+  unfolding isOpen isActive pageBytes
+  idle-fits = record {
+    registers = f .registers;
+    mailbox = f .mailbox;
+    room = refl;
+    alone = ap not (and-false (w .host .programming));
+    supplied = quieter (w .host .vcc) (w .core .mailbox .enabled || w .host .session || w .host .programming) (isActive (w .host .bus)) (f .supplied);
+  }
+
+  line-fits : Leg w → (c : ℕ) (b : Bus) → leb (pageBytes b) 256 ≡ true → Fits (sideLine c b w)
+  line-fits l c b r = record { registers = f .registers; mailbox = f .mailbox; room = r; alone = rw (l .still); supplied = rw (l .vcc) }
+
+  started-fits : w .host .vcc ≡ true → Fits (sideBus (Started (isOpen (w .host .bus))) w)
+  unfolding isOpen pageBytes
+  started-fits v = record { registers = f .registers; mailbox = f .mailbox; room = refl; alone = f .alone; supplied = rw v }
+
+  -- RF_PUT cleared
+  read-fits : Fits (withCore (withMailbox (hostRead (w .core .mailbox)) (w .core)) w)
+  read-fits = record { registers = f .registers; mailbox = host-read-kept (w .core .mailbox) (f .mailbox); room = f .room; alone = f .alone; supplied = f .supplied }
+
+-- ---- a leg's writes, on a side with an idle bus and VCC
+abbrev L : Left → Type 0
+L d = Kept (d .side) (d .memory)
+
+module _ (w₀ : WireSide) (m : List ℕ) (g : Fits (sideBus Idle w₀)) (size : length m ≡ 1024) (v : w₀ .host .vcc ≡ true) where
+  abbrev w : WireSide
+  w = sideBus Idle w₀
+
+  -- programming starts, the registers and the I2C password as they may be
+  programs : (c : Core) (m′ : List ℕ) → registersInRange (c .registers) ≡ true → mailboxInRange (c .mailbox) ≡ true → length m′ ≡ 1024
+      → L (left (programming (withCore c w)) m′)
+  unfolding isOpen pageBytes busInRange
+  programs c m′ r b l =
+      record { side = record { registers = r; mailbox = b; room = refl; alone = refl; supplied = rw v }; bus = refl; size = l }
+
+  -- the core changed, the host side not but for the session
+  changes : (o : Bool) (c : Core) (m′ : List ℕ) → registersInRange (c .registers) ≡ true → mailboxInRange (c .mailbox) ≡ true → length m′ ≡ 1024
+      → L (left (withSession o (withCore c w)) m′)
+  unfolding isOpen pageBytes busInRange
+  changes o c m′ r b l =
+      record { side = record { registers = r; mailbox = b; room = refl; alone = g .alone; supplied = rw v }; bus = refl; size = l }
+
+  abbrev r₀ : Registers
+  r₀ = w₀ .core .registers
+
+  abbrev b₀ : Mailbox
+  b₀ = w₀ .core .mailbox
+
+  put-kept : (n f : ℕ) (bs : List ℕ) → length bs ≡ suc n → n < 256 → mailboxAcked b₀ f ≡ true
+      → L (left (withCore (withMailbox (hostPut (length bs) b₀) (w₀ .core)) w) (sets m 512 bs))
+  put-kept n f bs e l a =
+      let q = free b₀ f a in
+      changes (w₀ .host .session) (withMailbox (hostPut (length bs) b₀) (w₀ .core)) (sets m 512 bs) (g .registers)
+      (host-put-kept b₀ (length bs) (q .on) (omega (arith, e)) (omega (arith, e, l)) (q .rf)) (length-sets m 512 bs ∙ size)
+
+  -- user space
+  user-kept : (n f : ℕ) (bs : List ℕ) → length bs ≡ suc n → n < 256 → userAcked (w₀ .core) (w₀ .host .session) f n ≡ true → L (userWritten w m f bs)
+  unfolding userWritten
+  user-kept n f bs e l a =
+      pick-case L (ltb f 512) _ _ (λ h. programs (w₀ .core) (sets m f bs) (g .registers) (g .mailbox) (length-sets m f bs ∙ size))
+      (λ h1. pick-case L (eqb f 0x2003) _ _
+      (λ h. changes (w₀ .host .session) (withRegisters (withDynamic (rfMngt (getD bs 0 0)) r₀) (w₀ .core)) m (dynamic-kept r₀ (getD bs 0 0) (g .registers)) (g .mailbox) size)
+      (λ h2. pick-case L (eqb f 0x2006) _ _
+      (λ h. changes (w₀ .host .session) (withMailbox (controlled (getD bs 0 0) (r₀ .mode) (w₀ .host .vcc) b₀) (w₀ .core)) m (g .registers)
+      (controlled-kept (getD bs 0 0) (r₀ .mode) (w₀ .host .vcc) b₀ (g .mailbox)) size)
+      (λ h3. put-kept n f bs e l (of-mailbox (w₀ .core) (w₀ .host .session) f n h1 h2 h3 a))))
+
+  -- the password leg
+  same-kept : L (left w m)
+  same-kept = changes (w₀ .host .session) (w₀ .core) m (g .registers) (g .mailbox) size
+
+  password-kept : (bs : List ℕ) → L (passwordWritten w m bs)
+  unfolding passwordWritten
+  password-kept bs =
+      pick-case L (ltb (length bs) 17) _ _ (λ h. same-kept)
+      (λ h. pick-case L (eqb (getD bs 8 0) 0x09) _ _ (λ h. changes _ (w₀ .core) m (g .registers) (g .mailbox) size)
+      (λ h. pick-case L (samePassword (passwordAt bs 0) (passwordAt bs 9)) _ _
+      (λ h. programs (withPasswords (withI2cPassword (passwordAt bs 0) (w₀ .core .passwords)) (w₀ .core)) m (g .registers) (g .mailbox) size) (λ h. same-kept)))
+
+  -- system space
+  system-kept : (k f : ℕ) → pageAcked System (w₀ .core) (w₀ .host .session) f m k ≡ true → L (systemWritten w m f (page k m))
+  unfolding systemWritten
+  system-kept k f a =
+      pick-case L (eqb f 0x0900) _ _ (λ h. password-kept (page k m))
+      (λ h. programs (withRegisters (writtenAll r₀ f (page k m)) (w₀ .core)) m (registers-kept (w₀ .core) (w₀ .host .session) f m h (g .registers) k a) (g .mailbox) size)
+
+  leg-kept : (s : Space) (n f : ℕ) → pageAcked s (w₀ .core) (w₀ .host .session) f m (suc n) ≡ true → L (legWritten s w m f (page (suc n) m))
+  unfolding legWritten spaceAcked
+  leg-kept User n f a =
+      let t = page-last User (w₀ .core) (w₀ .host .session) f m n a in
+      user-kept n f (page (suc n) m) (length-bytesAt m 768 (suc n)) (acked-room User (w₀ .core) (w₀ .host .session) f n (page n m) (getD m (768 + n) 0) t)
+      (acked-space User (w₀ .core) (w₀ .host .session) f n (page n m) (getD m (768 + n) 0) t)
+  leg-kept System n f a = system-kept (suc n) f a
+
+-- ---- a signal
+abbrev K : Ended → Type 0
+K e = Kept (e .side) (e .memory)
+
+module _ (w : WireSide) (m : List ℕ) (k : Kept w m) where
+  idle : Kept (sideBus Idle w) m
+  unfolding busInRange
+  idle = record { side = idle-fits w (k .side); bus = refl; size = k .size }
+
+  moved : Leg w → (c : ℕ) (b : Bus) → leb (pageBytes b) 256 ≡ true → busInRange b c (w .core) (w .host .session) m ≡ true
+      → Kept (sideLine c b w) m
+  moved l c b r h = record { side = line-fits w (k .side) l c b r; bus = h; size = k .size }
+
+  -- a Start
+  start-kept : w .host .vcc ≡ true → (d : Due) → L (settle started d (sideBus (Started (isOpen (w .host .bus))) w) m)
+  unfolding settle busInRange
+  start-kept v none = record { side = started-fits w (k .side) v; bus = refl; size = k .size }
+  start-kept v clears = record { side = read-fits _ (started-fits w (k .side) v); bus = refl; size = k .size }
+  start-kept v (writes s f bs) = record { side = started-fits w (k .side) v; bus = refl; size = k .size }
+
+  -- a select
+  select-by : Leg w → (c : Choice) → K (selectBy c w m)
+  unfolding selectBy pageBytes busInRange
+  select-by l Refused = idle
+  select-by l (Reading s) = moved l (w .host .counter) (ReadLeg s false false) refl refl
+  select-by l (Writing s) = moved l (w .host .counter) (WriteLeg s) refl refl
+
+  select-kept : (x : ℕ) → K (selectBy (choose (w .host .vcc) (w .host .programming) x) w m)
+  unfolding choose selectBy
+  select-kept x =
+      pick-case (λ (c : Choice). K (selectBy c w m)) (w .host .programming || not (w .host .vcc)) Refused (selectOf x) (λ h. idle)
+      (λ h.
+      let n = neither (w .host .programming) (not (w .host .vcc)) h in
+      select-by (record { vcc = not-false (w .host .vcc) (n .1); still = n .0 }) (selectOf x))
+
+  -- a data byte
+  module _ (s : Space) (n : ℕ) (spoiled : Bool) (e : w .host .bus ≡ DataLeg s n spoiled) where
+    leg-is : Leg w
+    unfolding isOpen isActive
+    leg-is = in-leg w (k .side) (ap isOpen e) (ap isActive e)
+
+    room-is : leb n 256 ≡ true
+    unfolding pageBytes
+    room-is = subst (λ (b : Bus). leb (pageBytes b) 256 ≡ true) e (k .side .room)
+
+    page-is : pageAcked s (w .core) (w .host .session) (firstOf (w .host .counter) n) m n ≡ true
+    unfolding busInRange
+    page-is = subst (λ (b : Bus). busInRange b (w .host .counter) (w .core) (w .host .session) m ≡ true) e (k .bus)
+
+    taken : (x : ℕ) → acked s (w .core) (w .host .session) (firstOf (w .host .counter) n) n (page n m) x ≡ true
+        → Kept (sideLine (nextAddress (w .host .counter)) (DataLeg s (suc n) false) w) (set m (768 + n) x)
+    unfolding pageBytes busInRange
+    taken x a =
+        let r = acked-room s (w .core) (w .host .session) (firstOf (w .host .counter) n) n (page n m) x a in
+        record {
+          side = line-fits w (k .side) leg-is (nextAddress (w .host .counter)) (DataLeg s (suc n) false) (le-leb (suc n) 256 (omega (arith, r)));
+          bus = rw (first-next (w .host .counter) n r) (page-more s (w .core) (w .host .session) (firstOf (w .host .counter) n) m n x (k .size) page-is a);
+          size = length-set m (768 + n) x ∙ k .size;
+        }
+
+    data-kept : (x : ℕ) → K (dataOf s n w m x)
+    unfolding dataOf pageBytes busInRange
+    data-kept x =
+        pick-case K (acked s (w .core) (w .host .session) (firstOf (w .host .counter) n) n (page n m) x) _ _ (λ h. taken x h)
+        (λ h. moved leg-is (w .host .counter) (DataLeg s n true) room-is page-is)
+
+  send-kept : (b : Bus) (x : ℕ) → w .host .bus ≡ b → K (sendAt b w m x)
+  unfolding sendAt isOpen isActive pageBytes pageAcked busInRange
+  send-kept Idle x e = k
+  send-kept (Started o) x e = select-kept x
+  send-kept (ReadLeg s o l) x e = k
+  send-kept (WriteLeg s) x e = moved (in-leg w (k .side) (ap isOpen e) (ap isActive e)) (w .host .counter) (LowAddress s x) refl refl
+  send-kept (LowAddress s h) x e = moved (in-leg w (k .side) (ap isOpen e) (ap isActive e)) _ (DataLeg s 0 false) refl refl
+  send-kept (DataLeg s n spoiled) x e = pick-case K spoiled _ _ (λ h. k) (λ h. data-kept s n spoiled e x)
+
+  -- a fetch
+  fetch-kept : (b : Bus) (u : Uid) (ack : Bool) → w .host .bus ≡ b → K (fetchAt b w u m ack)
+  unfolding fetchAt isOpen isActive pageBytes busInRange
+  fetch-kept Idle u ack e = k
+  fetch-kept (Started o) u ack e = k
+  fetch-kept (ReadLeg s over last) u ack e =
+      pick-case K over _ _ (λ h. k) (λ h. moved (in-leg w (k .side) (ap isOpen e) (ap isActive e)) _ (ReadLeg s _ _) refl refl)
+  fetch-kept (WriteLeg s) u ack e = k
+  fetch-kept (LowAddress s h) u ack e = k
+  fetch-kept (DataLeg s n spoiled) u ack e = k
+
+  -- a Stop
+  writes-kept : (s : Space) (n f : ℕ) → w .host .vcc ≡ true → eqb n 0 ≡ false → pageAcked s (w .core) (w .host .session) f m n ≡ true
+      → L (settle stopped (writes s f (page n m)) (sideBus Idle w) m)
+  unfolding settle
+  writes-kept s zero f v z a = absurd (true≢false z)
+  writes-kept s (suc n) f v z a = leg-kept w m (idle-fits w (k .side)) (k .size) v s n f a
+
+  nothing-due : L (settle stopped none (sideBus Idle w) m)
+  unfolding settle busInRange
+  nothing-due = record { side = idle-fits w (k .side); bus = refl; size = k .size }
+
+  clear-due : L (settle stopped clears (sideBus Idle w) m)
+  unfolding settle busInRange
+  clear-due = record { side = read-fits _ (idle-fits w (k .side)); bus = refl; size = k .size }
+
+  due-kept : (b : Bus) → w .host .bus ≡ b → L (settle stopped (dueOf b (w .host .counter) m) (sideBus Idle w) m)
+  unfolding dueOf
+  due-kept Idle e = nothing-due
+  due-kept (Started o) e = nothing-due
+  due-kept (ReadLeg s over last) e = pick-case (λ (d : Due). L (settle stopped d (sideBus Idle w) m)) last clears none (λ h. clear-due) (λ h. nothing-due)
+  due-kept (WriteLeg s) e = nothing-due
+  due-kept (LowAddress s h) e = nothing-due
+  due-kept (DataLeg s n spoiled) e =
+      pick-case (λ (d : Due). L (settle stopped d (sideBus Idle w) m)) (spoiled || eqb n 0) none _ (λ h. nothing-due)
+      (λ h. writes-kept s n _ (leg-is s n spoiled e .vcc) (neither spoiled (eqb n 0) h .1) (page-is s n spoiled e))
+
+  -- supply
+  quiet-bus : (b : Bus) (c : ℕ) (r : Core) (o : Bool) → isActive b ≡ false → busInRange b c r o m ≡ true
+  unfolding isActive busInRange
+  quiet-bus Idle c r o h = refl
+  quiet-bus (Started t) c r o h = refl
+  quiet-bus (ReadLeg s over last) c r o h = refl
+  quiet-bus (WriteLeg s) c r o h = refl
+  quiet-bus (LowAddress s x) c r o h = refl
+  quiet-bus (DataLeg s n spoiled) c r o h = absurd (true≢false h)
+
+  on-kept : w .host .vcc ≡ false → Kept (vccOn w) m
+  on-kept v =
+      let f = k .side in
+      record {
+        side = record { registers = reload-kept (w .core .registers) (f .registers); mailbox = f .mailbox; room = f .room; alone = f .alone; supplied = refl };
+        bus = quiet-bus (w .host .bus) _ _ _ (inactive (w .host .vcc) (w .core .mailbox .enabled || w .host .session || w .host .programming) (isActive (w .host .bus)) (f .supplied) v);
+        size = k .size;
+      }
+
+  off-kept : Kept (vccOff w) m
+  unfolding isOpen isActive pageBytes busInRange
+  off-kept =
+      record {
+        side = record { registers = reload-kept (w .core .registers) (k .side .registers); mailbox = empty-kept; room = refl; alone = refl; supplied = refl };
+        bus = refl;
+        size = k .size;
+      }
+
+  vcc-kept : (on : Bool) → Kept (vccAt on w) m
+  unfolding vccAt
+  vcc-kept on =
+      let P : WireSide → Type 0 = λ x. Kept x m in
+      pick-case P on _ _ (λ h. pick-case P (w .host .vcc) _ _ (λ v. k) (λ v. on-kept v)) (λ h. pick-case P (w .host .vcc) _ _ (λ v. off-kept) (λ v. k))
+
+  programmed-kept : Kept (programmed w) m
+  programmed-kept =
+      let f = k .side in
+      record {
+        side = record { registers = f .registers; mailbox = f .mailbox; room = f .room; alone = refl; supplied = less (w .host .vcc) (w .core .mailbox .enabled || w .host .session) (w .host .programming) (isActive (w .host .bus)) (f .supplied) };
+        bus = k .bus;
+        size = k .size;
+      }
+
+  signal-kept : (u : Uid) (s : Signal) → K (signalOf w u m s)
+  unfolding signalOf startOf startAt stopAt
+  signal-kept u Start = pick-case K (w .host .vcc) _ _ (λ v. start-kept v (dueOf (w .host .bus) (w .host .counter) m)) (λ v. k)
+  signal-kept u (Send x) = send-kept (w .host .bus) x refl
+  signal-kept u (Fetch ack) = fetch-kept (w .host .bus) u ack refl
+  signal-kept u Stop = due-kept (w .host .bus) refl
+  signal-kept u (Vcc on) = vcc-kept on
+  signal-kept u ProgrammingEnd = programmed-kept
+
+pub keeps : Keeps
+keeps w u m s r =
+    let k = signal-kept w m (record { side = fits w (r .side); bus = r .bus; size = r .size }) u s in
+    record { side = in-range _ (k .side); bus = k .bus; size = k .size }

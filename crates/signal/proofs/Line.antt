@@ -1,0 +1,202 @@
+-- What a signal does to the counter, and that one that leaves a transfer open changes no register. Assumes nothing.
+use mathlib.Core.Path.{_≡_, refl, sym, ap, subst, _∙_}
+use mathlib.Core.Bool.{Bool, true, false, _||_, false≢true}
+use mathlib.Core.List.{List}
+use Prim.Native.Nat.{ℕ, _%_, _<_}
+use native.Mathlib.Omega.{arith}
+use lib.Dec.{ltb, eqb}
+use lib.ListN.{length, getD}
+use Rattle.parts.proofs.Picks.{pick-case}
+use Rattle.tag.specs.declared.Space.{Space}
+use Rattle.tag.specs.declared.Space.the-variants.{User, System}
+use Rattle.tag.specs.declared.Bus.{Bus}
+use Rattle.tag.specs.declared.Bus.the-variants.{Idle, Started, ReadLeg, WriteLeg, LowAddress, DataLeg}
+use Rattle.tag.specs.declared.WireSide.{WireSide}
+use Rattle.tag.specs.declared.Uid.{Uid}
+use Rattle.tag.specs.Bus.{isOpen, isActive}
+use Rattle.tag.specs.Keys.{passwordAt, samePassword}
+use Rattle.tag.specs.Supply.{vccAt}
+use Rattle.ranges.specs.Ranges.{suppliedInRange}
+use Rattle.rule.specs.declared.Choice.{Choice}
+use Rattle.rule.specs.declared.Choice.the-variants.{Refused, Reading, Writing}
+use Rattle.leg.specs.Effect.{Left, Due, none, clears, writes, started, stopped, settle, legWritten, userWritten, systemWritten, passwordWritten}
+use Rattle.signal.specs.declared.Signal.the-variants.{Start, Send, Fetch, Stop, Vcc, ProgrammingEnd}
+use Rattle.signal.specs.Signal.{Ended, sideBus, dueOf, startAt, startOf, stopAt, selectBy, dataOf, sendAt, fetchAt, signalOf}
+use Rattle.signal.specs.Claims.{KeepsCounter, RegistersStay}
+use Rattle.signal.proofs.Kept.{inactive}
+
+-- ---- the end of a leg
+module _ (w : WireSide) (m : List ℕ) where
+  -- the line is as it was
+  abbrev Same : Left → Type 0
+  Same d = (d .side .host .bus ≡ w .host .bus) × (d .side .host .counter ≡ w .host .counter)
+
+  user-same : (f : ℕ) (bs : List ℕ) → Same (userWritten w m f bs)
+  unfolding userWritten
+  user-same f bs =
+      pick-case Same (ltb f 512) _ _ (λ h. (refl, refl))
+      (λ h. pick-case Same (eqb f 0x2003) _ _ (λ h. (refl, refl)) (λ h. pick-case Same (eqb f 0x2006) _ _ (λ h. (refl, refl)) (λ h. (refl, refl))))
+
+  password-same : (bs : List ℕ) → Same (passwordWritten w m bs)
+  unfolding passwordWritten
+  password-same bs =
+      pick-case Same (ltb (length bs) 17) _ _ (λ h. (refl, refl))
+      (λ h. pick-case Same (eqb (getD bs 8 0) 0x09) _ _ (λ h. (refl, refl))
+      (λ h. pick-case Same (samePassword (passwordAt bs 0) (passwordAt bs 9)) _ _ (λ h. (refl, refl)) (λ h. (refl, refl))))
+
+  leg-same : (s : Space) (f : ℕ) (bs : List ℕ) → Same (legWritten s w m f bs)
+  unfolding legWritten systemWritten
+  leg-same User f bs = user-same f bs
+  leg-same System f bs = pick-case Same (eqb f 0x0900) _ _ (λ h. password-same bs) (λ h. (refl, refl))
+
+  stop-same : (d : Due) → Same (settle stopped d w m)
+  unfolding settle
+  stop-same none = (refl, refl)
+  stop-same clears = (refl, refl)
+  stop-same (writes s f bs) = leg-same s f bs
+
+  start-same : (d : Due) → Same (settle started d w m)
+  unfolding settle
+  start-same none = (refl, refl)
+  start-same clears = (refl, refl)
+  start-same (writes s f bs) = (refl, refl)
+
+  start-registers : (d : Due) → settle started d w m .side .core .registers ≡ w .core .registers
+  unfolding settle
+  start-registers none = refl
+  start-registers clears = refl
+  start-registers (writes s f bs) = refl
+
+-- ---- the counter
+below : (n : ℕ) → n % 65536 < 65536
+below n = omega arith
+
+abbrev C : Ended → Type 0
+C e = e .side .host .counter < 65536
+
+module _ (w : WireSide) (m : List ℕ) (h : w .host .counter < 65536) where
+  select-counter : (c : Choice) → C (selectBy c w m)
+  unfolding selectBy
+  select-counter Refused = h
+  select-counter (Reading s) = h
+  select-counter (Writing s) = h
+
+  data-counter : (s : Space) (n x : ℕ) → C (dataOf s n w m x)
+  unfolding dataOf
+  data-counter s n x = pick-case C _ _ _ (λ t. below _) (λ t. h)
+
+  send-counter : (b : Bus) (x : ℕ) → C (sendAt b w m x)
+  unfolding sendAt
+  send-counter Idle x = h
+  send-counter (Started o) x = select-counter _
+  send-counter (ReadLeg s o l) x = h
+  send-counter (WriteLeg s) x = h
+  send-counter (LowAddress s y) x = below _
+  send-counter (DataLeg s n spoiled) x = pick-case C spoiled _ _ (λ t. h) (λ t. data-counter s n x)
+
+  fetch-counter : (b : Bus) (u : Uid) (ack : Bool) → C (fetchAt b w u m ack)
+  unfolding fetchAt
+  fetch-counter Idle u ack = h
+  fetch-counter (Started o) u ack = h
+  fetch-counter (ReadLeg s over last) u ack = pick-case C over _ _ (λ t. h) (λ t. below _)
+  fetch-counter (WriteLeg s) u ack = h
+  fetch-counter (LowAddress s y) u ack = h
+  fetch-counter (DataLeg s n spoiled) u ack = h
+
+  vcc-counter : (on : Bool) → vccAt on w .host .counter < 65536
+  unfolding vccAt
+  vcc-counter on =
+      let P : WireSide → Type 0 = λ x. x .host .counter < 65536 in
+      pick-case P on _ _ (λ t. pick-case P (w .host .vcc) _ _ (λ v. h) (λ v. h)) (λ t. pick-case P (w .host .vcc) _ _ (λ v. omega arith) (λ v. h))
+
+  start-counter : C (startAt (w .host .bus) w m)
+  unfolding startAt
+  start-counter = subst (λ (n : ℕ). n < 65536) (sym (start-same (sideBus (Started (isOpen (w .host .bus))) w) m (dueOf (w .host .bus) (w .host .counter) m) .1)) h
+
+  stop-counter : C (stopAt (w .host .bus) w m)
+  unfolding stopAt
+  stop-counter = subst (λ (n : ℕ). n < 65536) (sym (stop-same (sideBus Idle w) m (dueOf (w .host .bus) (w .host .counter) m) .1)) h
+
+pub keeps-counter : KeepsCounter
+unfolding signalOf startOf
+keeps-counter w u m Start h = pick-case C (w .host .vcc) _ _ (λ v. start-counter w m h) (λ v. h)
+keeps-counter w u m (Send x) h = send-counter w m h (w .host .bus) x
+keeps-counter w u m (Fetch ack) h = fetch-counter w m h (w .host .bus) u ack
+keeps-counter w u m Stop h = stop-counter w m h
+keeps-counter w u m (Vcc on) h = vcc-counter w m h on
+keeps-counter w u m ProgrammingEnd h = h
+
+-- ---- the registers
+module _ (w : WireSide) (m : List ℕ) where
+  abbrev R : Ended → Type 0
+  R e = e .side .core .registers ≡ w .core .registers
+
+  select-registers : (c : Choice) → R (selectBy c w m)
+  unfolding selectBy
+  select-registers Refused = refl
+  select-registers (Reading s) = refl
+  select-registers (Writing s) = refl
+
+  data-registers : (s : Space) (n x : ℕ) → R (dataOf s n w m x)
+  unfolding dataOf
+  data-registers s n x = pick-case R _ _ _ (λ t. refl) (λ t. refl)
+
+  send-registers : (b : Bus) (x : ℕ) → R (sendAt b w m x)
+  unfolding sendAt
+  send-registers Idle x = refl
+  send-registers (Started o) x = select-registers _
+  send-registers (ReadLeg s o l) x = refl
+  send-registers (WriteLeg s) x = refl
+  send-registers (LowAddress s y) x = refl
+  send-registers (DataLeg s n spoiled) x = pick-case R spoiled _ _ (λ t. refl) (λ t. data-registers s n x)
+
+  fetch-registers : (b : Bus) (u : Uid) (ack : Bool) → R (fetchAt b w u m ack)
+  unfolding fetchAt
+  fetch-registers Idle u ack = refl
+  fetch-registers (Started o) u ack = refl
+  fetch-registers (ReadLeg s over last) u ack = pick-case R over _ _ (λ t. refl) (λ t. refl)
+  fetch-registers (WriteLeg s) u ack = refl
+  fetch-registers (LowAddress s y) u ack = refl
+  fetch-registers (DataLeg s n spoiled) u ack = refl
+
+  start-stays : R (startAt (w .host .bus) w m)
+  unfolding startAt
+  start-stays = start-registers (sideBus (Started (isOpen (w .host .bus))) w) m (dueOf (w .host .bus) (w .host .counter) m)
+
+  -- a Stop leaves no transfer open
+  stop-shut : isOpen (stopAt (w .host .bus) w m .side .host .bus) ≡ false
+  unfolding stopAt isOpen
+  stop-shut = ap isOpen (stop-same (sideBus Idle w) m (dueOf (w .host .bus) (w .host .counter) m) .0)
+
+  -- nor does VCC off; and VCC on from off finds none
+  open-active : (b : Bus) → isOpen b ≡ true → isActive b ≡ true
+  unfolding isOpen isActive
+  open-active Idle h = h
+  open-active (Started o) h = refl
+  open-active (ReadLeg s over last) h = refl
+  open-active (WriteLeg s) h = refl
+  open-active (LowAddress s y) h = refl
+  open-active (DataLeg s n spoiled) h = refl
+
+  off-shut : suppliedInRange (w .host) (w .core .mailbox .enabled) ≡ true → w .host .vcc ≡ false → isActive (w .host .bus) ≡ false
+  unfolding suppliedInRange
+  off-shut s v = inactive (w .host .vcc) (w .core .mailbox .enabled || w .host .session || w .host .programming) (isActive (w .host .bus)) s v
+
+  abbrev Open : WireSide → Type 0
+  Open x = isOpen (x .host .bus) ≡ true → x .core .registers ≡ w .core .registers
+
+  vcc-stays : (on : Bool) → suppliedInRange (w .host) (w .core .mailbox .enabled) ≡ true → Open (vccAt on w)
+  unfolding vccAt isOpen
+  vcc-stays on s =
+      pick-case Open on _ _
+      (λ t. pick-case Open (w .host .vcc) _ _ (λ v o. refl) (λ v o. absurd (false≢true (sym (off-shut s v) ∙ open-active (w .host .bus) o))))
+      (λ t. pick-case Open (w .host .vcc) _ _ (λ v o. absurd (false≢true o)) (λ v o. refl))
+
+pub registers-stay : RegistersStay
+unfolding signalOf startOf
+registers-stay w u m Start s o = pick-case (R w m) (w .host .vcc) _ _ (λ v. start-stays w m) (λ v. refl)
+registers-stay w u m (Send x) s o = send-registers w m (w .host .bus) x
+registers-stay w u m (Fetch ack) s o = fetch-registers w m (w .host .bus) u ack
+registers-stay w u m Stop s o = absurd (false≢true (sym (stop-shut w m) ∙ o))
+registers-stay w u m (Vcc on) s o = vcc-stays w m on s o
+registers-stay w u m ProgrammingEnd s o = refl

@@ -1,0 +1,21 @@
+use mathlib.Core.Path.{refl}
+use borrow.Author.Tests.{not-true, not-false}
+use Rattle.parts.proofs.Picks.{pick-true, pick-false}
+use Rattle.signal.specs.Signal.{startOf}
+use borrow.Author.Needs.{needs}
+use Rattle.signal.proofs.start.Statement.{statement}
+use Rattle.signal.proofs.start.Tie as tie
+
+returns : tie.Need-returns
+unfolding startOf
+returns c = pick-false _ _ _ _ (not-true _ (c .if1 .taken)) refl
+
+start-at-requires : tie.Need-start-at-requires
+start-at-requires c κs = search needs
+
+returns-2 : tie.Need-returns-2
+unfolding startOf
+returns-2 c = pick-true _ _ _ _ (not-false _ (c .before .if1 .left)) (c .start-at .ensures)
+
+pub start-spec : {M : Type 1} → statement M
+start-spec = tie.close (tie.spec returns start-at-requires returns-2)

@@ -1,0 +1,83 @@
+use mathlib.Core.Path.{refl, ap}
+use Rattle.leg.specs.Effect.{Left, settle}
+use Rattle.signal.specs.declared.Answer.the-variants.{Nothing}
+use Rattle.signal.specs.Signal.{says, dueOf, startAt}
+use Rattle.signal.proofs.Settle.{read-started, dropped}
+use borrow.Author.Needs.{needs}
+use Rattle.signal.proofs.start_at.Statement.{statement}
+use Rattle.signal.proofs.start_at.Tie as tie
+
+is-open-requires : tie.Need-is-open-requires
+is-open-requires c κs = search needs
+
+with-bus-requires : tie.Need-with-bus-requires
+with-bus-requires c κs = search needs
+
+enum-told : tie.Need-enum-told
+enum-told c = search needs
+
+enum-known-b : tie.Need-enum-known-b
+enum-known-b c = search needs
+
+enum-known-b-2 : tie.Need-enum-known-b-2
+enum-known-b-2 c = search needs
+
+end-read-requires : tie.Need-end-read-requires
+end-read-requires c κs = search needs
+
+enum-known-b-3 : tie.Need-enum-known-b-3
+enum-known-b-3 c = search needs
+
+enum-known-b-4 : tie.Need-enum-known-b-4
+enum-known-b-4 c = search needs
+
+enum-known-b-5 : tie.Need-enum-known-b-5
+enum-known-b-5 c = search needs
+
+returns : tie.Need-returns
+unfolding startAt settle dueOf
+returns c = rw (c .before .before .with-bus .ensures, c .before .before .before .is-open .ensures, c .enum-told .given .1)
+
+returns-2 : tie.Need-returns-2
+unfolding startAt settle dueOf
+returns-2 c = rw (c .before .before .before .with-bus .ensures, c .before .before .before .before .is-open .ensures, c .before .b .given .1)
+
+returns-3 : tie.Need-returns-3
+unfolding startAt dueOf
+returns-3 c =
+    let made = c .before .before .before .before in
+    rw (c .end-read .ensures, made .with-bus .ensures, made .before .is-open .ensures, c .before .before .b2 .given .1) (ap (λ (r : Left). says Nothing (r .side) (r .memory)) (read-started _ _ _))
+
+returns-4 : tie.Need-returns-4
+unfolding startAt settle dueOf
+returns-4 c = rw (c .before .before .before .with-bus .ensures, c .before .before .before .before .is-open .ensures, c .before .b3 .given .1)
+
+returns-5 : tie.Need-returns-5
+unfolding startAt settle dueOf
+returns-5 c = rw (c .before .before .before .with-bus .ensures, c .before .before .before .before .is-open .ensures, c .before .b4 .given .1)
+
+returns-6 : tie.Need-returns-6
+unfolding startAt settle dueOf
+returns-6 c =
+    let made = c .before .before .before in
+    rw (made .with-bus .ensures, made .before .is-open .ensures, c .before .b5 .given .1) (ap (λ (r : Left). says Nothing (r .side) (r .memory)) (dropped _ _ _ _ refl))
+
+pub start-at-spec : {M : Type 1} → statement M
+start-at-spec =
+    tie.close
+    (tie.spec
+    is-open-requires
+    with-bus-requires
+    enum-told
+    enum-known-b
+    enum-known-b-2
+    end-read-requires
+    enum-known-b-3
+    enum-known-b-4
+    enum-known-b-5
+    returns
+    returns-2
+    returns-3
+    returns-4
+    returns-5
+    returns-6)

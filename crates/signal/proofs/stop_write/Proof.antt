@@ -1,0 +1,33 @@
+use mathlib.Core.Path.{_∙_}
+use Rattle.rule.specs.PageRange.{page}
+use Rattle.rule.specs.Select.{firstOf}
+use Rattle.leg.specs.Effect.{writes, settle}
+use Rattle.signal.specs.Signal.{dueOf}
+use Rattle.signal.proofs.Settle.{none-due, some-due}
+use borrow.Author.Needs.{needs}
+use Rattle.signal.proofs.stop_write.Statement.{statement}
+use Rattle.signal.proofs.stop_write.Tie as tie
+
+returns : tie.Need-returns
+unfolding dueOf
+returns c = none-due _ _ _ _ (c .if1 .taken)
+
+first-of-requires : tie.Need-first-of-requires
+first-of-requires c κs = search needs
+
+leg-written-requires : tie.Need-leg-written-requires
+leg-written-requires c κs = search needs
+
+same-length : tie.Need-same-length
+same-length c = search needs
+
+returns-2 : tie.Need-returns-2
+unfolding dueOf settle
+returns-2 c =
+    let written = c .before .before in
+    let a = c .before .before .before .before .before .before .before .args in
+    written .leg-written .ensures ∙ rw (written .before .before .first-of .ensures) (some-due _ (writes (a .space) (firstOf (a .w .host .counter) (a .count)) (page (a .count) (a .m .now))) (a .w) (a .m .now) (c .before .before .before .before .before .if1 .left))
+
+pub stop-write-spec : {M : Type 1} → statement M
+stop-write-spec =
+    tie.close (tie.spec returns first-of-requires leg-written-requires same-length returns-2)

@@ -1,0 +1,49 @@
+-- What is proved of a signal, beside the contract of its function.
+use mathlib.Core.Path.{_≡_}
+use mathlib.Core.Bool.{true}
+use mathlib.Core.List.{List}
+use Prim.Native.Nat.{ℕ, _<_}
+use lib.ListN.{length, getD}
+use Rattle.tag.specs.declared.WireSide.{WireSide}
+use Rattle.tag.specs.declared.Uid.{Uid}
+use Rattle.tag.specs.Layout.{memoryBytes}
+use Rattle.tag.specs.Bus.{isOpen}
+use Rattle.ranges.specs.Ranges.{suppliedInRange, wireInRange}
+use Rattle.rule.specs.PageRange.{busInRange}
+use Rattle.signal.specs.declared.Signal.{Signal}
+use Rattle.signal.specs.declared.Signal.the-variants.{Start, Send, Fetch, Stop, Vcc, ProgrammingEnd}
+use Rattle.signal.specs.Signal.{signalOf}
+
+-- 01's ranges of the wire side, its page bytes and the lent memory
+pub record InRange (w : WireSide) (m : List ℕ) : Type 0 where
+  pub side : wireInRange w ≡ true
+  pub bus : busInRange (w .host .bus) (w .host .counter) (w .core) (w .host .session) m ≡ true
+  pub size : length m ≡ memoryBytes
+
+-- every signal keeps them
+abbrev pub Keeps : Type 0
+Keeps = (w : WireSide) (u : Uid) (m : List ℕ) (s : Signal)
+    → InRange w m → InRange (signalOf w u m s .side) (signalOf w u m s .memory)
+
+-- every signal keeps the counter below 65536
+abbrev pub KeepsCounter : Type 0
+KeepsCounter = (w : WireSide) (u : Uid) (m : List ℕ) (s : Signal) → w .host .counter < 65536 → signalOf w u m s .side .host .counter < 65536
+
+-- the byte that a signal sends, or 0
+unfoldable pub sentByte : Signal → ℕ
+sentByte Start = 0
+sentByte (Send x) = x
+sentByte (Fetch ack) = 0
+sentByte Stop = 0
+sentByte (Vcc on) = 0
+sentByte ProgrammingEnd = 0
+
+-- every signal keeps the memory's bytes below 256
+abbrev pub KeepsBytes : Type 0
+KeepsBytes = (w : WireSide) (u : Uid) (m : List ℕ) (s : Signal) → sentByte s < 256
+    → ((i : ℕ) → getD m i 0 < 256) → (i : ℕ) → getD (signalOf w u m s .memory) i 0 < 256
+
+-- a signal that leaves a transfer open changes no register, RF_MNGT_Dyn among them
+abbrev pub RegistersStay : Type 0
+RegistersStay = (w : WireSide) (u : Uid) (m : List ℕ) (s : Signal) → suppliedInRange (w .host) (w .core .mailbox .enabled) ≡ true
+    → isOpen (signalOf w u m s .side .host .bus) ≡ true → signalOf w u m s .side .core .registers ≡ w .core .registers

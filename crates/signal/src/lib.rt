@@ -1,0 +1,124 @@
+// A bus signal and its answer, what each signal does, and the end of a leg: a Start and a Stop.
+ghost use mathlib.Core.Path.{_≡_};
+ghost use Rattle.parts.specs.Pick.{pick};
+ghost use Rattle.tag.specs.declared.Bus.the-variants.{DataLeg};
+ghost use Rattle.leg.specs.Effect.{left, stopped, lastFetched, settle};
+ghost use Rattle.signal.specs.declared.Answer.the-variants.{Nothing};
+ghost use Rattle.signal.specs.Signal.{says, sideBus, sideLine, dueOf, startAt, startOf, stopAt};
+use tag::Bus;
+use tag::Space;
+use tag::WireSide;
+
+pub enum Signal {
+    Start,
+    // A byte sent.
+    Send(u8),
+    // A byte fetched, with the host's Ack or not.
+    Fetch(bool),
+    Stop,
+    // VCC at a level.
+    Vcc(bool),
+    ProgrammingEnd,
+}
+
+pub enum Answer {
+    Nothing,
+    Ack,
+    NoAck,
+    Byte(u8),
+}
+
+pub struct Outcome {
+    pub answer: Answer,
+    pub side: WireSide,
+}
+
+// The wire side with another bus, and with another counter too.
+pub fn with_bus(w: WireSide, b: Bus) -> WireSide
+    ensures { λ r. ⌜ r ≡ sideBus b w ⌝ }
+{
+    let host = w.host.with_bus(b);
+    let mut n = w;
+    n.host = host;
+    n
+}
+
+pub fn with_line(w: WireSide, counter: u16, b: Bus) -> WireSide
+    ensures { λ r. ⌜ r ≡ sideLine counter b w ⌝ }
+{
+    let mut host = w.host.with_bus(b);
+    host.counter = counter;
+    let mut n = w;
+    n.host = host;
+    n
+}
+
+// The end of a read leg.
+fn end_read(w: WireSide, last: bool) -> WireSide
+    ensures { λ r. ⌜ r ≡ pick last (lastFetched w) w ⌝ }
+{
+    if last {
+        return leg::last_fetched(w);
+    }
+    w
+}
+
+// A Start on a powered bus: the leg ends, its writes dropped.
+fn start_at(b: Bus, w: WireSide, m: &[u8]) -> WireSide
+    ensures { λ r. ⌜ says Nothing r (now (m .entry)) ≡ startAt b w (now (m .entry)) ⌝ }
+{
+    let next = with_bus(w, Bus::Started(tag::is_open(b)));
+    match b {
+        Bus::Idle => next,
+        Bus::Started(transfer) => next,
+        Bus::ReadLeg { space, over, last } => end_read(next, last),
+        Bus::WriteLeg(space) => next,
+        Bus::LowAddress { space, high } => next,
+        Bus::DataLeg {
+            space,
+            count,
+            spoiled,
+        } => next,
+    }
+}
+
+pub fn start(w: WireSide, m: &[u8]) -> WireSide
+    ensures { λ r. ⌜ says Nothing r (now (m .entry)) ≡ startOf w (now (m .entry)) ⌝ }
+{
+    let host = w.host;
+    let bus = host.bus;
+    if !w.host.vcc {
+        return w;
+    }
+    start_at(bus, w, m)
+}
+
+// The Stop of a write leg past its address; the bus is idle already.
+fn stop_write(w: WireSide, m: &mut [u8], space: Space, count: u16, spoiled: bool) -> WireSide
+    ensures { λ r. ⌜ left r (now (m .exit)) ≡ settle stopped (dueOf (DataLeg space count spoiled) (w .host .counter) (now (m .entry))) w (now (m .entry)) ⌝ }
+{
+    if spoiled | (count == 0) {
+        return w;
+    }
+    let first = rule::first_of(w.host.counter, count);
+    leg::leg_written(space, w, m, first, count)
+}
+
+// A Stop: the leg ends, its writes done.
+pub fn stop_at(b: Bus, w: WireSide, m: &mut [u8]) -> WireSide
+    ensures { λ r. ⌜ says Nothing r (now (m .exit)) ≡ stopAt b w (now (m .entry)) ⌝ }
+{
+    let next = with_bus(w, Bus::Idle);
+    match b {
+        Bus::Idle => next,
+        Bus::Started(transfer) => next,
+        Bus::ReadLeg { space, over, last } => end_read(next, last),
+        Bus::WriteLeg(space) => next,
+        Bus::LowAddress { space, high } => next,
+        Bus::DataLeg {
+            space,
+            count,
+            spoiled,
+        } => stop_write(next, m, space, count, spoiled),
+    }
+}

@@ -39,7 +39,8 @@ use Rattle.signal.specs.declared.Signal.{Signal}
 use Rattle.signal.specs.declared.Signal.the-variants.{Start, Send, Fetch, Stop, Vcc, ProgrammingEnd}
 use Rattle.signal.specs.Signal.{Ended, sideBus, sideLine, dueOf, startAt, startOf, stopAt, selectBy, dataOf, sendAt, fetchAt, programmed, signalOf}
 use Rattle.signal.specs.Claims.{Keeps}
-use Rattle.signal.proofs.Page.{first-next, acked-room, acked-space, page-last, page-more, of-mailbox, free, registers-kept}
+use Rattle.rule.proofs.Page.{acked-room, acked-space, page-last}
+use Rattle.signal.proofs.Page.{first-next, page-more, of-mailbox, free, registers-kept}
 
 -- ---- the tests of supply: v is VCC
 quieter : (v a b : Bool) → (v || not (a || b)) ≡ true → (v || not (a || false)) ≡ true

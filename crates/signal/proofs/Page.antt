@@ -24,6 +24,7 @@ use Rattle.rule.specs.Select.{firstOf}
 use Rattle.rule.specs.Rule.{mailboxAcked, userAcked, registerAcked, systemAcked, isWritable, spaceAcked, acked, writtenAll}
 use Rattle.rule.specs.PageRange.{page, pageAcked}
 use Rattle.rule.proofs.Registers.{written-snoc}
+use Rattle.rule.proofs.Page.{acked-room, acked-space, page-before, page-last}
 
 -- the first address stays
 pub first-next : (c k : ℕ) → k < 256 → firstOf (nextAddress c) (suc k) ≡ firstOf c k
@@ -31,24 +32,6 @@ unfolding firstOf
 first-next c k h = omega arith
 
 module _ (s : Space) (c : Core) (session : Bool) (f : ℕ) where
-  -- a byte is Acked only at places under 256, and by its space
-  pub acked-room : (k : ℕ) (e : List ℕ) (x : ℕ) → acked s c session f k e x ≡ true → k < 256
-  unfolding acked
-  acked-room k e x h = ltb-true k 256 (and-left (ltb k 256) (spaceAcked s c session f k e x) h)
-
-  pub acked-space : (k : ℕ) (e : List ℕ) (x : ℕ) → acked s c session f k e x ≡ true → spaceAcked s c session f k e x ≡ true
-  unfolding acked
-  acked-space k e x h = and-right (ltb k 256) (spaceAcked s c session f k e x) h
-
-  -- of a page's Acks: all but the last, and the last
-  pub page-before : (m : List ℕ) (k : ℕ) → pageAcked s c session f m (suc k) ≡ true → pageAcked s c session f m k ≡ true
-  unfolding pageAcked
-  page-before m k h = and-left (pageAcked s c session f m k) (acked s c session f k (page k m) (getD m (768 + k) 0)) h
-
-  pub page-last : (m : List ℕ) (k : ℕ) → pageAcked s c session f m (suc k) ≡ true → acked s c session f k (page k m) (getD m (768 + k) 0) ≡ true
-  unfolding pageAcked
-  page-last m k h = and-right (pageAcked s c session f m k) (acked s c session f k (page k m) (getD m (768 + k) 0)) h
-
   -- a store past the page's bytes
   pub page-after : (m : List ℕ) (k i x : ℕ) → 768 + k ≤ i → pageAcked s c session f (set m i x) k ≡ pageAcked s c session f m k
   unfolding pageAcked
@@ -61,7 +44,7 @@ module _ (s : Space) (c : Core) (session : Bool) (f : ℕ) where
       → pageAcked s c session f (set m (768 + k) x) (suc k) ≡ true
   unfolding pageAcked
   page-more m k x l h a =
-      let r = acked-room k (page k m) x a in
+      let r = acked-room s c session f k (page k m) x a in
       rw (page-after m k (768 + k) x (omega arith), bytesAt-after m 768 k (768 + k) x (omega arith), getD-set-same m (768 + k) x 0 (omega (arith, r)), h, a)
 
 -- an Acked byte of neither the memory nor a dynamic register is the mailbox's

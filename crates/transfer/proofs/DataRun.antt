@@ -24,7 +24,8 @@ use Rattle.signal.specs.Signal.{says, sideLine, dataOf, sendAt, fetchAt, signal
 use Rattle.transfer.specs.Legs.{Send, Fetch, wireSignal, Move, send, fetch}
 use Rattle.transfer.specs.Whole.{Ran, ran, before, bytesSent, replies, onward, accepted}
 use Rattle.transfer.specs.Claim.{runOf}
-use Rattle.signal.proofs.Page.{first-next, acked-room}
+use Rattle.rule.proofs.Page.{acked-room}
+use Rattle.signal.proofs.Page.{first-next}
 use Rattle.transfer.proofs.Page.{page-set}
 use Rattle.transfer.proofs.Run.{stepOf, signals, first-then, still}
 

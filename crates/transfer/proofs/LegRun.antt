@@ -28,7 +28,8 @@ use Rattle.signal.specs.Signal.{Ended, says, sideBus, sideLine, dueOf, selectBy
 use Rattle.transfer.specs.Legs.{Noted, Send, Fetch, wireSignal, Move, send, fetch}
 use Rattle.transfer.specs.Whole.{Ran, ran, bytesSent, served, replies, onward, lastAmong, accepted, Leg, answering, idleLeg, readLeg, dataLeg, writeLeg, selected, legOf, filled}
 use Rattle.transfer.specs.Claim.{runOf}
-use Rattle.signal.proofs.Page.{first-next, acked-room}
+use Rattle.rule.proofs.Page.{acked-room}
+use Rattle.signal.proofs.Page.{first-next}
 use Rattle.transfer.proofs.Page.{page-sets}
 use Rattle.transfer.proofs.Run.{stepOf, signals, first-then, still}
 use Rattle.transfer.proofs.FetchRun.{over, fetch-run}

@@ -3,7 +3,7 @@ use native.Mathlib.Omega.{arith}
 use native.Mathlib.Numerals.{add-one}
 use Rattle.parts.proofs.Picks.{pick-true, pick-false}
 use Rattle.signal.specs.Signal.{dataOf}
-use Rattle.signal.proofs.Page.{acked-room}
+use Rattle.rule.proofs.Page.{acked-room}
 use borrow.Author.Needs.{needs}
 use Rattle.send.proofs.data.Statement.{statement}
 use Rattle.send.proofs.data.Tie as tie

@@ -176,7 +176,7 @@ fn in_range(t: Tag, m: &[u8]) -> bool
 {
     let host = t.host;
     let bus = host.bus;
-    ranges::in_range(t) & rule::bus_in_range(bus, t.host.counter, t.core, t.host.session, m)
+    ranges::in_range(t) & page::bus_in_range(bus, t.host.counter, t.core, t.host.session, m)
 }
 
 fn refused(number: u8, t: Tag) -> Outcome

@@ -1,13 +1,12 @@
-// The rules of the wire on a byte sent: selects, addresses, Acks; and the range on page bytes.
+// The rules of the wire on a byte sent: selects, addresses, Acks.
 ghost use mathlib.Core.Path.{_≡_};
 ghost use Prim.Native.Nat.{_+_};
 ghost use Rattle.registers.specs.Map.{written};
 ghost use Rattle.rule.specs.Select.{selectOf, choose, address, firstOf};
 ghost use Rattle.rule.specs.Rule.{memoryAcked, mailboxAcked, userAcked, writtenAll, isWritable, registerAcked, passwordAcked, systemAcked, spaceAcked, acked};
-ghost use Rattle.rule.specs.PageRange.{page, pageAcked, busInRange};
+ghost use Rattle.rule.specs.PageRange.{page};
 use areas::Side;
 use registers::Registers;
-use tag::Bus;
 use tag::Core;
 use tag::Mailbox;
 use tag::Space;
@@ -81,7 +80,8 @@ fn mailbox_acked(b: Mailbox, f: u16) -> bool
     (f == 0x2008) & b.enabled & !b.host.put & !b.rf.put
 }
 
-fn user_acked(c: Core, session: bool, f: u16, k: u16) -> bool
+// The Ack of data byte k in user space: it depends on no byte of the leg.
+pub fn user_acked(c: Core, session: bool, f: u16, k: u16) -> bool
     ensures { λ r. ⌜ r ≡ userAcked c session f k ⌝ }
 {
     if f < 512 {
@@ -165,38 +165,5 @@ pub fn acked(s: Space, c: Core, session: bool, m: &[u8], f: u16, k: u16, x: u8) 
             let b = system_acked(c, session, m, f, k, x);
             (k < 256) & b
         }
-    }
-}
-
-// Whether each of the page's k bytes would be Acked at its place. It stops at the first that would not.
-fn page_acked(s: Space, c: Core, session: bool, m: &[u8], f: u16, k: u16) -> bool
-    ensures { λ r. ⌜ r ≡ pageAcked s c session f (now (m .entry)) k ⌝ }
-{
-    let mut i: u16 = 0;
-    while i < k {
-        let x = parts::byte_in(m, tag::PAGE_AT, i as usize);
-        if !acked(s, c, session, m, f, i, x) {
-            return false;
-        }
-        i += 1;
-    }
-    true
-}
-
-// Whether the page bytes of a bus are in range.
-pub fn bus_in_range(b: Bus, counter: u16, c: Core, session: bool, m: &[u8]) -> bool
-    ensures { λ r. ⌜ r ≡ busInRange b counter c session (now (m .entry)) ⌝ }
-{
-    match b {
-        Bus::Idle => true,
-        Bus::Started(transfer) => true,
-        Bus::ReadLeg { space, over, last } => true,
-        Bus::WriteLeg(space) => true,
-        Bus::LowAddress { space, high } => true,
-        Bus::DataLeg {
-            space,
-            count,
-            spoiled,
-        } => page_acked(space, c, session, m, first_of(counter, count), count),
     }
 }

@@ -91,7 +91,7 @@ pub fn with_message(w: WireSide, n: u16) -> WireSide {
 pub fn in_range(w: WireSide, m: &[u8]) -> bool {
     let host = w.host;
     let bus = host.bus;
-    ranges::wire_in_range(w) & rule::bus_in_range(bus, w.host.counter, w.core, w.host.session, m)
+    ranges::wire_in_range(w) & page::bus_in_range(bus, w.host.counter, w.core, w.host.session, m)
 }
 
 fn flag_byte(b: bool) -> u8 {

@@ -5,7 +5,7 @@ use Rattle.model.proofs.in_range.Tie as tie
 use Rattle.model.proofs.in_range.Reads as reads
 use Rattle.model.proofs.in_range.Lts as lts
 use Rattle.ranges.proofs.in_range.Reads as in-range-reads
-use Rattle.rule.proofs.bus_in_range.Reads as bus-in-range-reads
+use Rattle.page.proofs.bus_in_range.Reads as bus-in-range-reads
 
 -- src/lib.rt:172:5
 in-range-requires : tie.Need-in-range-requires

@@ -1,7 +1,7 @@
 use Rattle.rule.specs.PageRange.{busInRange}
 use borrow.Author.Needs.{needs}
-use Rattle.rule.proofs.bus_in_range.Statement.{statement}
-use Rattle.rule.proofs.bus_in_range.Tie as tie
+use Rattle.page.proofs.bus_in_range.Statement.{statement}
+use Rattle.page.proofs.bus_in_range.Tie as tie
 
 enum-told : tie.Need-enum-told
 enum-told c = search needs

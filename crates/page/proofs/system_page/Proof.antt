@@ -1,24 +1,24 @@
-use Rattle.rule.specs.Rule.{acked}
-use Rattle.parts.specs.Bytes.{bytesAt}
-use lib.ListN.{getD}
-use borrow.Author.Tests.{not-true}
-use mathlib.Core.Bool.{true, false}
 use mathlib.Core.Path.{_≡_, refl, sym, ap, _∙_}
+use mathlib.Core.Bool.{true, false}
 use Prim.Native.Nat.{ℕ, suc, _+_, _≤_, _-_}
 use native.Mathlib.Omega.{arith}
 use native.Mathlib.Numerals.{add-one}
+use lib.ListN.{getD}
 use borrow.Author.Needs.{needs}
-use borrow.Author.Tests.{not-false}
+use borrow.Author.Tests.{not-true, not-false}
+use Rattle.parts.specs.Bytes.{bytesAt}
+use Rattle.tag.specs.declared.Space.the-variants.{System}
+use Rattle.rule.specs.Rule.{acked}
 use Rattle.rule.specs.PageRange.{pageAcked}
 use Rattle.rule.proofs.Page.{stays, one-more, none-more}
-use Rattle.rule.proofs.page_acked.Statement.{statement}
-use Rattle.rule.proofs.page_acked.Tie as tie
+use Rattle.page.proofs.system_page.Statement.{statement}
+use Rattle.page.proofs.system_page.Tie as tie
 
 abbrev Inv-loop : tie.InvT-loop
-Inv-loop s c session m f k i₀ i = (pageAcked s c session f m i ≡ true) × (i ≤ k)
+Inv-loop c session m f k i₀ i = (pageAcked System c session f m i ≡ true) × (i ≤ k)
 
 abbrev μ-loop : tie.MeasureT-loop
-μ-loop s c session m f k i₀ i = k - i
+μ-loop c session m f k i₀ i = k - i
 
 loop-holds : tie.Need-loop-holds Inv-loop μ-loop
 unfolding pageAcked
@@ -38,9 +38,9 @@ returns c =
     let a = c .before .before .before .before .before .before .args in
     let l = c .before .before .before .before .loop in
     let x : c .before .before .byte-in .result ≡ getD (a .m .now) (768 + l .i) 0 = c .before .before .byte-in .ensures in
-    let e : acked (a .s) (a .c) (a .session) (a .f) (l .i) (bytesAt (a .m .now) 768 (l .i)) (getD (a .m .now) (768 + l .i) 0) ≡ false = ap (acked (a .s) (a .c) (a .session) (a .f) (l .i) (bytesAt (a .m .now) 768 (l .i))) (sym x) ∙ sym (c .before .acked .ensures) ∙ not-true _ (c .if1 .taken) in
+    let e : acked System (a .c) (a .session) (a .f) (l .i) (bytesAt (a .m .now) 768 (l .i)) (getD (a .m .now) (768 + l .i) 0) ≡ false = ap (acked System (a .c) (a .session) (a .f) (l .i) (bytesAt (a .m .now) 768 (l .i))) (sym x) ∙ sym (c .before .acked .ensures) ∙ not-true _ (c .if1 .taken) in
     let n : suc (l .i) + (a .k - suc (l .i)) ≡ a .k = omega arith in
-    sym (ap (pageAcked (a .s) (a .c) (a .session) (a .f) (a .m .now)) (sym n) ∙ stays (a .s) (a .c) (a .session) (a .f) (a .m .now) (suc (l .i)) (a .k - suc (l .i)) (none-more (a .s) (a .c) (a .session) (a .f) (a .m .now) (l .i) e))
+    sym (ap (pageAcked System (a .c) (a .session) (a .f) (a .m .now)) (sym n) ∙ stays System (a .c) (a .session) (a .f) (a .m .now) (suc (l .i)) (a .k - suc (l .i)) (none-more System (a .c) (a .session) (a .f) (a .m .now) (l .i) e))
 
 add-i : tie.Need-add-i Inv-loop μ-loop
 add-i c = omega arith
@@ -53,18 +53,18 @@ loop-again c =
     let a = c .before .before .before .before .before .before .args in
     let l = c .before .before .before .before .loop in
     let x : c .before .before .byte-in .result ≡ getD (a .m .now) (768 + l .i) 0 = c .before .before .byte-in .ensures in
-    let e : acked (a .s) (a .c) (a .session) (a .f) (l .i) (bytesAt (a .m .now) 768 (l .i)) (getD (a .m .now) (768 + l .i) 0) ≡ true = ap (acked (a .s) (a .c) (a .session) (a .f) (l .i) (bytesAt (a .m .now) 768 (l .i))) (sym x) ∙ sym (c .before .acked .ensures) ∙ not-false _ (c .if1 .left) in
-    (ap (pageAcked (a .s) (a .c) (a .session) (a .f) (a .m .now)) (add-one (l .i)) ∙ one-more (a .s) (a .c) (a .session) (a .f) (a .m .now) (l .i) (l .inv .0) e, omega arith)
+    let e : acked System (a .c) (a .session) (a .f) (l .i) (bytesAt (a .m .now) 768 (l .i)) (getD (a .m .now) (768 + l .i) 0) ≡ true = ap (acked System (a .c) (a .session) (a .f) (l .i) (bytesAt (a .m .now) 768 (l .i))) (sym x) ∙ sym (c .before .acked .ensures) ∙ not-false _ (c .if1 .left) in
+    (ap (pageAcked System (a .c) (a .session) (a .f) (a .m .now)) (add-one (l .i)) ∙ one-more System (a .c) (a .session) (a .f) (a .m .now) (l .i) (l .inv .0) e, omega arith)
 
 returns-2 : tie.Need-returns-2 Inv-loop μ-loop
 returns-2 c =
     let a = c .before .before .before .args in
     let l = c .before .loop in
     let e : l .i ≡ a .k = omega arith in
-    sym (ap (pageAcked (a .s) (a .c) (a .session) (a .f) (a .m .now)) (sym e) ∙ l .inv .0)
+    sym (ap (pageAcked System (a .c) (a .session) (a .f) (a .m .now)) (sym e) ∙ l .inv .0)
 
-pub page-acked-spec : {M : Type 1} → statement M
-page-acked-spec =
+pub system-page-spec : {M : Type 1} → statement M
+system-page-spec =
     tie.close
     (tie.spec
     Inv-loop

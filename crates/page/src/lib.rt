@@ -1,0 +1,70 @@
+// The range on page bytes: each would be Acked at its place.
+ghost use mathlib.Core.Path.{_≡_};
+ghost use mathlib.Core.List.{List};
+ghost use Prim.Native.Nat.{ℕ};
+ghost use Rattle.tag.specs.declared.Space.the-variants.{User, System};
+ghost use Rattle.rule.specs.PageRange.{pageAcked, busInRange};
+use tag::Bus;
+use tag::Core;
+use tag::Space;
+
+// A page of user space, whatever its bytes. At most three places decide for all: the first and the last, since the bytes
+// between two of one area lie in it, and place 4 in the block after the first, since only blocks 0 and 1 can be locked.
+fn user_page(c: Core, session: bool, f: u16, k: u16) -> bool
+    ensures { λ r. ⌜ ((m : List ℕ) → r ≡ pageAcked User c session f m k) ⌝ }
+{
+    if k == 0 {
+        return true;
+    }
+    let last = k - 1;
+    let first_acked = rule::user_acked(c, session, f, 0);
+    let last_acked = rule::user_acked(c, session, f, last);
+    let both = (last < 256) & first_acked & last_acked;
+    if last < 4 {
+        return both;
+    }
+    both & rule::user_acked(c, session, f, 4)
+}
+
+// A page of system space, byte for byte. It stops at the first that would not be Acked.
+fn system_page(c: Core, session: bool, m: &[u8], f: u16, k: u16) -> bool
+    ensures { λ r. ⌜ r ≡ pageAcked System c session f (now (m .entry)) k ⌝ }
+{
+    let mut i: u16 = 0;
+    while i < k {
+        let x = parts::byte_in(m, tag::PAGE_AT, i as usize);
+        if !rule::acked(Space::System, c, session, m, f, i, x) {
+            return false;
+        }
+        i += 1;
+    }
+    true
+}
+
+// Whether each of the page's k bytes, from address f on, would be Acked.
+fn page_acked(s: Space, c: Core, session: bool, m: &[u8], f: u16, k: u16) -> bool
+    ensures { λ r. ⌜ r ≡ pageAcked s c session f (now (m .entry)) k ⌝ }
+{
+    match s {
+        Space::User => user_page(c, session, f, k),
+        Space::System => system_page(c, session, m, f, k),
+    }
+}
+
+// Whether the page bytes of a bus are in range.
+pub fn bus_in_range(b: Bus, counter: u16, c: Core, session: bool, m: &[u8]) -> bool
+    ensures { λ r. ⌜ r ≡ busInRange b counter c session (now (m .entry)) ⌝ }
+{
+    match b {
+        Bus::Idle => true,
+        Bus::Started(transfer) => true,
+        Bus::ReadLeg { space, over, last } => true,
+        Bus::WriteLeg(space) => true,
+        Bus::LowAddress { space, high } => true,
+        Bus::DataLeg {
+            space,
+            count,
+            spoiled,
+        } => page_acked(space, c, session, m, rule::first_of(counter, count), count),
+    }
+}

@@ -1,22 +1,19 @@
--- Commands on blocks: 20, 23 Read; 21, 24 Write; 22 Lock; 2C Status.
-use mathlib.Core.Bool.{Bool, true, not, _&&_, _||_}
+-- Commands that read blocks: 20, 23 Read; 2C Status.
+use mathlib.Core.Bool.{Bool, not, _||_}
 use mathlib.Core.List.{List, [], _∷_, _++_}
 use Prim.Native.Nat.{ℕ, zero, suc, _+_, _*_, _-_}
 use lib.Dec.{leb, ltb, eqb}
-use lib.Seq.{sets}
 use Rattle.parts.specs.Pick.{pick}
-use Rattle.parts.specs.Bits.{keepBits}
 use Rattle.parts.specs.Bytes.{bytesAt}
 use Rattle.registers.specs.declared.Ends.{Ends}
 use Rattle.registers.specs.declared.Registers.{Registers}
-use Rattle.registers.specs.Map.{written}
 use Rattle.areas.specs.declared.Side.the-variants.{Radio}
 use Rattle.areas.specs.Ends.{areaOfBlock}
-use Rattle.areas.specs.Rights.{isLocked, mayRead, mayWrite}
+use Rattle.areas.specs.Rights.{mayRead, mayWrite}
 use Rattle.tag.specs.Layout.{blocks}
 use Rattle.reply.specs.declared.RadioSide.{RadioSide}
 use Rattle.reply.specs.Reply.{good}
-use Rattle.reply.specs.Outcome.{Told, told, fails, sideRegisters}
+use Rattle.reply.specs.Outcome.{Told, told, fails}
 
 -- blocks first to last "leaves area or memory"
 unfoldable pub leaves : Ends → ℕ → ℕ → Bool
@@ -42,28 +39,6 @@ readOf s m option first more =
     (pick (leaves (s .core .registers .ends) first (first + more)) (fails 0x0F s m)
     (pick (not (mayRead (s .core .registers) (Radio (s .air .session)) first)) (fails 0x15 s m)
     (told (good (blocksOf (s .core .registers) (s .air .session) m option first (more + 1))) s m)))
-
--- the radio may write n blocks from the first on
-unfoldable pub mayWriteAll : Registers → ℕ → ℕ → ℕ → Bool
-mayWriteAll r session first zero = true
-mayWriteAll r session first (suc n) = mayWriteAll r session first n && mayWrite r (Radio session) (first + n)
-
--- "21, 24 Write: 24: count-1 at most 3, else 0Fh; 10h; 0Fh leaves area or memory; 12h no right or locked";
--- the data stand at place `at` of the frame
-unfoldable pub writeOf : RadioSide → List ℕ → ℕ → ℕ → List ℕ → ℕ → Told
-writeOf s m first more frame at =
-    pick (ltb 3 more) (fails 0x0F s m)
-    (pick (leb blocks first) (fails 0x10 s m)
-    (pick (leaves (s .core .registers .ends) first (first + more)) (fails 0x0F s m)
-    (pick (not (mayWriteAll (s .core .registers) (s .air .session) first (more + 1))) (fails 0x12 s m)
-    (told (good []) s (sets m (4 * first) (bytesAt frame at (4 * (more + 1))))))))
-
--- "22 Lock: 10h block above 1; 11h already locked": sets the block's bit of LOCK_CCFILE
-unfoldable pub lockOf : RadioSide → List ℕ → ℕ → Told
-lockOf s m block =
-    pick (ltb 1 block) (fails 0x10 s m)
-    (pick (isLocked (s .core .registers .ccfile) block) (fails 0x11 s m)
-    (told (good []) (sideRegisters (written (s .core .registers) 0x0C (keepBits 2 (s .core .registers .ccfile .bits) + (block + 1))) s) m))
 
 -- the statuses of n blocks from the first on
 unfoldable pub statusesOf : Registers → ℕ → ℕ → ℕ → List ℕ

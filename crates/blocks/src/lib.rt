@@ -1,4 +1,4 @@
-// Commands on blocks of user memory.
+// Commands that read blocks of user memory and their statuses.
 ghost use mathlib.Core.Path.{_≡_};
 ghost use Prim.Native.Nat.{_+_, _≤_};
 ghost use lib.Dec.{ltb};
@@ -6,7 +6,7 @@ ghost use lib.Seq.{sets};
 ghost use lib.ListN.{length};
 ghost use Rattle.parts.specs.Pick.{pick};
 ghost use Rattle.reply.specs.Outcome.{ended, finish};
-ghost use Rattle.blocks.specs.Blocks.{leaves, statusOf, blockOf, blocksOf, readOf, mayWriteAll, writeOf, lockOf, statusesOf, statusReply};
+ghost use Rattle.blocks.specs.Blocks.{leaves, statusOf, blockOf, blocksOf, readOf, statusesOf, statusReply};
 use areas::Side;
 use registers::Ends;
 use registers::Registers;
@@ -14,7 +14,7 @@ use reply::Outcome;
 use reply::RadioSide;
 
 // Whether blocks first to last leave an area or the memory.
-fn leaves(e: Ends, first: u16, last: u16) -> bool
+pub fn leaves(e: Ends, first: u16, last: u16) -> bool
     ensures { λ r. ⌜ r ≡ leaves e first last ⌝ }
 {
     let a = areas::area_of_block(e, first);
@@ -120,75 +120,6 @@ pub fn read(s: RadioSide, m: &[u8], out: &mut [u8], option: bool, first: u8, mor
     let n = put_blocks(out, r, session, m, option, first, more as u16 + 1);
     let answer = reply::close(out, n);
     Outcome { answer, side: s }
-}
-
-// Whether the radio may write n blocks from the first on.
-fn may_write_all(r: Registers, session: u8, first: u8, n: u16) -> bool
-    requires { ⌜ n ≤ 256 ⌝ }
-    ensures { λ b. ⌜ b ≡ mayWriteAll r session first n ⌝ }
-{
-    let mut all = true;
-    let mut k: u16 = 0;
-    while k < n {
-        let one = areas::may_write(r, Side::Radio(session), first as u16 + k);
-        all = all & one;
-        k += 1;
-    }
-    all
-}
-
-// 21 and 24, more being one less than the count; the data stand at a place of the frame.
-pub fn write(
-    s: RadioSide,
-    m: &mut [u8],
-    out: &mut [u8],
-    first: u8,
-    more: u8,
-    frame: &[u8],
-    at: usize,
-) -> Outcome
-    ensures { λ r. ⌜ ended r (now (m .exit)) (now (out .exit)) ≡ finish (writeOf s (now (m .entry)) first more (now (frame .entry)) at) (now (out .entry)) ⌝ }
-{
-    let r = s.core.registers;
-    let last = first as u16 + more as u16;
-    if 3 < more {
-        let answer = reply::error(out, 0x0F);
-        return Outcome { answer, side: s };
-    }
-    if tag::BLOCKS <= first as u16 {
-        let answer = reply::error(out, 0x10);
-        return Outcome { answer, side: s };
-    }
-    if leaves(r.ends, first as u16, last) {
-        let answer = reply::error(out, 0x0F);
-        return Outcome { answer, side: s };
-    }
-    if !may_write_all(r, s.air.session, first, more as u16 + 1) {
-        let answer = reply::error(out, 0x12);
-        return Outcome { answer, side: s };
-    }
-    parts::put_bytes(m, 4 * (first as usize), frame, at, 4 * (more as usize + 1));
-    let answer = reply::done(out);
-    Outcome { answer, side: s }
-}
-
-// 22.
-pub fn lock(s: RadioSide, m: &[u8], out: &mut [u8], block: u8) -> Outcome
-    ensures { λ r. ⌜ ended r (now (m .entry)) (now (out .exit)) ≡ finish (lockOf s (now (m .entry)) block) (now (out .entry)) ⌝ }
-{
-    let r = s.core.registers;
-    if 1 < block {
-        let answer = reply::error(out, 0x10);
-        return Outcome { answer, side: s };
-    }
-    if areas::is_locked(r.ccfile, block as u16) {
-        let answer = reply::error(out, 0x11);
-        return Outcome { answer, side: s };
-    }
-    let bits = r.ccfile.bits % 4 + (block + 1);
-    let next = s.with_registers(r.write(0x0C, bits));
-    let answer = reply::done(out);
-    Outcome { answer, side: next }
 }
 
 // Writes the statuses of n blocks after the reply's first byte.

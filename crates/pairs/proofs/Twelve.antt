@@ -23,7 +23,8 @@ use Rattle.signal.specs.Signal.{dueOf, startAt, startOf, stopAt, selectBy, data
 use Rattle.reply.specs.Reply.{answerOf, bufferOf}
 use Rattle.frame.specs.Fields.{uidPlace, paramPlace, ownUid, param, isKnown, takesOption, paramBytes}
 use Rattle.frame.specs.Judge.{isSilent, isMute, errorOf, shutOut, badFlags, wrongLength, judge}
-use Rattle.blocks.specs.Blocks.{leaves, statusOf, blockOf, blocksOf, readOf, mayWriteAll, writeOf, lockOf, statusesOf, statusReply}
+use Rattle.blocks.specs.Blocks.{leaves, statusOf, blockOf, blocksOf, readOf, statusesOf, statusReply}
+use Rattle.block_writes.specs.Writes.{mayWriteAll, writeOf, lockOf}
 use Rattle.config.specs.Config.{isPointer, readConfigOf, mailboxAfter, writtenCore, writeConfigOf, readDynamicOf, writeDynamicOf}
 use Rattle.message.specs.Message.{takesMessage, writeMessageOf, lengthOf, asked, mailboxAfter as messageMailboxAfter, readMessageOf}
 use Rattle.password.specs.Password.{presentOf, writePasswordOf, quietOf, selectOf as passwordSelectOf, resetOf}

@@ -33,7 +33,8 @@ use Rattle.frame.specs.declared.Verdict.{Verdict}
 use Rattle.frame.specs.declared.Verdict.the-variants.{Silence, Error, Request}
 use Rattle.frame.specs.Fields.{param}
 use Rattle.frame.specs.Judge.{judge}
-use Rattle.blocks.specs.Blocks.{readOf, writeOf, lockOf, statusReply}
+use Rattle.blocks.specs.Blocks.{readOf, statusReply}
+use Rattle.block_writes.specs.Writes.{writeOf, lockOf}
 use Rattle.config.specs.Config.{mailboxAfter, writtenCore, readConfigOf, writeConfigOf, readDynamicOf, writeDynamicOf}
 use Rattle.message.specs.Message as message
 use Rattle.password.specs.Password.{presentOf, writePasswordOf, quietOf, selectOf, resetOf}

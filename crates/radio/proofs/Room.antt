@@ -22,7 +22,8 @@ use Rattle.reply.specs.Outcome.{Told, told, fails}
 use Rattle.frame.specs.declared.Verdict.{Verdict}
 use Rattle.frame.specs.declared.Verdict.the-variants.{Silence, Error, Request}
 use Rattle.frame.specs.Judge.{judge}
-use Rattle.blocks.specs.Blocks.{leaves, blockOf, blocksOf, readOf, writeOf, lockOf, statusOf, statusesOf, statusReply}
+use Rattle.blocks.specs.Blocks.{leaves, blockOf, blocksOf, readOf, statusOf, statusesOf, statusReply}
+use Rattle.block_writes.specs.Writes.{writeOf, lockOf}
 use Rattle.config.specs.Config.{readConfigOf, writeConfigOf, readDynamicOf, writeDynamicOf}
 use Rattle.message.specs.Message.{writeMessageOf, lengthOf, asked, readMessageOf}
 use Rattle.password.specs.Password.{presentOf, writePasswordOf, quietOf, selectOf, resetOf}

@@ -9,7 +9,8 @@ use Rattle.reply.specs.declared.RadioSide.{RadioSide}
 use Rattle.reply.specs.Reply.{nothing}
 use Rattle.reply.specs.Outcome.{Told, told}
 use Rattle.frame.specs.Fields.{command, optionFlag, paramPlace, ownUid, param}
-use Rattle.blocks.specs.Blocks.{readOf, writeOf, lockOf, statusReply}
+use Rattle.blocks.specs.Blocks.{readOf, statusReply}
+use Rattle.block_writes.specs.Writes.{writeOf, lockOf}
 use Rattle.config.specs.Config.{readConfigOf, writeConfigOf, readDynamicOf, writeDynamicOf}
 use Rattle.message.specs.Message.{writeMessageOf, lengthOf, readMessageOf}
 use Rattle.password.specs.Password.{presentOf, writePasswordOf, quietOf, selectOf, resetOf}

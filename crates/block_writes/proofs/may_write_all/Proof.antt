@@ -3,9 +3,9 @@ use Prim.Native.Nat.{_-_, _≤_}
 use native.Mathlib.Omega.{arith}
 use borrow.Author.Needs.{needs}
 use native.Mathlib.Numerals.{add-one}
-use Rattle.blocks.specs.Blocks.{mayWriteAll}
-use Rattle.blocks.proofs.may_write_all.Statement.{statement}
-use Rattle.blocks.proofs.may_write_all.Tie as tie
+use Rattle.block_writes.specs.Writes.{mayWriteAll}
+use Rattle.block_writes.proofs.may_write_all.Statement.{statement}
+use Rattle.block_writes.proofs.may_write_all.Tie as tie
 
 abbrev Inv-loop : tie.InvT-loop
 Inv-loop r session first n all₀ k₀ all k = (k ≤ n) × (all ≡ mayWriteAll r session first k)

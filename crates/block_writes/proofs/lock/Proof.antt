@@ -2,10 +2,10 @@ use mathlib.Core.List.{[]}
 use Rattle.parts.proofs.Picks.{picks}
 use Rattle.reply.specs.Reply.{good, fault}
 use Rattle.reply.proofs.Finish.{said}
-use Rattle.blocks.specs.Blocks.{lockOf}
+use Rattle.block_writes.specs.Writes.{lockOf}
 use borrow.Author.Needs.{needs}
-use Rattle.blocks.proofs.lock.Statement.{statement}
-use Rattle.blocks.proofs.lock.Tie as tie
+use Rattle.block_writes.proofs.lock.Statement.{statement}
+use Rattle.block_writes.proofs.lock.Tie as tie
 
 error-requires : tie.Need-error-requires
 error-requires c κs = search needs

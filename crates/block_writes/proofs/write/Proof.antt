@@ -1,11 +1,11 @@
 use Rattle.parts.proofs.Picks.{picks}
 use Rattle.reply.specs.Reply.{good, fault}
 use Rattle.reply.proofs.Finish.{said}
-use Rattle.blocks.specs.Blocks.{writeOf}
+use Rattle.block_writes.specs.Writes.{writeOf}
 use mathlib.Core.List.{[]}
 use borrow.Author.Needs.{needs}
-use Rattle.blocks.proofs.write.Statement.{statement}
-use Rattle.blocks.proofs.write.Tie as tie
+use Rattle.block_writes.proofs.write.Statement.{statement}
+use Rattle.block_writes.proofs.write.Tie as tie
 
 add-last : tie.Need-add-last
 add-last c = search needs

@@ -1,0 +1,40 @@
+-- Commands that write blocks: 21, 24 Write; 22 Lock.
+use mathlib.Core.Bool.{Bool, true, not, _&&_}
+use mathlib.Core.List.{List, []}
+use Prim.Native.Nat.{ℕ, zero, suc, _+_, _*_}
+use lib.Dec.{leb, ltb}
+use lib.Seq.{sets}
+use Rattle.parts.specs.Pick.{pick}
+use Rattle.parts.specs.Bits.{keepBits}
+use Rattle.parts.specs.Bytes.{bytesAt}
+use Rattle.registers.specs.declared.Registers.{Registers}
+use Rattle.registers.specs.Map.{written}
+use Rattle.areas.specs.declared.Side.the-variants.{Radio}
+use Rattle.areas.specs.Rights.{isLocked, mayWrite}
+use Rattle.tag.specs.Layout.{blocks}
+use Rattle.reply.specs.declared.RadioSide.{RadioSide}
+use Rattle.reply.specs.Reply.{good}
+use Rattle.reply.specs.Outcome.{Told, told, fails, sideRegisters}
+use Rattle.blocks.specs.Blocks.{leaves}
+
+-- the radio may write n blocks from the first on
+unfoldable pub mayWriteAll : Registers → ℕ → ℕ → ℕ → Bool
+mayWriteAll r session first zero = true
+mayWriteAll r session first (suc n) = mayWriteAll r session first n && mayWrite r (Radio session) (first + n)
+
+-- "21, 24 Write: 24: count-1 at most 3, else 0Fh; 10h; 0Fh leaves area or memory; 12h no right or locked";
+-- the data stand at place `at` of the frame
+unfoldable pub writeOf : RadioSide → List ℕ → ℕ → ℕ → List ℕ → ℕ → Told
+writeOf s m first more frame at =
+    pick (ltb 3 more) (fails 0x0F s m)
+    (pick (leb blocks first) (fails 0x10 s m)
+    (pick (leaves (s .core .registers .ends) first (first + more)) (fails 0x0F s m)
+    (pick (not (mayWriteAll (s .core .registers) (s .air .session) first (more + 1))) (fails 0x12 s m)
+    (told (good []) s (sets m (4 * first) (bytesAt frame at (4 * (more + 1))))))))
+
+-- "22 Lock: 10h block above 1; 11h already locked": sets the block's bit of LOCK_CCFILE
+unfoldable pub lockOf : RadioSide → List ℕ → ℕ → Told
+lockOf s m block =
+    pick (ltb 1 block) (fails 0x10 s m)
+    (pick (isLocked (s .core .registers .ccfile) block) (fails 0x11 s m)
+    (told (good []) (sideRegisters (written (s .core .registers) 0x0C (keepBits 2 (s .core .registers .ccfile .bits) + (block + 1))) s) m))

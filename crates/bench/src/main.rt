@@ -4,13 +4,18 @@ ghost use Prim.Native.Nat.{_≤_};
 ghost use lib.ListN.{length};
 use script::Bench;
 
-// Where a run over the input stands.
+// Where a run over the lines stands.
 struct Run {
     bench: Bench,
-    // Bytes of the line that is being read.
-    have: usize,
     // Bytes of text that wait in the output buffer.
     filled: usize,
+}
+
+// Where a run over the input stands.
+struct Place {
+    run: Run,
+    // Bytes of a line whose line feed is still to come.
+    have: usize,
 }
 
 fn least(a: usize, b: usize) -> usize
@@ -41,74 +46,106 @@ fn next_place(filled: usize, out: &[u8]) -> usize
 }
 
 // A line is complete.
-fn end_line(r: Run, m: &mut [u8], line: &[u8], out: &mut [u8]) -> Run {
-    let have = least(r.have, line.len());
+fn end_line(r: Run, m: &mut [u8], s: &[u8], out: &mut [u8]) -> Run {
     let at = next_place(r.filled, out);
     let room = out.len() - at;
-    let o = script::line(r.bench, m, &line[0..have], &mut out[at..]);
+    let o = script::line(r.bench, m, s, &mut out[at..]);
     let bench = o.bench;
     let length = least(o.length, room);
     Run {
         bench,
-        have: 0,
         filled: at + length,
     }
 }
 
-// A byte of the input. A full line stays full, one over 1,200: it is too long.
-fn byte(r: Run, m: &mut [u8], line: &mut [u8], out: &mut [u8], b: u8) -> Run {
-    if b == b'\n' {
-        return end_line(r, m, line, out);
-    }
-    let have = r.have;
-    if line.len() <= have {
-        return r;
-    }
-    line[have] = b;
-    let mut n = r;
-    n.have = have + 1;
-    n
-}
-
-// The bytes of one read.
-fn bytes(r: Run, m: &mut [u8], line: &mut [u8], out: &mut [u8], s: &[u8]) -> Run {
-    let mut now = r;
-    let mut i = 0;
+// The place of the next line feed, or the end.
+fn line_end(s: &[u8], from: usize) -> usize
+    requires { ⌜ from ≤ length (now s) ⌝ }
+    ensures { λ r. ⌜ (from ≤ r) × (r ≤ length (now (s .entry))) ⌝ }
+{
+    let mut i = from;
     while i < s.len() {
-        now = byte(now, m, line, out, s[i]);
+        if s[i] == b'\n' {
+            return i;
+        }
         i += 1;
     }
-    now
+    i
+}
+
+// Keeps a piece of a line behind what waits of it. A full line stays full, one over 1,200: it is too long.
+fn keep(line: &mut [u8], have: usize, s: &[u8]) -> usize {
+    let mut at = have;
+    let mut i = 0;
+    while i < s.len() {
+        if line.len() <= at {
+            return at;
+        }
+        line[at] = s[i];
+        at += 1;
+        i += 1;
+    }
+    at
+}
+
+// The lines of a read from a place on. What follows the last line feed is kept.
+fn lines(r: Run, m: &mut [u8], line: &mut [u8], out: &mut [u8], s: &[u8], start: usize) -> Place {
+    let mut now = r;
+    let mut from = least(start, s.len());
+    let mut end = line_end(s, from);
+    while end < s.len() {
+        now = end_line(now, m, &s[from..end], out);
+        from = end + 1;
+        end = line_end(s, from);
+    }
+    let have = keep(line, 0, &s[from..]);
+    Place { run: now, have }
+}
+
+// The bytes of one read. Where a part of a line waits, the first of them go on with it.
+fn bytes(p: Place, m: &mut [u8], line: &mut [u8], out: &mut [u8], s: &[u8]) -> Place {
+    let r = p.run;
+    if p.have == 0 {
+        return lines(r, m, line, out, s, 0);
+    }
+    let end = line_end(s, 0);
+    let kept = keep(line, p.have, &s[0..end]);
+    if s.len() <= end {
+        return Place { run: r, have: kept };
+    }
+    let have = least(kept, line.len());
+    let n = end_line(r, m, &line[0..have], out);
+    lines(n, m, line, out, s, end + 1)
 }
 
 struct Read {
-    run: Run,
+    place: Place,
     more: bool,
 }
 
-fn read_once(r: Run, m: &mut [u8], line: &mut [u8], out: &mut [u8]) -> Read {
+fn read_once(p: Place, m: &mut [u8], line: &mut [u8], out: &mut [u8]) -> Read {
     let mut chunk = io::large_buffer();
     let got = libc::read(0, &mut chunk);
     if got <= 0 {
         return Read {
-            run: r,
+            place: p,
             more: false,
         };
     }
     let n = io::count(got, &chunk);
     Read {
-        run: bytes(r, m, line, out, &chunk[0..n]),
+        place: bytes(p, m, line, out, &chunk[0..n]),
         more: true,
     }
 }
 
 // All of the input. The number of reads only shows that the loop ends.
-fn all(r: Run, m: &mut [u8], line: &mut [u8], out: &mut [u8]) -> Run {
-    let mut now = r;
+fn all(p: Place, m: &mut [u8], line: &mut [u8], out: &mut [u8]) -> Place {
+    let mut now = p;
     let mut reads = u64::MAX;
     while 0 < reads {
         let t = read_once(now, m, line, out);
-        now = t.run;
+        now = t.place;
         if !t.more {
             return now;
         }
@@ -118,11 +155,13 @@ fn all(r: Run, m: &mut [u8], line: &mut [u8], out: &mut [u8]) -> Run {
 }
 
 // A last line without its line feed counts if it has a byte.
-fn last_line(r: Run, m: &mut [u8], line: &[u8], out: &mut [u8]) -> Run {
-    if 0 < r.have {
-        return end_line(r, m, line, out);
+fn last_line(p: Place, m: &mut [u8], line: &[u8], out: &mut [u8]) -> Run {
+    let r = p.run;
+    if p.have == 0 {
+        return r;
     }
-    r
+    let have = least(p.have, line.len());
+    end_line(r, m, &line[0..have], out)
 }
 
 fn main() {
@@ -130,12 +169,11 @@ fn main() {
     let mut line = [0u8; 1201];
     let mut out = io::large_buffer();
     let bench = script::start(&mut m);
-    let begun = Run {
-        bench,
+    let begun = Place {
+        run: Run { bench, filled: 0 },
         have: 0,
-        filled: 0,
     };
-    let r = all(begun, &mut m, &mut line, &mut out);
-    let n = last_line(r, &mut m, &line, &mut out);
-    flush(n.filled, &out);
+    let p = all(begun, &mut m, &mut line, &mut out);
+    let r = last_line(p, &mut m, &line, &mut out);
+    flush(r.filled, &out);
 }

@@ -1,63 +1,103 @@
-use borrow.Author.Needs.{needs}
 use native.Mathlib.Omega.{arith}
-use mathlib.Core.Path.{_≡_, refl, _∙_}
-use Prim.Native.Nat.{_-_, _≤_}
-use lib.ListN.{length}
+use mathlib.Core.Path.{_∙_}
+use Prim.Native.Nat.{_-_}
+use borrow.Author.Needs.{needs}
 use Rattle.bench.proofs.bytes.Statement.{statement}
 use Rattle.bench.proofs.bytes.Tie as tie
 
-abbrev Inv-loop : tie.InvT-loop
-Inv-loop m₀ line₀ out₀ s now₀ i₀ m line out now i = (i ≤ length s) × ((length m ≡ length m₀) × ((length line ≡ length line₀) × (length out ≡ length out₀)))
+lines-requires : tie.Need-lines-requires
+lines-requires c κs = search needs
 
-abbrev μ-loop : tie.MeasureT-loop
-μ-loop m₀ line₀ out₀ s now₀ i₀ m line out now i = length s - i
+same-length : tie.Need-same-length
+same-length c = search needs
 
-loop-holds : tie.Need-loop-holds Inv-loop μ-loop
-loop-holds c = (omega arith, (refl, (refl, refl)))
+same-length-2 : tie.Need-same-length-2
+same-length-2 c = search needs
 
-shared-slice-read-byte : tie.Need-shared-slice-read-byte Inv-loop μ-loop
-shared-slice-read-byte c = search needs
+same-length-3 : tie.Need-same-length-3
+same-length-3 c = search needs
 
-byte-requires : tie.Need-byte-requires Inv-loop μ-loop
-byte-requires c κs = search needs
-
-add-i : tie.Need-add-i Inv-loop μ-loop
-add-i c = omega (arith, c .before .before .before .before .before .before .before .before .before .before .before .loop-test .taken, c .before .before .before .before .before .before .before .before .before .before .before .before .before .before .before .before .before .good .1 .1 .1 .1 .0 .0)
-
-loop-less : tie.Need-loop-less Inv-loop μ-loop
-loop-less c = omega (arith, c .before .before .before .before .before .before .before .before .before .before .before .loop-test .taken)
-
-loop-again : tie.Need-loop-again Inv-loop μ-loop
-loop-again c =
-    let k = c .before .before .before .before .before .before .byte .kept in
-    let l = c .before .before .before .before .before .before .before .before .before .before .before .before .loop .inv in
-    (omega (arith, c .before .before .before .before .before .before .before .before .before .before .before .loop-test .taken), (k .1 .0 ∙ l .1 .0, (k .1 .1 .0 ∙ l .1 .1 .0, k .1 .1 .1 .0 ∙ l .1 .1 .1)))
-
-same-length : tie.Need-same-length Inv-loop μ-loop
-same-length c = c .before .loop .inv .1 .0
-
-same-length-2 : tie.Need-same-length-2 Inv-loop μ-loop
-same-length-2 c = c .before .loop .inv .1 .1 .0
-
-same-length-3 : tie.Need-same-length-3 Inv-loop μ-loop
-same-length-3 c = c .before .loop .inv .1 .1 .1
-
-returns : tie.Need-returns Inv-loop μ-loop
+returns : tie.Need-returns
 returns c = search needs
+
+line-end-requires : tie.Need-line-end-requires
+line-end-requires c κs = search needs
+
+sub-keep : tie.Need-sub-keep
+sub-keep c = search needs
+
+part-keep-start : tie.Need-part-keep-start
+part-keep-start c = search needs
+
+part-keep-end : tie.Need-part-keep-end
+part-keep-end c = search needs
+
+keep-requires : tie.Need-keep-requires
+keep-requires c κs = search needs
+
+same-length-4 : tie.Need-same-length-4
+same-length-4 c = search needs
+
+returns-2 : tie.Need-returns-2
+returns-2 c = search needs
+
+least-requires : tie.Need-least-requires
+least-requires c κs = search needs
+
+sub-end-line : tie.Need-sub-end-line
+sub-end-line c = search needs
+
+part-end-line-start : tie.Need-part-end-line-start
+part-end-line-start c = search needs
+
+part-end-line-end : tie.Need-part-end-line-end
+part-end-line-end c = search needs
+
+end-line-requires : tie.Need-end-line-requires
+end-line-requires c κs = search needs
+
+add-lines : tie.Need-add-lines
+add-lines c = omega (arith, c .before .before .before .before .before .before .before .before .before .before .before .before .before .if2 .left, c .before .before .before .before .before .before .before .before .before .before .before .before .before .before .before .before .before .before .before .before .before .before .before .before .before .before .before .good .1 .1 .1 .1 .0 .0)
+
+lines-requires-2 : tie.Need-lines-requires-2
+lines-requires-2 c κs = search needs
+
+same-length-5 : tie.Need-same-length-5
+same-length-5 c = search needs
+
+same-length-6 : tie.Need-same-length-6
+same-length-6 c = c .before .before .before .before .before .before .lines2 .kept .1 .1 .0 ∙ c .before .before .before .before .before .before .before .before .before .before .before .before .before .before .before .before .before .before .before .before .before .before .before .keep .kept .0
+
+same-length-7 : tie.Need-same-length-7
+same-length-7 c = search needs
+
+returns-3 : tie.Need-returns-3
+returns-3 c = search needs
 
 pub bytes-spec : {M : Type 1} → statement M
 bytes-spec =
     tie.close
     (tie.spec
-    Inv-loop
-    μ-loop
-    loop-holds
-    shared-slice-read-byte
-    byte-requires
-    add-i
-    loop-less
-    loop-again
+    lines-requires
     same-length
     same-length-2
     same-length-3
-    returns)
+    returns
+    line-end-requires
+    sub-keep
+    part-keep-start
+    part-keep-end
+    keep-requires
+    same-length-4
+    returns-2
+    least-requires
+    sub-end-line
+    part-end-line-start
+    part-end-line-end
+    end-line-requires
+    add-lines
+    lines-requires-2
+    same-length-5
+    same-length-6
+    same-length-7
+    returns-3)

@@ -1,11 +1,8 @@
-use borrow.Author.Needs.{needs}
 use native.Mathlib.Omega.{arith}
 use Prim.Native.Nat.{_-_}
+use borrow.Author.Needs.{needs}
 use Rattle.bench.proofs.end_line.Statement.{statement}
 use Rattle.bench.proofs.end_line.Tie as tie
-
-least-requires : tie.Need-least-requires
-least-requires c κs = search needs
 
 next-place-requires : tie.Need-next-place-requires
 next-place-requires c κs = search needs
@@ -22,23 +19,14 @@ part-line-start c = search needs
 part-line-end : tie.Need-part-line-end
 part-line-end c = search needs
 
-sub-line-2 : tie.Need-sub-line-2
-sub-line-2 c = search needs
-
-part-line-start-2 : tie.Need-part-line-start-2
-part-line-start-2 c = search needs
-
-part-line-end-2 : tie.Need-part-line-end-2
-part-line-end-2 c = search needs
-
 line-requires : tie.Need-line-requires
 line-requires c κs = search needs
 
-least-requires-2 : tie.Need-least-requires-2
-least-requires-2 c κs = search needs
+least-requires : tie.Need-least-requires
+least-requires c κs = search needs
 
-add-t11 : tie.Need-add-t11
-add-t11 c = omega (arith, c .least2 .ensures, c .before .before .before .before .before .before .before .before .before .before .next-place .ensures, c .before .before .before .before .before .before .before .before .before .before .before .before .before .before .before .before .good .1 .1 .1 .0 .0)
+add-t12 : tie.Need-add-t12
+add-t12 c = omega (arith, c .least .ensures, c .before .before .before .before .before .before .before .before .before .next-place .ensures, c .before .before .before .before .before .before .before .before .before .before .before .before .before .before .good .1 .1 .1 .0 .0)
 
 same-length : tie.Need-same-length
 same-length c = search needs
@@ -53,18 +41,14 @@ pub end-line-spec : {M : Type 1} → statement M
 end-line-spec =
     tie.close
     (tie.spec
-    least-requires
     next-place-requires
     sub-room
     sub-line
     part-line-start
     part-line-end
-    sub-line-2
-    part-line-start-2
-    part-line-end-2
     line-requires
-    least-requires-2
-    add-t11
+    least-requires
+    add-t12
     same-length
     same-length-2
     returns)

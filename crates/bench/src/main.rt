@@ -11,13 +11,6 @@ struct Run {
     filled: usize,
 }
 
-// Where a run over the input stands.
-struct Place {
-    run: Run,
-    // Bytes of a line whose line feed is still to come.
-    have: usize,
-}
-
 fn least(a: usize, b: usize) -> usize
     ensures { λ r. ⌜ (r ≤ a) × (r ≤ b) ⌝ }
 {
@@ -46,10 +39,10 @@ fn next_place(filled: usize, out: &[u8]) -> usize
 }
 
 // A line is complete.
-fn end_line(r: Run, m: &mut [u8], s: &[u8], out: &mut [u8]) -> Run {
+fn end_line(r: Run, m: &mut [u8], reply: &mut [u8; 643], s: &[u8], out: &mut [u8]) -> Run {
     let at = next_place(r.filled, out);
     let room = out.len() - at;
-    let o = script::line(r.bench, m, s, &mut out[at..]);
+    let o = script::line(r.bench, m, reply, s, &mut out[at..]);
     let bench = o.bench;
     let length = least(o.length, room);
     Run {
@@ -73,107 +66,92 @@ fn line_end(s: &[u8], from: usize) -> usize
     i
 }
 
-// Keeps a piece of a line behind what waits of it. A full line stays full, one over 1,200: it is too long.
-fn keep(line: &mut [u8], have: usize, s: &[u8]) -> usize {
-    let mut at = have;
-    let mut i = 0;
-    while i < s.len() {
-        if line.len() <= at {
-            return at;
-        }
-        line[at] = s[i];
-        at += 1;
-        i += 1;
-    }
-    at
+// What the lines of the input buffer leave: what follows the last line feed starts at a place.
+struct Rest {
+    run: Run,
+    from: usize,
 }
 
-// The lines of a read from a place on. What follows the last line feed is kept.
-fn lines(r: Run, m: &mut [u8], line: &mut [u8], out: &mut [u8], s: &[u8], start: usize) -> Place {
+// The lines of the input buffer.
+fn lines(r: Run, m: &mut [u8], reply: &mut [u8; 643], s: &[u8], out: &mut [u8]) -> Rest {
     let mut now = r;
-    let mut from = least(start, s.len());
-    let mut end = line_end(s, from);
+    let mut from = 0;
+    let mut end = line_end(s, 0);
     while end < s.len() {
-        now = end_line(now, m, &s[from..end], out);
+        now = end_line(now, m, reply, &s[from..end], out);
         from = end + 1;
         end = line_end(s, from);
     }
-    let have = keep(line, 0, &s[from..]);
-    Place { run: now, have }
+    Rest { run: now, from }
 }
 
-// The bytes of one read. Where a part of a line waits, the first of them go on with it.
-fn bytes(p: Place, m: &mut [u8], line: &mut [u8], out: &mut [u8], s: &[u8]) -> Place {
-    let r = p.run;
-    if p.have == 0 {
-        return lines(r, m, line, out, s, 0);
+// Moves what follows the last line feed to the start. Of a line that is too long 1,201 bytes are kept: it stays too
+// long.
+fn keep(input: &mut [u8], from: usize, end: usize) -> usize {
+    if end < from {
+        return 0;
     }
-    let end = line_end(s, 0);
-    let kept = keep(line, p.have, &s[0..end]);
-    if s.len() <= end {
-        return Place { run: r, have: kept };
-    }
-    let have = least(kept, line.len());
-    let n = end_line(r, m, &line[0..have], out);
-    lines(n, m, line, out, s, end + 1)
+    let have = least(end - from, 1201);
+    parts::copy_bytes(input, 0, from, have);
+    have
 }
 
+// How much of the input buffer is filled, and whether more may come.
 struct Read {
-    place: Place,
+    end: usize,
     more: bool,
 }
 
-fn read_once(p: Place, m: &mut [u8], line: &mut [u8], out: &mut [u8]) -> Read {
-    let mut chunk = io::large_buffer();
-    let got = libc::read(0, &mut chunk);
-    if got <= 0 {
+// Reads behind what waits of a line. At the end of the input what waits gets its line feed.
+fn read_more(input: &mut [u8], have: usize) -> Read
+    ensures { λ r. ⌜ r .end ≤ length (now (input .entry)) ⌝ }
+{
+    let at = least(have, input.len());
+    let got = libc::read(0, &mut input[at..]);
+    if 0 < got {
+        let n = io::count(got, &input[at..]);
         return Read {
-            place: p,
+            end: at + n,
+            more: true,
+        };
+    }
+    if at == 0 {
+        return Read {
+            end: 0,
             more: false,
         };
     }
-    let n = io::count(got, &chunk);
-    Read {
-        place: bytes(p, m, line, out, &chunk[0..n]),
-        more: true,
-    }
+    parts::put(input, at, b'\n');
+    let end = least(at + 1, input.len());
+    Read { end, more: false }
 }
 
 // All of the input. The number of reads only shows that the loop ends.
-fn all(p: Place, m: &mut [u8], line: &mut [u8], out: &mut [u8]) -> Place {
-    let mut now = p;
+fn all(r: Run, m: &mut [u8], reply: &mut [u8; 643], input: &mut [u8], out: &mut [u8]) -> Run {
+    let mut now = r;
+    let mut have = 0;
     let mut reads = u64::MAX;
     while 0 < reads {
-        let t = read_once(now, m, line, out);
-        now = t.place;
+        let t = read_more(input, have);
+        let end = t.end;
+        let l = lines(now, m, reply, &input[0..end], out);
+        now = l.run;
         if !t.more {
             return now;
         }
+        have = keep(input, l.from, end);
         reads -= 1;
     }
     now
 }
 
-// A last line without its line feed counts if it has a byte.
-fn last_line(p: Place, m: &mut [u8], line: &[u8], out: &mut [u8]) -> Run {
-    let r = p.run;
-    if p.have == 0 {
-        return r;
-    }
-    let have = least(p.have, line.len());
-    end_line(r, m, &line[0..have], out)
-}
-
 fn main() {
     let mut m = [0u8; 1024];
-    let mut line = [0u8; 1201];
+    let mut reply = [0u8; 643];
+    let mut input = io::large_buffer();
     let mut out = io::large_buffer();
     let bench = script::start(&mut m);
-    let begun = Place {
-        run: Run { bench, filled: 0 },
-        have: 0,
-    };
-    let p = all(begun, &mut m, &mut line, &mut out);
-    let r = last_line(p, &mut m, &line, &mut out);
+    let begun = Run { bench, filled: 0 };
+    let r = all(begun, &mut m, &mut reply, &mut input, &mut out);
     flush(r.filled, &out);
 }

@@ -13,7 +13,12 @@ use Rattle.parts.proofs.Picks.{pick-case}
 use Rattle.parts.proofs.Bools.{and-left, and-right}
 use Rattle.crc.specs.Crc.{closed, crcBytes, closedAt}
 use Rattle.crc.proofs.Frames.{closed-at}
+use Rattle.model.specs.Signals.{signalInRange, topValue}
+use Rattle.model.specs.Step.{Ended, stepOf}
+use Rattle.script.specs.declared.Bench.{Bench}
 use Rattle.script.specs.Hex.{allHex, hexBytes}
+use Rattle.script.specs.Text.{badText, answerText}
+use Rattle.script.specs.Bench.{prints, calls}
 use Rattle.script.specs.Line.{Said, bad, signal, frame, alone, level, byteSent, frameSent, tabbed, lineOf}
 
 isFrame : Said → Bool
@@ -103,3 +108,15 @@ frame-closed p o n l h =
     ap (λ (x : List ℕ). take (n + 2) x)
     (closed-at p o n l h ∙ sets-eq (closed p) o 0 (omega arith))
     ∙ take-at (closed p) (drop (0 + length (closed p)) o) (n + 2) k
+
+-- ---- a bad line: code 0 is refused
+abbrev Unmoved : Bench → List ℕ → List ℕ → Ended → Type 0
+Unmoved b m o e = prints b (e .tag) (e .memory) (e .reply) (answerText (e .answer) (e .reply)) ≡ prints b (b .tag) m o badText
+
+pub bad-call : (b : Bench) (m o : List ℕ) → calls b m o 0 0 [] ≡ prints b (b .tag) m o badText
+unfolding stepOf signalInRange topValue answerText
+bad-call b m o =
+    pick-case (Unmoved b m o) _ _ _ (λ _. refl)
+    (λ _. pick-case (Unmoved b m o) _ _ _ (λ _. refl)
+    (λ _. pick-case (Unmoved b m o) _ _ _ (λ _. refl)
+    (λ h. never (sym h))))

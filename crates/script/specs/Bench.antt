@@ -1,21 +1,21 @@
 -- From line to line: the tag, its memory and the line number are carried on.
 use mathlib.Core.List.{List, [], _∷_, _++_}
 use Prim.Native.Nat.{ℕ, suc, _+_, _%_}
-use lib.ListN.{length as size, replicate}
+use lib.ListN.{length as size}
 use lib.Seq.{sets}
 use Rattle.tag.specs.declared.Uid.{Uid}
 use Rattle.tag.specs.declared.Tag.{Tag}
-use Rattle.tag.specs.Layout.{replyBytes}
 use Rattle.crc.specs.Crc.{closed}
 use Rattle.model.specs.Step.{Ended, stepOf, freshOf}
 use Rattle.script.specs.declared.Bench.{Bench}
 use Rattle.script.specs.Line.{Said, bad, signal, frame, lineOf}
 use Rattle.script.specs.Text.{badText, answerText, lineText}
 
--- what a line leaves: the tag and the number of lines, the memory, and the text that it prints
+-- what a line leaves: the tag and the number of lines, the memory, the reply buffer, and the text that it prints
 pub record Printed : Type 0 where
   pub bench : Bench
   pub memory : List ℕ
+  pub reply : List ℕ
   pub text : List ℕ
 
 -- "It starts fresh with UID 01 02 03 04 05 24 02 E0"
@@ -26,37 +26,38 @@ benchUid = record { bytes = 0x01 ∷ 0x02 ∷ 0x03 ∷ 0x04 ∷ 0x05 ∷ 0x24 �
 abbrev pub nextLine : Bench → ℕ
 nextLine b = (b .number + 1) % 18446744073709551616
 
-abbrev pub prints : Bench → Tag → List ℕ → List ℕ → Printed
-prints b t m a = record { bench = record { tag = t; number = nextLine b }; memory = m; text = lineText (nextLine b) a }
+abbrev pub prints : Bench → Tag → List ℕ → List ℕ → List ℕ → Printed
+prints b t m o a = record { bench = record { tag = t; number = nextLine b }; memory = m; reply = o; text = lineText (nextLine b) a }
 
--- a call with a reply buffer of 643 zeros
-abbrev pub calls : Bench → List ℕ → ℕ → ℕ → List ℕ → Printed
-calls b m code value s =
-    let e = stepOf (b .tag) m (replicate replyBytes 0) code value s in
-    prints b (e .tag) (e .memory) (answerText (e .answer) (e .reply))
+-- a call with the reply buffer o
+abbrev pub calls : Bench → List ℕ → List ℕ → ℕ → ℕ → List ℕ → Printed
+calls b m o code value s =
+    let e = stepOf (b .tag) m o code value s in
+    prints b (e .tag) (e .memory) (e .reply) (answerText (e .answer) (e .reply))
 
 -- the program adds a frame's CRC
-unfoldable pub saidOf : Said → Bench → List ℕ → Printed
-saidOf bad b m = prints b (b .tag) m badText
-saidOf (signal code value) b m = calls b m code value []
-saidOf (frame s) b m = calls b m 8 0 (closed s)
+unfoldable pub saidOf : Said → Bench → List ℕ → List ℕ → Printed
+saidOf bad b m o = prints b (b .tag) m o badText
+saidOf (signal code value) b m o = calls b m o code value []
+saidOf (frame s) b m o = calls b m o 8 0 (closed s)
 
 -- the line s
-unfoldable pub benchOf : Bench → List ℕ → List ℕ → Printed
-benchOf b m s = saidOf (lineOf s) b m
+unfoldable pub benchOf : Bench → List ℕ → List ℕ → List ℕ → Printed
+benchOf b m o s = saidOf (lineOf s) b m o
 
--- ---- what the program's function leaves of both lent buffers: the text stands in `buffer` from place 0 on
+-- ---- what the program's function leaves of the lent buffers: the text stands in `buffer` from place 0 on
 pub record Shown : Type 0 where
   pub bench : Bench
   pub length : ℕ
   pub memory : List ℕ
+  pub reply : List ℕ
   pub buffer : List ℕ
 
-abbrev pub shown : Bench → ℕ → List ℕ → List ℕ → Shown
-shown b n m o = record { bench = b; length = n; memory = m; buffer = o }
+abbrev pub shown : Bench → ℕ → List ℕ → List ℕ → List ℕ → Shown
+shown b n m o x = record { bench = b; length = n; memory = m; reply = o; buffer = x }
 
 abbrev pub show : Printed → List ℕ → Shown
-show p o = shown (p .bench) (size (p .text)) (p .memory) (sets o 0 (p .text))
+show p x = shown (p .bench) (size (p .text)) (p .memory) (p .reply) (sets x 0 (p .text))
 
 -- the start: "fresh with UID 01 02 03 04 05 24 02 E0", before line 1
 pub record Begun : Type 0 where

@@ -3,7 +3,7 @@ ghost use mathlib.Core.Path.{_≡_};
 ghost use mathlib.Core.Bool.{true};
 ghost use mathlib.Core.List.{[], _∷_};
 ghost use Prim.Native.Nat.{_*_, _≤_, _<_};
-ghost use lib.ListN.{length, take, drop};
+ghost use lib.ListN.{length, take};
 ghost use lib.Seq.{sets};
 ghost use Rattle.script.specs.Hex.{isHex, hexValue, allHex, hexByte, hexBytes, hexDigit, hexText};
 ghost use Rattle.script.specs.Text.{decimal};
@@ -96,41 +96,36 @@ pub fn put_hex(text: &mut [u8], at: usize, out: &[u8], n: usize)
     }
 }
 
-// The decimal digits of a number: they stand from place `from` on.
-pub struct Digits {
-    pub bytes: [u8; 20],
-    pub from: usize,
-}
-
-pub fn decimal_digits(n: u64) -> Digits
-    ensures { λ r. ⌜ drop (r .from) (r .bytes) ≡ decimal n ⌝ }
-    ensures { λ r. ⌜ (r .from ≤ 20) × (length (r .bytes) ≡ 20) ⌝ }
+// How many decimal digits a number has.
+fn digit_count(n: u64) -> usize
+    ensures { λ r. ⌜ r ≡ length (decimal n) ⌝ }
+    ensures { λ r. ⌜ r ≤ 20 ⌝ }
 {
-    let mut bytes = [0u8; 20];
-    let mut from = 20;
+    let mut k = 1;
     let mut left = n;
-    while 0 < from {
-        from -= 1;
+    while k < 20 {
         if left < 10 {
-            bytes[from] = 0x30 + left as u8;
-            return Digits { bytes, from };
+            return k;
         }
-        bytes[from] = 0x30 + (left % 10) as u8;
         left /= 10;
+        k += 1;
     }
-    Digits { bytes, from: 0 }
+    k
 }
 
-// Stores the decimal digits of a number from place 0 on, and gives their number.
+// Stores the decimal digits of a number from place 0 on, the last first, and gives their number.
 pub fn put_decimal(text: &mut [u8], n: u64) -> usize
     ensures { λ r. ⌜ r ≡ length (decimal n) ⌝ }
     ensures { λ _. ⌜ now (text .exit) ≡ sets (now (text .entry)) 0 (decimal n) ⌝ }
     ensures { λ r. ⌜ r ≤ 20 ⌝ }
 {
-    let d = decimal_digits(n);
-    let bytes = d.bytes;
-    let from = d.from;
-    let k = 20 - from;
-    parts::put_bytes(text, 0, &bytes, from, k);
+    let k = digit_count(n);
+    let mut i = k;
+    let mut left = n;
+    while 0 < i {
+        i -= 1;
+        parts::put(text, i, 0x30 + (left % 10) as u8);
+        left /= 10;
+    }
     k
 }

@@ -5,10 +5,12 @@ mod text;
 
 ghost use mathlib.Core.Path.{_≡_};
 ghost use mathlib.Core.Bool.{true};
-ghost use Prim.Native.Nat.{_≤_};
-ghost use lib.ListN.{length};
+ghost use mathlib.Core.List.{List};
+ghost use Prim.Native.Nat.{ℕ, _≤_};
+ghost use lib.ListN.{length, take};
 ghost use Rattle.crc.specs.Crc.{closed};
 ghost use Rattle.script.specs.Hex.{allHex, hexBytes};
+ghost use Rattle.script.specs.declared.Bench.{Bench};
 ghost use Rattle.script.specs.Bench.{begun, startOf, nextLine, shown, show, calls, benchOf};
 use reading::Reading;
 use tag::Tag;
@@ -47,50 +49,79 @@ fn next_line(b: Bench) -> u64
 }
 
 // A call, and its answer's line.
-fn call(b: Bench, m: &mut [u8], code: u8, value: u16, frame: &[u8], text: &mut [u8]) -> Outcome
-    ensures { λ r. ⌜ shown (r .bench) (r .length) (now (m .exit)) (now (text .exit)) ≡ show (calls b (now (m .entry)) code value (now (frame .entry))) (now (text .entry)) ⌝ }
+fn call(
+    b: Bench,
+    m: &mut [u8],
+    reply: &mut [u8; 643],
+    code: u8,
+    value: u16,
+    frame: &[u8],
+    text: &mut [u8],
+) -> Outcome
+    ensures { λ r. ⌜ shown (r .bench) (r .length) (now (m .exit)) (now (reply .exit)) (now (text .exit)) ≡ show (calls b (now (m .entry)) (now (reply .entry)) code value (now (frame .entry))) (now (text .entry)) ⌝ }
 {
-    let mut out = [0u8; 643];
     let t = b.tag;
-    let o = model::step(t, m, &mut out, code, value, frame);
+    let o = model::step(t, m, reply, code, value, frame);
     let answer = o.answer;
     let tag = o.tag;
     let number = next_line(b);
-    let length = text::put_line(text, number, answer, &out);
+    let length = text::put_line(text, number, answer, reply);
     Outcome {
         bench: Bench { tag, number },
         length,
     }
 }
 
-// The call of a frame, from its digits. A line of 1,200 characters has 599 bytes of frame, and the CRC two.
-fn call_frame(b: Bench, m: &mut [u8], s: &[u8], text: &mut [u8]) -> Outcome
+// Stores a frame with its CRC, from its digits, and gives its length. A line of 1,200 characters has 599 bytes of
+// frame, and the CRC two.
+fn put_frame(s: &[u8], frame: &mut [u8; 602]) -> usize
     requires { ⌜ (allHex (now s) ≡ true) × (length (now s) ≤ 1198) ⌝ }
-    ensures { λ r. ⌜ shown (r .bench) (r .length) (now (m .exit)) (now (text .exit)) ≡ show (calls b (now (m .entry)) 8 0 (closed (hexBytes (now (s .entry))))) (now (text .entry)) ⌝ }
+    ensures { λ r. ⌜ take r (now (frame .exit)) ≡ closed (hexBytes (now (s .entry))) ⌝ }
+    ensures { λ r. ⌜ r ≤ length (now (frame .exit)) ⌝ }
 {
-    let mut frame = [0u8; 602];
     let n = s.len() / 2;
-    digits::decode(s, &mut frame);
-    crc::close(&mut frame, n);
-    let end = n + 2;
-    call(b, m, 8, 0, &frame[0..end], text)
+    digits::decode(s, frame);
+    crc::close(frame, n);
+    n + 2
+}
+
+// What a line's call hands over: its frame has this length.
+struct Arguments {
+    code: u8,
+    value: u16,
+    length: usize,
+}
+
+// A bad line is a call of code 0, which is refused: it changes nothing and prints ?.
+fn arguments_of(s: &[u8], frame: &mut [u8; 602]) -> Arguments
+    ensures { λ r. ⌜ ((b : Bench) (m o : List ℕ) → calls b m o (r .code) (r .value) (take (r .length) (now (frame .exit))) ≡ benchOf b m o (now (s .entry))) ⌝ }
+    ensures { λ r. ⌜ r .length ≤ length (now (frame .exit)) ⌝ }
+{
+    match reading::read(s) {
+        Reading::Bad => Arguments {
+            code: 0,
+            value: 0,
+            length: 0,
+        },
+        Reading::Signal { code, value } => Arguments {
+            code,
+            value,
+            length: 0,
+        },
+        Reading::Frame => Arguments {
+            code: 8,
+            value: 0,
+            length: put_frame(&s[2..], frame),
+        },
+    }
 }
 
 // A line without its line feed. Its text stands in `text` from place 0 on.
-pub fn line(b: Bench, m: &mut [u8], s: &[u8], text: &mut [u8]) -> Outcome
-    ensures { λ r. ⌜ shown (r .bench) (r .length) (now (m .exit)) (now (text .exit)) ≡ show (benchOf b (now (m .entry)) (now (s .entry))) (now (text .entry)) ⌝ }
+pub fn line(b: Bench, m: &mut [u8], reply: &mut [u8; 643], s: &[u8], text: &mut [u8]) -> Outcome
+    ensures { λ r. ⌜ shown (r .bench) (r .length) (now (m .exit)) (now (reply .exit)) (now (text .exit)) ≡ show (benchOf b (now (m .entry)) (now (reply .entry)) (now (s .entry))) (now (text .entry)) ⌝ }
 {
-    match reading::read(s) {
-        Reading::Bad => {
-            let tag = b.tag;
-            let number = next_line(b);
-            let length = text::put_bad(text, number);
-            Outcome {
-                bench: Bench { tag, number },
-                length,
-            }
-        }
-        Reading::Signal { code, value } => call(b, m, code, value, &s[0..0], text),
-        Reading::Frame => call_frame(b, m, &s[2..], text),
-    }
+    let mut frame = [0u8; 602];
+    let c = arguments_of(s, &mut frame);
+    let length = c.length;
+    call(b, m, reply, c.code, c.value, &frame[0..length], text)
 }

@@ -3,7 +3,7 @@ ghost use mathlib.Core.Path.{_≡_};
 ghost use Prim.Native.Nat.{_-_, _≤_, min};
 ghost use lib.ListN.{length, set};
 ghost use lib.Seq.{sets};
-ghost use Rattle.script.specs.Text.{badText, answerText, lineText};
+ghost use Rattle.script.specs.Text.{answerText, lineText};
 use crate::digits;
 use model::Answer;
 
@@ -65,16 +65,4 @@ pub fn put_line(text: &mut [u8], number: u64, a: Answer, out: &[u8]) -> usize
     let n = put_answer(a, out, text, k + 1);
     parts::put(text, k + 1 + n, 0x0A);
     k + n + 2
-}
-
-// The same for a bad line.
-pub fn put_bad(text: &mut [u8], number: u64) -> usize
-    ensures { λ r. ⌜ r ≡ length (lineText number badText) ⌝ }
-    ensures { λ _. ⌜ now (text .exit) ≡ sets (now (text .entry)) 0 (lineText number badText) ⌝ }
-{
-    let k = digits::put_decimal(text, number);
-    parts::put(text, k, 0x09);
-    parts::put(text, k + 1, b'?');
-    parts::put(text, k + 2, 0x0A);
-    k + 3
 }

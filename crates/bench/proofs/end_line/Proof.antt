@@ -25,8 +25,8 @@ line-requires c κs = search needs
 least-requires : tie.Need-least-requires
 least-requires c κs = search needs
 
-add-t12 : tie.Need-add-t12
-add-t12 c = omega (arith, c .least .ensures, c .before .before .before .before .before .before .before .before .before .next-place .ensures, c .before .before .before .before .before .before .before .before .before .before .before .before .before .before .good .1 .1 .1 .0 .0)
+add-t13 : tie.Need-add-t13
+add-t13 c = omega (arith, c .least .ensures, c .before .before .before .before .before .before .before .before .before .before .next-place .ensures, c .before .before .before .before .before .before .before .before .before .before .before .before .before .before .before .good .1 .1 .1 .1 .0 .0)
 
 same-length : tie.Need-same-length
 same-length c = search needs
@@ -48,7 +48,7 @@ end-line-spec =
     part-line-end
     line-requires
     least-requires
-    add-t12
+    add-t13
     same-length
     same-length-2
     returns)

@@ -7,16 +7,13 @@ use Rattle.bench.proofs.lines.Statement.{statement}
 use Rattle.bench.proofs.lines.Tie as tie
 
 abbrev Inv-loop : tie.InvT-loop
-Inv-loop m₀ line out₀ s start now₀ from₀ end₀ m out now from end = (from ≤ end) × ((end ≤ length s) × ((length m ≡ length m₀) × (length out ≡ length out₀)))
+Inv-loop m₀ reply₀ s out₀ now₀ from₀ end₀ m reply out now from end = (from ≤ end) × ((end ≤ length s) × ((length m ≡ length m₀) × (length out ≡ length out₀)))
 
 abbrev μ-loop : tie.MeasureT-loop
-μ-loop m₀ line out₀ s start now₀ from₀ end₀ m out now from end = length s - end
-
-least-requires : tie.Need-least-requires Inv-loop μ-loop
-least-requires c κs = search needs
+μ-loop m₀ reply₀ s out₀ now₀ from₀ end₀ m reply out now from end = length s - end
 
 line-end-requires : tie.Need-line-end-requires Inv-loop μ-loop
-line-end-requires c κs = omega (arith, c .least .ensures)
+line-end-requires c κs = omega arith
 
 loop-holds : tie.Need-loop-holds Inv-loop μ-loop
 loop-holds c = (omega (arith, c .line-end .ensures), (omega (arith, c .line-end .ensures), (refl, refl)))
@@ -34,40 +31,25 @@ end-line-requires : tie.Need-end-line-requires Inv-loop μ-loop
 end-line-requires c κs = search needs
 
 add-from : tie.Need-add-from Inv-loop μ-loop
-add-from c = omega (arith, c .before .before .before .before .before .before .before .before .loop-test .taken, c .before .before .before .before .before .before .before .before .before .before .before .before .before .before .before .before .good .1 .1 .1 .1 .0 .0)
+add-from c = omega (arith, c .before .before .before .before .before .before .before .before .before .loop-test .taken, c .before .before .before .before .before .before .before .before .before .before .before .before .before .before .before .good .1 .1 .1 .0 .0)
 
 line-end-requires-2 : tie.Need-line-end-requires-2 Inv-loop μ-loop
-line-end-requires-2 c κs = omega (arith, c .before .before .before .before .before .before .before .before .loop-test .taken)
+line-end-requires-2 c κs = omega (arith, c .before .before .before .before .before .before .before .before .before .loop-test .taken)
 
 loop-less : tie.Need-loop-less Inv-loop μ-loop
-loop-less c = omega (arith, c .before .before .before .before .before .before .before .before .before .loop-test .taken, c .line-end2 .ensures)
+loop-less c = omega (arith, c .before .before .before .before .before .before .before .before .before .before .loop-test .taken, c .line-end2 .ensures)
 
 loop-again : tie.Need-loop-again Inv-loop μ-loop
 loop-again c =
     let k = c .before .before .before .before .before .end-line .kept in
-    let l = c .before .before .before .before .before .before .before .before .before .before .loop .inv in
-    (omega (arith, c .line-end2 .ensures), (omega (arith, c .line-end2 .ensures), (k .1 .0 ∙ l .1 .1 .0, k .1 .1 .1 .0 ∙ l .1 .1 .1)))
-
-sub-keep : tie.Need-sub-keep Inv-loop μ-loop
-sub-keep c = search needs
-
-part-keep-start : tie.Need-part-keep-start Inv-loop μ-loop
-part-keep-start c = search needs
-
-part-keep-end : tie.Need-part-keep-end Inv-loop μ-loop
-part-keep-end c = search needs
-
-keep-requires : tie.Need-keep-requires Inv-loop μ-loop
-keep-requires c κs = search needs
+    let l = c .before .before .before .before .before .before .before .before .before .before .before .loop .inv in
+    (omega (arith, c .line-end2 .ensures), (omega (arith, c .line-end2 .ensures), (k .1 .0 ∙ l .1 .1 .0, k .1 .1 .1 .1 .0 ∙ l .1 .1 .1)))
 
 same-length : tie.Need-same-length Inv-loop μ-loop
-same-length c = c .before .before .before .before .before .before .loop .inv .1 .1 .0
+same-length c = c .before .loop .inv .1 .1 .0
 
 same-length-2 : tie.Need-same-length-2 Inv-loop μ-loop
-same-length-2 c = search needs
-
-same-length-3 : tie.Need-same-length-3 Inv-loop μ-loop
-same-length-3 c = c .before .before .before .before .before .before .loop .inv .1 .1 .1
+same-length-2 c = c .before .loop .inv .1 .1 .1
 
 returns : tie.Need-returns Inv-loop μ-loop
 returns c = search needs
@@ -78,7 +60,6 @@ lines-spec =
     (tie.spec
     Inv-loop
     μ-loop
-    least-requires
     line-end-requires
     loop-holds
     sub-end-line
@@ -89,11 +70,6 @@ lines-spec =
     line-end-requires-2
     loop-less
     loop-again
-    sub-keep
-    part-keep-start
-    part-keep-end
-    keep-requires
     same-length
     same-length-2
-    same-length-3
     returns)

@@ -3,17 +3,11 @@ use Prim.Native.Nat.{_-_}
 use Rattle.script.proofs.call.Statement.{statement}
 use Rattle.script.proofs.call.Tie as tie
 
-slice-aggregate-step : tie.Need-slice-aggregate-step
-slice-aggregate-step c = search needs
-
 step-requires : tie.Need-step-requires
 step-requires c κs = search needs
 
 next-line-requires : tie.Need-next-line-requires
 next-line-requires c κs = search needs
-
-slice-aggregate-put-line : tie.Need-slice-aggregate-put-line
-slice-aggregate-put-line c = search needs
 
 put-line-requires : tie.Need-put-line-requires
 put-line-requires c κs = search needs
@@ -25,17 +19,9 @@ same-length-2 : tie.Need-same-length-2
 same-length-2 c = search needs
 
 returns : tie.Need-returns
-returns c = rw (← c .before .before .before .before .before .before .before .before .before .before .step .ensures, c .before .before .put-line .ensures .1, c .before .before .put-line .ensures .0, c .before .before .before .before .before .next-line .ensures)
+returns c = rw (← c .before .before .before .before .before .before .before .before .before .before .step .ensures, c .before .before .put-line .ensures .1, c .before .before .put-line .ensures .0, c .before .before .before .before .before .before .next-line .ensures)
 
 pub call-spec : {M : Type 1} → statement M
 call-spec =
     tie.close
-    (tie.spec
-    slice-aggregate-step
-    step-requires
-    next-line-requires
-    slice-aggregate-put-line
-    put-line-requires
-    same-length
-    same-length-2
-    returns)
+    (tie.spec step-requires next-line-requires put-line-requires same-length same-length-2 returns)

@@ -1,0 +1,93 @@
+use native.Mathlib.Omega.{arith}
+use mathlib.Core.Path.{_≡_, refl, sym, ap, _∙_}
+use mathlib.Core.List.{List}
+use Prim.Native.Nat.{ℕ, _-_}
+use lib.ListN.{length, take, drop, length-drop}
+use lib.Seq.{take-all}
+use Rattle.crc.specs.Crc.{closed}
+use Rattle.script.specs.Bench.{calls, benchOf, saidOf}
+use Rattle.script.specs.Line.{Said, lineOf, saidBy}
+use Rattle.script.specs.Hex.{hexBytes}
+use Rattle.script.specs.declared.Bench.{Bench}
+use Rattle.script.specs.declared.reading.Reading.{Reading}
+use Rattle.script.proofs.LineLaws.{framed, Framed, bad-call}
+use borrow.Author.Needs.{needs}
+use Rattle.script.proofs.arguments_of.Statement.{statement}
+use Rattle.script.proofs.arguments_of.Tie as tie
+
+-- what the line says, by what was read
+said : (s : List ℕ) (r x : Reading) → saidBy r (drop 2 s) ≡ lineOf s → r ≡ x → lineOf s ≡ saidBy x (drop 2 s)
+said s r x e h = sym e ∙ ap (λ (y : Reading). saidBy y (drop 2 s)) h
+
+is-framed : (c : tie.After-enum-told2) → Framed (c .before .before .before .before .args .s .now)
+unfolding saidBy
+is-framed c =
+    let s = c .before .before .before .before .args .s .now in
+    framed s (hexBytes (drop 2 s)) (said s _ _ (c .before .before .read .ensures) (c .enum-told2 .given .1))
+
+read-requires : tie.Need-read-requires
+read-requires c κs = search needs
+
+enum-told : tie.Need-enum-told
+enum-told c = search needs
+
+enum-known-code : tie.Need-enum-known-code
+enum-known-code c = search needs
+
+enum-told-2 : tie.Need-enum-told-2
+enum-told-2 c = search needs
+
+sub-put-frame : tie.Need-sub-put-frame
+sub-put-frame c = omega (arith, is-framed c)
+
+part-put-frame-start : tie.Need-part-put-frame-start
+part-put-frame-start c = omega (arith, is-framed c)
+
+part-put-frame-end : tie.Need-part-put-frame-end
+part-put-frame-end c = search needs
+
+put-frame-requires : tie.Need-put-frame-requires
+put-frame-requires c κs =
+    let s = c .before .before .before .before .before .before .args .s .now in
+    let f = is-framed (c .before .before) in
+    let e : take (length s - 2) (drop 2 s) ≡ drop 2 s = take-all (length s - 2) (drop 2 s) (omega (arith, length-drop 2 s)) in
+    rw e (f .1 .1, omega (arith, length-drop 2 s))
+
+returns : tie.Need-returns
+unfolding benchOf saidOf saidBy
+returns c =
+    let s = c .before .before .before .before .args .s .now in
+    let e = said s _ _ (c .before .before .read .ensures) (c .enum-told .given .1) in
+    (λ b m o. bad-call b m o ∙ ap (λ (x : Said). saidOf x b m o) (sym e), omega arith)
+
+returns-2 : tie.Need-returns-2
+unfolding benchOf saidOf saidBy
+returns-2 c =
+    let s = c .before .before .before .before .before .args .s .now in
+    let e = said s _ _ (c .before .before .before .read .ensures) (c .before .code .given .1) in
+    (λ b m o. ap (λ (x : Said). saidOf x b m o) (sym e), omega arith)
+
+returns-3 : tie.Need-returns-3
+unfolding benchOf saidOf saidBy
+returns-3 c =
+    let s = c .before .before .before .before .before .before .before .args .s .now in
+    let e = said s _ _ (c .before .before .before .before .before .read .ensures) (c .before .before .before .enum-told2 .given .1) in
+    let t : take (length s - 2) (drop 2 s) ≡ drop 2 s = take-all (length s - 2) (drop 2 s) (omega (arith, length-drop 2 s)) in
+    let f : take (c .put-frame .result) (c .put-frame .last .1 .0) ≡ closed (hexBytes (drop 2 s)) = rw t at (c .put-frame .ensures .0) in
+    (λ b m o. ap (λ (x : List ℕ). calls b m o 8 0 x) f ∙ ap (λ (x : Said). saidOf x b m o) (sym e), c .put-frame .ensures .1)
+
+pub arguments-of-spec : {M : Type 1} → statement M
+arguments-of-spec =
+    tie.close
+    (tie.spec
+    read-requires
+    enum-told
+    enum-known-code
+    enum-told-2
+    sub-put-frame
+    part-put-frame-start
+    part-put-frame-end
+    put-frame-requires
+    returns
+    returns-2
+    returns-3)

@@ -8,6 +8,7 @@ use Rattle.tag.specs.Layout.{memoryBytes, replyBytes}
 use Rattle.tag.specs.Supply.{freshTag}
 use Rattle.crc.specs.Crc.{crcOf, closed}
 use Rattle.model.specs.declared.Answer.{Answer}
+use Rattle.model.specs.declared.Refusal.{Refusal}
 use Rattle.model.specs.declared.Answer.the-variants.{Refused, Nothing, Ack, NoAck, Byte, Silence, Reply}
 use Rattle.waiting.specs.Calls.{Call, Said, Device, device, entry, runBy}
 
@@ -45,7 +46,7 @@ sends (x ∷ s) = send x ∷ sends s
 
 -- ---- answers by value: a reply is its bytes, CRC included
 pub data Value : Type 0 where
-  refused : ℕ → Value
+  refused : Refusal → Value
   none : Value
   ack : Value
   noAck : Value
@@ -54,7 +55,7 @@ pub data Value : Type 0 where
   replied : List ℕ → Value
 
 unfoldable pub valueOf : Answer → List ℕ → Value
-valueOf (Refused n) o = refused n
+valueOf (Refused r) o = refused r
 valueOf Nothing o = none
 valueOf Ack o = ack
 valueOf NoAck o = noAck

@@ -11,7 +11,7 @@ use Rattle.parts.proofs.Bools.{and-left, and-right}
 use Rattle.tag.specs.declared.Tag.{Tag}
 use Rattle.tag.specs.Layout.{replyBytes}
 use Rattle.model.specs.Signals.{signalInRange}
-use Rattle.model.specs.Step.{number, replyShort, signalUnknown}
+use Rattle.model.specs.declared.Refusal.the-variants.{ReplyShort, SignalUnknown}
 use Rattle.model.proofs.Kept.{keeps, fresh-fits}
 use Rattle.waiting.specs.Calls.{Call, Device, device, Done, Ran, ran, entry, runBy}
 use Rattle.waiting.specs.Examples.{sends, uid}
@@ -24,8 +24,8 @@ use Rattle.pairs.specs.Pairs.{Value, valueOf, values, Result, resultOf, 
 -- ---- from a tag in range refusals 1 and 4 never come, so no call need judge them: that is what would take long
 unfoldable unranged : Device → Call → Done
 unranged d c =
-    pick (ltb (length (c .buffer)) replyBytes) (refusal (number replyShort) d c)
-    (pick (not (signalInRange (c .code) (c .value))) (refusal (number signalUnknown) d c) (acted d c))
+    pick (ltb (length (c .buffer)) replyBytes) (refusal ReplyShort d c)
+    (pick (not (signalInRange (c .code) (c .value))) (refusal SignalUnknown d c) (acted d c))
 
 record Runs (d : Device) (cs : List Call) : Type 0 where
   same : runBy entry d cs ≡ runBy unranged d cs

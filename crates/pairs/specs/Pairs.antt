@@ -11,13 +11,14 @@ use Rattle.tag.specs.Layout.{memoryBytes}
 use Rattle.tag.specs.Supply.{freshTag}
 use Rattle.crc.specs.Crc.{crcOf, closed}
 use Rattle.model.specs.declared.Answer.{Answer}
+use Rattle.model.specs.declared.Refusal.{Refusal}
 use Rattle.model.specs.declared.Answer.the-variants.{Refused, Nothing, Ack, NoAck, Byte, Silence, Reply}
 use Rattle.waiting.specs.Calls.{Call, Said, Device, device, Ran, entry, runBy}
 use Rattle.waiting.specs.Examples.{zeros, vccTo, fieldTo, start, send, sends, fetch, fetchLast, stop, programmingEnd, frame, uid, powered, _but_, radioState, radioSession, i2cSession, beingProgrammed, counterAt, onBus, areaEnds, areaRights, mailboxMode, hostMessage, bytes}
 
 -- ---- answers by value: a reply is its bytes, CRC included
 pub data Value : Type 0 where
-  refused : ℕ → Value
+  refused : Refusal → Value
   none : Value
   ack : Value
   noAck : Value
@@ -26,7 +27,7 @@ pub data Value : Type 0 where
   replied : List ℕ → Value
 
 unfoldable pub valueOf : Answer → List ℕ → Value
-valueOf (Refused n) o = refused n
+valueOf (Refused r) o = refused r
 valueOf Nothing o = none
 valueOf Ack o = ack
 valueOf NoAck o = noAck

@@ -7,6 +7,7 @@ mod show;
 mod state;
 
 use model::Answer;
+use model::Refusal;
 use tag::Tag;
 use tag::Uid;
 
@@ -54,14 +55,14 @@ fn bad(r: Run) -> Run {
     r
 }
 
-fn print_refusal(number: u8) {
+fn print_refusal(why: Refusal) {
     io::write_all(1, b"!");
-    io::print_decimal(1, number as u64);
+    io::print_decimal(1, why.number() as u64);
 }
 
 fn print_answer(a: Answer, out: &[u8]) {
     match a {
-        Answer::Refused(n) => print_refusal(n),
+        Answer::Refused(why) => print_refusal(why),
         Answer::Nothing => text::none(),
         Answer::Ack => {
             io::write_all(1, b"A");
@@ -86,8 +87,8 @@ fn fresh(r: Run, m: &mut [u8]) -> Run {
     let o = model::fresh(uid(), &mut m[0..size]);
     let a = o.answer;
     match a {
-        Answer::Refused(n) => {
-            print_refusal(n);
+        Answer::Refused(why) => {
+            print_refusal(why);
             r
         }
         _ => {

@@ -22,7 +22,7 @@ use Rattle.tag.specs.declared.Host.{Host}
 use Rattle.state.specs.Layout.{flagByte, lowByte, highByte, radioNumber, spaceNumber, airBytes, busBytes, hostBytes, registerBytes, mailboxBytes, passwordBytes, bytesOf}
 use Rattle.state.specs.Claims.{areBytes, isByte, isWord, areEight, busFits, PasswordsFit, EncodesBytes}
 
-are-append : (p q : List ℕ) → areBytes p ≡ true → areBytes q ≡ true → areBytes (p ++ q) ≡ true
+pub are-append : (p q : List ℕ) → areBytes p ≡ true → areBytes q ≡ true → areBytes (p ++ q) ≡ true
 unfolding areBytes
 are-append [] q h k = k
 are-append (x ∷ p) q h k =

@@ -65,3 +65,7 @@ EncodesDecoded = (s : List ℕ) → areBytes s ≡ true → decodes s ≡ true �
 -- a tag's bytes are bytes
 abbrev pub EncodesBytes : Type 0
 EncodesBytes = (t : Tag) → Fits t → areBytes (bytesOf t) ≡ true
+
+-- the tag of bytes fits
+abbrev pub DecodedFits : Type 0
+DecodedFits = (s : List ℕ) → areBytes s ≡ true → Fits (tagOf s)

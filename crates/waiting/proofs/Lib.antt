@@ -6,3 +6,4 @@ pub mod Follow
 pub mod Demand3
 pub mod Entry
 pub mod Wrong
+pub mod Computes

@@ -3,7 +3,6 @@ use mathlib.Core.Path.{_≡_}
 use mathlib.Core.Bool.{Bool, true, false, not, _&&_, _||_}
 use mathlib.Core.List.{List, [], _∷_}
 use Prim.Native.Nat.{ℕ}
-use lib.Dec.{eqb}
 use lib.ListN.{length}
 use Rattle.parts.specs.Pick.{pick}
 use Rattle.tag.specs.declared.Air.{Air}
@@ -11,12 +10,13 @@ use Rattle.tag.specs.declared.Tag.{Tag}
 use Rattle.tag.specs.Layout.{memoryBytes}
 use Rattle.reply.specs.Reply.{Said as Reply, nothing, fault, answerOf, bufferOf}
 use Rattle.frame.specs.Judge.{isSilent, isMute}
+use Rattle.model.specs.declared.Refusal.the-variants.{MemoryLength, ReplyShort, SignalUnknown, OutOfRange}
 use Rattle.model.specs.declared.Answer.{Answer}
 use Rattle.model.specs.declared.Answer.the-variants.{Refused, Nothing, Ack, NoAck, Byte, Silence, Reply as ReplyOf}
 use Rattle.model.specs.declared.Signal.{Signal}
 use Rattle.model.specs.declared.Signal.the-variants.{Wire, Field, Frame}
 use Rattle.model.specs.Signals.{signalBy}
-use Rattle.model.specs.Step.{number, memoryLength, outOfRange, fromRadio, transferOpen, tagInRange}
+use Rattle.model.specs.Step.{fromRadio, transferOpen, tagInRange}
 use Rattle.model.specs.Claims.{areBytes}
 use Rattle.waiting.specs.Calls.{Call, Said, said, Device, Done, Step, Ran, ran, runBy, entry}
 use Rattle.waiting.specs.Waiting.{Waiting, closed, inside, waitRun}
@@ -27,23 +27,26 @@ framesFit [] = true
 framesFit (c ∷ cs) = areBytes (c .frame) && framesFit cs
 
 -- ---- "refusal[s] 1 and 4 never occur"
-unfoldable pub refusedBy : ℕ → Answer → Bool
-refusedBy n (Refused k) = eqb k n
-refusedBy n Nothing = false
-refusedBy n Ack = false
-refusedBy n NoAck = false
-refusedBy n (Byte x) = false
-refusedBy n Silence = false
-refusedBy n (ReplyOf k) = false
+unfoldable pub refusedByState : Answer → Bool
+refusedByState (Refused MemoryLength) = true
+refusedByState (Refused ReplyShort) = false
+refusedByState (Refused SignalUnknown) = false
+refusedByState (Refused OutOfRange) = true
+refusedByState Nothing = false
+refusedByState Ack = false
+refusedByState NoAck = false
+refusedByState (Byte x) = false
+refusedByState Silence = false
+refusedByState (ReplyOf k) = false
 
 -- an answer of the list is refusal 1 or 4
 unfoldable pub stateRefused : List Said → Bool
 stateRefused [] = false
-stateRefused (a ∷ s) = refusedBy (number memoryLength) (a .answer) || refusedBy (number outOfRange) (a .answer) || stateRefused s
+stateRefused (a ∷ s) = refusedByState (a .answer) || stateRefused s
 
 -- ---- "Strike out the unrefused frames that arrived while a transfer was open"
 unfoldable pub isRefusal : Answer → Bool
-isRefusal (Refused k) = true
+isRefusal (Refused why) = true
 isRefusal Nothing = false
 isRefusal Ack = false
 isRefusal NoAck = false

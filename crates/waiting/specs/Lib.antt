@@ -1,4 +1,5 @@
 pub mod Calls
+pub mod Examples
 pub mod Waiting
 pub mod Claim
 pub mod Entry

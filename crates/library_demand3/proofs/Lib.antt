@@ -1,0 +1,4 @@
+pub mod WireKept
+pub mod RadioKept
+pub mod InRange
+pub mod Kept

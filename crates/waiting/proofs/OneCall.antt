@@ -23,6 +23,7 @@ use Rattle.signal.proofs.Line.{registers-stay}
 use Rattle.reply.specs.declared.RadioSide.{RadioSide}
 use Rattle.reply.specs.declared.Answer.{Answer as RadioAnswer}
 use Rattle.reply.specs.declared.Answer.the-variants.{Silence as RadioSilence, Reply as RadioReply}
+use Rattle.errors.specs.declared.RadioError.the-variants.{ShutOut}
 use Rattle.reply.specs.Reply.{Said as Reply, nothing, fault}
 use Rattle.reply.specs.Outcome.{Told, told}
 use Rattle.frame.specs.declared.Verdict.{Verdict}
@@ -87,14 +88,14 @@ call-case P d c f p q r =
 
 -- ---- a frame while a transfer is open
 two-tests : (a b : Bool) (t : RadioSide) (u : Uid) (vcc : Bool) (m s : List ℕ)
-    → answered (pick a Silence (pick b Silence (Error 0x0F))) t u vcc m s ≡ told (pick (a || b) nothing (fault 0x0F)) t m
+    → answered (pick a Silence (pick b Silence (Error ShutOut))) t u vcc m s ≡ told (pick (a || b) nothing (fault ShutOut)) t m
 unfolding answered pick
 two-tests true b t u vcc m s = refl
 two-tests false true t u vcc m s = refl
 two-tests false false t u vcc m s = refl
 
 abbrev pub shutBy : List ℕ → Air → Uid → RfMngt → Reply
-shutBy s a u d = pick (isSilent s a u d || isMute s u) nothing (fault 0x0F)
+shutBy s a u d = pick (isSilent s a u d || isMute s u) nothing (fault ShutOut)
 
 pub shut-told : (t : RadioSide) (u : Uid) (vcc transfer programming : Bool) (m s : List ℕ) → transfer ≡ true
     → radioOf t u vcc transfer programming m s ≡ told (shutBy s (t .air) u (t .core .registers .dynamic)) t m

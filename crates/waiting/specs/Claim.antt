@@ -8,6 +8,7 @@ use Rattle.parts.specs.Pick.{pick}
 use Rattle.tag.specs.declared.Air.{Air}
 use Rattle.tag.specs.declared.Tag.{Tag}
 use Rattle.tag.specs.Layout.{memoryBytes}
+use Rattle.errors.specs.declared.RadioError.the-variants.{ShutOut}
 use Rattle.reply.specs.Reply.{Said as Reply, nothing, fault, answerOf, bufferOf}
 use Rattle.frame.specs.Judge.{isSilent, isMute}
 use Rattle.model.specs.declared.Refusal.the-variants.{MemoryLength, ReplyShort, SignalUnknown, OutOfRange}
@@ -81,7 +82,7 @@ otherAnswers step d (c ∷ cs) =
 abbrev pub shutReply : Tag → Air → List ℕ → Reply
 shutReply start air s =
     pick (isSilent s air (start .uid) (start .core .registers .dynamic) || isMute s (start .uid)) nothing
-    (fault 0x0F)
+    (fault ShutOut)
 
 abbrev pub spoken : Reply → List ℕ → Said
 spoken r o = said (fromRadio (answerOf r)) (bufferOf r o)

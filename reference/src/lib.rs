@@ -5,6 +5,7 @@ pub mod bench;
 pub mod crc;
 pub mod cut;
 pub mod dice;
+pub mod faults;
 #[cfg(feature = "library")]
 pub mod library;
 pub mod model;

@@ -48,7 +48,7 @@ unfolding isRefused fromRadio answerOf
 radio-served nothing = refl
 radio-served (body b) = refl
 
-act-served : (x : Signal) (t : Tag) (m o f : List ℕ) → isRefused (actOf x t m o f .answer) ≡ false
+pub act-served : (x : Signal) (t : Tag) (m o f : List ℕ) → isRefused (actOf x t m o f .answer) ≡ false
 unfolding actOf isRefused
 act-served (Wire x) t m o f = wire-served (signalOf (wireSide t) (t .uid) m x .answer)
 act-served (Field on) t m o f = refl

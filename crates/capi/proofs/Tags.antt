@@ -32,16 +32,16 @@ again f false false true x y z r = refl
 again f false false false x y z r = refl
 
 -- what a call leaves of the model's outcome
-abbrev callOf : List ℕ → Ended → Called
-callOf s e = called (answerNumber (e .answer)) (stateAfter s (e .answer) (e .tag)) (e .memory) (e .reply)
+abbrev calledBy : List ℕ → Ended → Called
+calledBy s e = called (answerNumber (e .answer)) (stateAfter s (e .answer) (e .tag)) (e .memory) (e .reply)
 
 decoded : (s m o : List ℕ) (code value : ℕ) (f : List ℕ) → eqb (length s) 83 ≡ true → decodes s ≡ true
-    → stepCall s m o code value f ≡ callOf s (stepOf (tagOf s) m o code value f)
+    → stepCall s m o code value f ≡ calledBy s (stepOf (tagOf s) m o code value f)
 unfolding stepCall stepOf answerNumber isRefused stateAfter pick
-decoded s m o code value f l d = rw (l, d) (again (callOf s) (not (eqb (length m) 1024)) (ltb (length o) 643) (not (signalInRange code value)) _ _ _ _)
+decoded s m o code value f l d = rw (l, d) (again (calledBy s) (not (eqb (length m) 1024)) (ltb (length o) 643) (not (signalInRange code value)) _ _ _ _)
 
 pub steps-the-tag : StepsTheTag
 steps-the-tag t m o code value f fits =
     let d = decodes-encoded t fits in
     decoded (bytesOf t) m o code value f (decodes-length (bytesOf t) (d .0)) (d .0)
-    ∙ ap (λ (x : Tag). callOf (bytesOf t) (stepOf x m o code value f)) (d .1)
+    ∙ ap (λ (x : Tag). calledBy (bytesOf t) (stepOf x m o code value f)) (d .1)

@@ -8,7 +8,7 @@ use lib.Dec.{ltb, eqb}
 use lib.ListN.{length}
 use borrow.Author.Tests.{eqb-true, ltb-true, lt-ltb, not-false}
 use Rattle.parts.specs.Pick.{pick}
-use Rattle.parts.proofs.Bools.{and-both}
+use Rattle.parts.proofs.Bools.{and-left, and-right, and-both}
 use Rattle.parts.proofs.Picks.{pick-case}
 use Rattle.tag.specs.declared.Tag.{Tag}
 use Rattle.tag.specs.Layout.{memoryBytes, replyBytes}
@@ -42,6 +42,11 @@ frame-below : (s : List ℕ) → Below s → areFrameBytes s ≡ true
 unfolding areFrameBytes
 frame-below [] h = refl
 frame-below (x ∷ s) h = and-both (ltb x 256) (areFrameBytes s) (lt-ltb x 256 (h zero)) (frame-below s (λ i. h (suc i)))
+
+pub of-frame : (s : List ℕ) → areFrameBytes s ≡ true → areBytes s ≡ true
+unfolding areFrameBytes areBytes
+of-frame [] h = refl
+of-frame (x ∷ s) h = and-both (ltb x 256) (areBytes s) (and-left (ltb x 256) (areFrameBytes s) h) (of-frame s (and-right (ltb x 256) (areFrameBytes s) h))
 
 -- ---- the byte that a signal in range sends
 unfoldable sent : Signal → ℕ

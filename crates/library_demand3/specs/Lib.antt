@@ -1,1 +1,4 @@
 pub mod Kept
+pub mod Calls
+pub mod Claim
+pub mod Wrong

@@ -7,7 +7,7 @@ use Rattle.model.specs.Claims.{Keeps}
 use Rattle.model.proofs.Kept.{keeps}
 use Rattle.waiting.specs.Calls.{Call, Said, Device, Ran, entry, runBy}
 use Rattle.waiting.specs.Waiting.{Waiting, closed, inside, waitStep, waitRun}
-use Rattle.waiting.specs.Claim.{framesFit, isClosed, Demand3, EndsAlike}
+use Rattle.waiting.specs.Claim.{framesFit, isClosed, EveryList, Demand3, EndsAlike}
 use Rattle.waiting.proofs.OneCall.{Fits}
 use Rattle.waiting.proofs.Struck.{first-fits, rest-fits, fits-next, judged, striking, all-shut}
 use Rattle.waiting.proofs.Follow.{now, answers, Good, stepped}
@@ -60,6 +60,12 @@ pub demand-3 : Demand3 entry
 demand-3 = demand-3-from keeps
 
 -- ---- the end of the list
+pub ends-shut : EveryList (λ (d : Device) (cs : List Call). transferOpen (runBy entry d cs .device .tag) ≡ false)
+unfolding now
+ends-shut d cs range size frames shut end =
+    let p = follows keeps cs (closed [] d) frames shut (record { range = range; size = size }) in
+    subst Good (demand-3 d cs range size frames shut end .same) (p .good)
+
 is-closed : (w : Waiting) (d : Device) → Good w → now w ≡ d → transferOpen (d .tag) ≡ false → isClosed w ≡ true
 unfolding now isClosed
 is-closed (closed out k) d g e h = refl

@@ -4,6 +4,7 @@ pub mod OneCall
 pub mod Struck
 pub mod Follow
 pub mod Demand3
+pub mod Follows
 pub mod Entry
 pub mod Wrong
 pub mod Computes

@@ -165,22 +165,22 @@ call-stays d c f =
     (act-stays (signalBy (c .code) (c .value)) d c f)
 
 -- ---- its answer is not refusal 1 or 4
-abbrev Judged : Answer → Type 0
-Judged a = refusedByState a ≡ false
+abbrev NotByState : Answer → Type 0
+NotByState a = refusedByState a ≡ false
 
-wire-judged : (a : WireAnswer) → Judged (fromWire a)
+wire-judged : (a : WireAnswer) → NotByState (fromWire a)
 unfolding refusedByState fromWire
 wire-judged WireNothing = refl
 wire-judged WireAck = refl
 wire-judged WireNoAck = refl
 wire-judged (WireByte x) = refl
 
-radio-judged : (a : RadioAnswer) → Judged (fromRadio a)
+radio-judged : (a : RadioAnswer) → NotByState (fromRadio a)
 unfolding refusedByState fromRadio
 radio-judged RadioSilence = refl
 radio-judged (RadioReply n) = refl
 
-act-judged : (x : Signal) (d : Device) (c : Call) → Judged (actedBy x d c .says .answer)
+act-judged : (x : Signal) (d : Device) (c : Call) → NotByState (actedBy x d c .says .answer)
 unfolding actOf refusedByState
 act-judged (Wire x) d c = wire-judged _
 act-judged (Field on) d c = refl
@@ -190,4 +190,4 @@ pub call-judged : (d : Device) (c : Call) → Fits d
     → refusedByState (entry d c .says .answer) ≡ false
 unfolding refusedByState
 call-judged d c f =
-    call-case (λ (e : Done). Judged (e .says .answer)) d c f refl refl (act-judged (signalBy (c .code) (c .value)) d c)
+    call-case (λ (e : Done). NotByState (e .says .answer)) d c f refl refl (act-judged (signalBy (c .code) (c .value)) d c)

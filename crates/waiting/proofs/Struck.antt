@@ -40,7 +40,7 @@ since-next : (start : Tag) (d : Device) (e : Done) → Stays d e → Since start
 since-next start d e k s h = record { uid = s .uid ∙ sym (k .uid); registers = s .registers ∙ sym (k .registers h) }
 
 -- `rest` are the calls left of the others, `said` their answers
-abbrev RunsTo : Device → List Call → List Said → Device → Type 0
+abbrev pub RunsTo : Device → List Call → List Said → Device → Type 0
 RunsTo d rest said end = runBy entry d rest ≡ ran said end
 
 strike : (d : Device) (c : Call) (rest : List Call) (said : List Said) (end : Device) → entry d c .device ≡ d
@@ -53,7 +53,7 @@ unfolding runBy
 leave d c rest said end r = ap (λ (x : Ran). ran (entry d c .says ∷ x .answers) (x .device)) r
 
 -- struck out or not
-by-test : (b : Bool) (d : Device) (c : Call) (rest : List Call) (said : List Said) (end : Device) → (b ≡ true → entry d c .device ≡ d)
+pub by-test : (b : Bool) (d : Device) (c : Call) (rest : List Call) (said : List Said) (end : Device) → (b ≡ true → entry d c .device ≡ d)
     → RunsTo (entry d c .device) rest said end → RunsTo d (pick b rest (c ∷ rest)) (pick b said (entry d c .says ∷ said)) end
 unfolding pick
 by-test true d c rest said end h r = strike d c rest said end (h refl) r

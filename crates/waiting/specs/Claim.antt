@@ -96,22 +96,34 @@ pub record Shut (step : Step) (start : Tag) (d : Device) (c : Call) : Type 0 whe
 abbrev pub startAfter : Tag → Tag → Tag
 startAfter start t = pick (transferOpen t) start t
 
--- every struck frame of a list; `start` is the tag at the start of the transfer that is open
-unfoldable pub AllShut : Step → Tag → Device → List Call → Type 0
-AllShut step start d [] = Unit {0}
-AllShut step start d (c ∷ cs) =
-    (struck step d c ≡ true → Shut step (startAfter start (d .tag)) d c)
-    × AllShut step (startAfter start (d .tag)) (step d c .device) cs
+-- every struck frame of a list has P; `start` is the tag at the start of the transfer that is open
+unfoldable pub EachStruck : Step → (Tag → Device → Call → Type 0) → Tag → Device → List Call → Type 0
+EachStruck step P start d [] = Unit {0}
+EachStruck step P start d (c ∷ cs) =
+    (struck step d c ≡ true → P (startAfter start (d .tag)) d c)
+    × EachStruck step P (startAfter start (d .tag)) (step d c .device) cs
 
--- ---- the claim
--- from device d, the calls cs
+unfoldable pub AllShut : Step → Tag → Device → List Call → Type 0
+unfolding EachStruck
+AllShut step start d cs = EachStruck step (Shut step) start d cs
+
+-- ---- the claim: from device d, the calls cs
+-- "Every call has the same answer from both, reply bytes and refusal numbers included, and the final tag is the same, state and every byte."
+abbrev pub Same : Step → Device → List Call → Type 0
+Same step d cs = waitRun (closed [] d) cs ≡ closed (runBy step d cs .answers) (runBy step d cs .device)
+
+-- refusals 1 and 4 never occur
+abbrev pub Judged : Step → Device → List Call → Type 0
+Judged step d cs = stateRefused (runBy step d cs .answers) ≡ false
+
+-- "Strike out the unrefused frames .., and the other answers and the final tag stay the same."
+abbrev pub Striking : Step → Device → List Call → Type 0
+Striking step d cs = runBy step d (others step d cs) ≡ ran (otherAnswers step d cs) (runBy step d cs .device)
+
 pub record Agrees (step : Step) (d : Device) (cs : List Call) : Type 0 where
-  -- "Every call has the same answer from both, reply bytes and refusal numbers included, and the final tag is the same, state and every byte."
-  pub same : waitRun (closed [] d) cs ≡ closed (runBy step d cs .answers) (runBy step d cs .device)
-  -- refusals 1 and 4 never occur
-  pub judged : stateRefused (runBy step d cs .answers) ≡ false
-  -- "Strike out the unrefused frames .., and the other answers and the final tag stay the same."
-  pub striking : runBy step d (others step d cs) ≡ ran (otherAnswers step d cs) (runBy step d cs .device)
+  pub same : Same step d cs
+  pub judged : Judged step d cs
+  pub striking : Striking step d cs
   -- "Every struck frame changed nothing, and its reply was silence or error 0Fh"
   pub shut : AllShut step (d .tag) d cs
 
@@ -121,11 +133,14 @@ isClosed (closed out k) = true
 isClosed (inside out k n sl) = false
 
 -- "Start from any well-formed tag .., with no transfer open. Take every list of calls that finishes with no transfer open"
-abbrev pub Demand3 : Step → Type 0
-Demand3 step = (d : Device) (cs : List Call)
+abbrev pub EveryList : (Device → List Call → Type 0) → Type 0
+EveryList P = (d : Device) (cs : List Call)
     → tagInRange (d .tag) (d .memory) ≡ true → length (d .memory) ≡ memoryBytes → framesFit cs ≡ true
     → transferOpen (d .tag) ≡ false → isClosed (waitRun (closed [] d) cs) ≡ true
-    → Agrees step d cs
+    → P d cs
+
+abbrev pub Demand3 : Step → Type 0
+Demand3 step = EveryList (Agrees step)
 
 -- for the entry point that is what its own tag shows: a list that it finishes with no transfer open is such a list
 abbrev pub EndsAlike : Type 0

@@ -2,5 +2,6 @@ pub mod Calls
 pub mod Examples
 pub mod Waiting
 pub mod Claim
+pub mod Follows
 pub mod Entry
 pub mod Wrong

@@ -1,0 +1,92 @@
+-- Demand 3 over the library's calls, as one claim about a list of calls. The waiting tag, and what is struck out, are those of waiting/specs.
+use mathlib.Core.Path.{_≡_}
+use mathlib.Core.Bool.{Bool, true, false, not, _&&_}
+use mathlib.Core.List.{List, [], _∷_}
+use Prim.Native.Nat.{ℕ}
+use lib.Dec.{ltb}
+use lib.ListN.{length}
+use Rattle.parts.specs.Pick.{pick}
+use Rattle.tag.specs.declared.Air.{Air}
+use Rattle.tag.specs.declared.Tag.{Tag}
+use Rattle.tag.specs.Layout.{memoryBytes}
+use Rattle.state.specs.Layout.{bytesOf, decodes, tagOf}
+use Rattle.state.specs.Claims.{areBytes}
+use Rattle.model.specs.Signals.{signalBy}
+use Rattle.model.specs.Step.{transferOpen, tagInRange}
+use Rattle.capi.specs.Interface.{answerNumber}
+use Rattle.waiting.specs.Calls.{Call, Said, Device, device}
+use Rattle.waiting.specs.Waiting.{Waiting, closed, inside, waitRun}
+use Rattle.waiting.specs.Claim.{framesFit, isFrame, shutReply, spoken, startAfter, isClosed}
+use Rattle.library_demand3.specs.Calls.{LibraryStep, Numbered, numbered, answerBy, LibraryRan, libraryRan, libraryRun}
+
+-- ---- the waiting tag in numbers and bytes
+abbrev pub inNumber : Said → Numbered
+inNumber a = numbered (answerNumber (a .answer)) (a .buffer)
+
+unfoldable pub inNumbers : List Said → List Numbered
+inNumbers [] = []
+inNumbers (a ∷ s) = inNumber a ∷ inNumbers s
+
+-- its answers, the bytes of its tag, and its memory; with a transfer open (no list of the claim ends so), as at the transfer's start
+unfoldable pub inBytes : Waiting → LibraryRan
+inBytes (closed out k) = libraryRan (inNumbers out) (bytesOf (k .tag)) (k .memory)
+inBytes (inside out k n sl) = libraryRan (inNumbers out) (bytesOf (k .tag)) (k .memory)
+
+-- ---- "Strike out the unrefused frames that arrived while a transfer was open"; "A number below 0x100 is a refusal."
+unfoldable pub libraryStruck : LibraryStep → List ℕ → List ℕ → Call → Bool
+libraryStruck step s m c = transferOpen (tagOf s) && isFrame (signalBy (c .code) (c .value)) && not (ltb (step s m c .number) 0x100)
+
+-- the calls that are left
+unfoldable pub libraryOthers : LibraryStep → List ℕ → List ℕ → List Call → List Call
+libraryOthers step s m [] = []
+libraryOthers step s m (c ∷ cs) =
+    let rest = libraryOthers step (step s m c .state) (step s m c .memory) cs in
+    pick (libraryStruck step s m c) rest (c ∷ rest)
+
+-- the answers that those had
+unfoldable pub libraryOtherAnswers : LibraryStep → List ℕ → List ℕ → List Call → List Numbered
+libraryOtherAnswers step s m [] = []
+libraryOtherAnswers step s m (c ∷ cs) =
+    let rest = libraryOtherAnswers step (step s m c .state) (step s m c .memory) cs in
+    pick (libraryStruck step s m c) rest (answerBy (step s m c) ∷ rest)
+
+-- "the other answers and the final tag stay the same"
+abbrev pub Strikes : LibraryStep → List ℕ → List ℕ → List Call → Type 0
+Strikes step s m cs =
+    libraryRun step s m (libraryOthers step s m cs)
+    ≡ libraryRan (libraryOtherAnswers step s m cs) (libraryRun step s m cs .state) (libraryRun step s m cs .memory)
+
+-- ---- "Every struck frame changed nothing, and its reply was silence or error 0Fh"; `start` is the tag at the start of the open transfer
+abbrev pub shutAnswer : Tag → Air → Call → Numbered
+shutAnswer start air c = inNumber (spoken (shutReply start air (c .frame)) (c .buffer))
+
+pub record LibraryShut (step : LibraryStep) (start : Tag) (s m : List ℕ) (c : Call) : Type 0 where
+  pub state : step s m c .state ≡ s
+  pub memory : step s m c .memory ≡ m
+  pub reply : answerBy (step s m c) ≡ shutAnswer start (tagOf s .air) c
+
+unfoldable pub AllLibraryShut : LibraryStep → Tag → List ℕ → List ℕ → List Call → Type 0
+AllLibraryShut step start s m [] = Unit {0}
+AllLibraryShut step start s m (c ∷ cs) =
+    (libraryStruck step s m c ≡ true → LibraryShut step (startAfter start (tagOf s)) s m c)
+    × AllLibraryShut step (startAfter start (tagOf s)) (step s m c .state) (step s m c .memory) cs
+
+-- ---- the claim
+-- from state bytes s and memory m, the calls cs
+pub record LibraryAgrees (step : LibraryStep) (s m : List ℕ) (cs : List Call) : Type 0 where
+  -- each call has the waiting tag's number and, byte for byte, its reply buffer; the bytes left at the end, state and memory, are the waiting tag's
+  pub same : libraryRun step s m cs ≡ inBytes (waitRun (closed [] (device (tagOf s) m)) cs)
+  pub striking : Strikes step s m cs
+  pub shut : AllLibraryShut step (tagOf s) s m cs
+
+-- from 83 bytes that decode to a tag in range with no transfer open, and 1,024 bytes of memory, every list of calls, their frames of bytes,
+-- that finishes with no transfer open: the waiting tag says so
+abbrev pub LibraryDemand3 : LibraryStep → Type 0
+LibraryDemand3 step = (s m : List ℕ) (cs : List Call)
+    → areBytes s ≡ true → decodes s ≡ true → areBytes m ≡ true → length m ≡ memoryBytes → tagInRange (tagOf s) m ≡ true
+    → transferOpen (tagOf s) ≡ false → framesFit cs ≡ true → isClosed (waitRun (closed [] (device (tagOf s) m)) cs) ≡ true
+    → LibraryAgrees step s m cs
+
+-- ---- striking follows from the rest, for any step: where each struck frame changed no byte, the others can be called without it
+abbrev pub StrikingFollows : Type 0
+StrikingFollows = (step : LibraryStep) (start : Tag) (s m : List ℕ) (cs : List Call) → AllLibraryShut step start s m cs → Strikes step s m cs

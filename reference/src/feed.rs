@@ -4,10 +4,11 @@ use std::io::{Error, Read, Result, Write};
 use std::os::fd::AsRawFd;
 use std::os::raw::{c_int, c_ulong};
 use std::process::{Child, ChildStdin, Command, Stdio};
+use std::sync::mpsc::channel;
 use std::thread;
 use std::time::{Duration, Instant};
 
-/// A program that has not taken a piece by then is stopped.
+/// A program that has not taken a piece by then, or not ended after the last, is stopped.
 const PATIENCE: Duration = Duration::from_secs(20);
 
 /// A program's output, line by line, and whether it came to its end.
@@ -46,11 +47,12 @@ pub fn run_program(program: &str, script: &[u8], pieces: Option<&[usize]>) -> Re
         .stdout(Stdio::piped())
         .spawn()?;
     let (input, output) = (child.stdin.take(), child.stdout.take());
+    let (sender, receiver) = channel();
     thread::scope(|scope| {
-        let reader = scope.spawn(move || {
+        scope.spawn(move || {
             let mut text = Vec::new();
-            output.map_or(Ok(0), |mut output| output.read_to_end(&mut text))?;
-            Ok::<_, Error>(text)
+            let read = output.map_or(Ok(0), |mut output| output.read_to_end(&mut text));
+            sender.send(read.map(|_| text))
         });
         if let Some(mut input) = input {
             // A program that stops reading shows in its output.
@@ -59,9 +61,12 @@ pub fn run_program(program: &str, script: &[u8], pieces: Option<&[usize]>) -> Re
                 Some(pieces) => feed(&mut child, &mut input, script, pieces),
             };
         }
+        let text = receiver.recv_timeout(PATIENCE).or_else(|_| {
+            child.kill()?;
+            receiver.recv().map_err(Error::other)
+        })?;
         let ended = child.wait()?.success();
-        let text = reader.join().expect("a reader that only reads")?;
-        Ok(Output::new(&text, ended))
+        Ok(Output::new(&text?, ended))
     })
 }
 

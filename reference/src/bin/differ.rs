@@ -8,6 +8,7 @@
 use std::collections::BTreeMap;
 use std::io::{stdout, Result, Write};
 use std::process::exit;
+use std::time::{Duration, Instant};
 
 use reference::bench;
 use reference::cut::cut;
@@ -17,8 +18,8 @@ use reference::pieces::{pieces, Style, STYLES};
 use reference::script::{long_script, script, text, Line, Script};
 
 const LINES: usize = 2000;
-/// A difference is cut by so many runs at most.
-const RUNS: usize = 2000;
+/// So long a difference is cut.
+const CUTTING: Duration = Duration::from_secs(60);
 const COMMANDS: [&str; 18] = [
     "02", "20", "21", "22", "23", "24", "25", "26", "2C", "A0", "A1", "AA", "AB", "AC", "AD", "AE",
     "B1", "B3",
@@ -176,21 +177,20 @@ fn report(program: &str, trial: &Trial, outcome: &Outcome, place: usize) -> Resu
     writeln!(out, "program:   {}", outcome.one.show(place))?;
     writeln!(out, "reference: {}", outcome.two.show(place))?;
     out.flush()?;
-    let mut runs = 0;
+    let (mut runs, start) = (0, Instant::now());
     let short = cut(lines, &mut |lines| {
-        runs += 1;
-        if runs > RUNS {
+        if start.elapsed() > CUTTING {
             return None;
         }
+        runs += 1;
         trial.run(program, lines).ok()?.first_difference()
     });
     let Outcome { one, two, .. } = trial.run(program, &short)?;
     writeln!(
         out,
-        "cut from {} lines to {} in {} runs:",
+        "cut from {} lines to {} in {runs} runs:",
         lines.len(),
-        short.len(),
-        runs.min(RUNS)
+        short.len()
     )?;
     out.write_all(&text(&short, true))?;
     writeln!(out, "answers of the program and of the reference:")?;

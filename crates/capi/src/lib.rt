@@ -1,4 +1,4 @@
-// The tag for programs in C and Rust: functions over numbers and lent bytes. Nothing here relies on a check by the caller.
+// The tag for programs in C and Rust: functions over numbers and lent bytes. What a number can tell is judged here; docs/LIBRARY.md says what a caller owes.
 ghost use mathlib.Core.Path.{_≡_};
 ghost use mathlib.Core.Bool.{true};
 ghost use lib.ListN.{length};

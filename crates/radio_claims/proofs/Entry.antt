@@ -17,6 +17,8 @@ use Rattle.reply.specs.declared.RadioSide.{RadioSide}
 use Rattle.reply.specs.Reply.{Said, body, answerOf, bufferOf}
 use Rattle.reply.specs.Outcome.{Told}
 use Rattle.radio.specs.Radio.{radioOf}
+use Rattle.model.specs.declared.Refusal.{Refusal}
+use Rattle.model.specs.declared.Refusal.the-variants.{MemoryLength, ReplyShort, SignalUnknown, OutOfRange}
 use Rattle.model.specs.declared.Answer.{Answer}
 use Rattle.model.specs.declared.Answer.the-variants.{Refused, Nothing, Ack, NoAck, Byte, Silence, Reply}
 use Rattle.model.specs.declared.Signal.{Signal}
@@ -35,7 +37,7 @@ first-byte x b o h =
     pick-case (λ (l : List ℕ). getD l 0 0 ≡ x) _ _ _ (λ k. getD-sets-before (crcBytes (take (length (x ∷ b)) stored)) stored (length (x ∷ b)) 0 (omega arith) ∙ kept) (λ k. kept)
 
 isReply : Answer → ℕ
-isReply (Refused n) = 0
+isReply (Refused why) = 0
 isReply Nothing = 0
 isReply Ack = 0
 isReply NoAck = 0
@@ -43,9 +45,9 @@ isReply (Byte x) = 0
 isReply Silence = 0
 isReply (Reply n) = 1
 
-refused-not : (k n : ℕ) → Refused k ≡ Reply n → ⊥
+refused-not : (why : Refusal) (n : ℕ) → Refused why ≡ Reply n → ⊥
 unfolding isReply
-refused-not k n h = let e : _≡_ {A = ℕ} 0 1 = ap isReply h in omega arith
+refused-not why n h = let e : _≡_ {A = ℕ} 0 1 = ap isReply h in omega arith
 
 -- what a frame told, in the tag t and the buffer o
 told-leaves : (t : Tag) (m o : List ℕ) (after : RadioSide) (r : Told) (n : ℕ) → 0 < length o → Shape after m r
@@ -68,10 +70,10 @@ error-calls-leave t m o s n =
     let busy = transferOpen t || t .host .programming in
     let after = errorLeaves (radioSide t) (t .uid) busy s in
     let P : Ended → Type 0 = λ (x : Ended). x .answer ≡ Reply n → getD (x .reply) 0 0 ≡ 0x01 → (x .tag ≡ withRadio after t) × (x .memory ≡ m) in
-    pick-case P _ _ _ (λ h a b. absurd (refused-not _ n a))
-    (λ h. pick-case P (ltb (length o) 643) _ _ (λ h a b. absurd (refused-not _ n a))
-    (λ long. pick-case P _ _ _ (λ h a b. absurd (refused-not _ n a))
-    (λ h. pick-case P _ _ _ (λ h a b. absurd (refused-not _ n a))
+    pick-case P _ _ _ (λ h a b. absurd (refused-not MemoryLength n a))
+    (λ h. pick-case P (ltb (length o) 643) _ _ (λ h a b. absurd (refused-not ReplyShort n a))
+    (λ long. pick-case P _ _ _ (λ h a b. absurd (refused-not SignalUnknown n a))
+    (λ h. pick-case P _ _ _ (λ h a b. absurd (refused-not OutOfRange n a))
     (λ h. subst (λ (x : Signal). P (actOf x t m o s)) (sym frame-code)
     (told-leaves t m o after (radioOf (radioSide t) (t .uid) (t .host .vcc) (transferOpen t) (t .host .programming) m s) n (omega (arith, ltb-false (length o) 643 long))
     (frame-leaves (radioSide t) (t .uid) (t .host .vcc) (transferOpen t) (t .host .programming) m s))))))

@@ -9,6 +9,7 @@ use Rattle.parts.specs.Pick.{pick}
 use Rattle.parts.proofs.Picks.{pick-case}
 use Rattle.parts.proofs.Bools.{and-left, and-right, and-both}
 use Rattle.tag.specs.declared.Tag.{Tag}
+use Rattle.errors.specs.declared.RadioError.the-variants.{ShutOut}
 use Rattle.reply.specs.Reply.{nothing, fault, answerOf}
 use Rattle.model.specs.declared.Answer.{Answer}
 use Rattle.model.specs.declared.Answer.the-variants.{Refused, Nothing, Ack, NoAck, Byte, Silence, Reply}
@@ -50,8 +51,8 @@ replyLength Silence = 0
 replyLength (Reply n) = n
 
 by-answer : (a b : Bool) (o : List ℕ)
-    → spoken (pick a nothing (fault 0x0F)) o .answer ≡ spoken (pick b nothing (fault 0x0F)) o .answer
-    → spoken (pick a nothing (fault 0x0F)) o ≡ spoken (pick b nothing (fault 0x0F)) o
+    → spoken (pick a nothing (fault ShutOut)) o .answer ≡ spoken (pick b nothing (fault ShutOut)) o .answer
+    → spoken (pick a nothing (fault ShutOut)) o ≡ spoken (pick b nothing (fault ShutOut)) o
 unfolding pick answerOf fromRadio replyLength
 by-answer true true o h = refl
 by-answer true false o h = let f : _≡_ {A = ℕ} 0 4 = ap replyLength h in absurd (omega arith)

@@ -1,3 +1,5 @@
 pub mod DigitLaws
 pub mod LineLaws
 pub mod TextLaws
+pub mod Fits
+pub mod OnlyBad

@@ -2,3 +2,5 @@ pub mod Hex
 pub mod Line
 pub mod Text
 pub mod Bench
+pub mod Lines
+pub mod Claims

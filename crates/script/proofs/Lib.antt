@@ -1,2 +1,4 @@
 pub mod LineLaws
 pub mod TextLaws
+pub mod Fits
+pub mod OnlyBad

@@ -26,6 +26,10 @@ benchUid = record { bytes = 0x01 ∷ 0x02 ∷ 0x03 ∷ 0x04 ∷ 0x05 ∷ 0x24 �
 abbrev pub nextLine : Bench → ℕ
 nextLine b = (b .number + 1) % 18446744073709551616
 
+-- the longest text: the line feed, the tab, a number of 20 digits, and the hex of a reply's 641 bytes before its CRC
+abbrev pub longestText : ℕ
+longestText = 1304
+
 abbrev pub prints : Bench → Tag → List ℕ → List ℕ → List ℕ → Printed
 prints b t m o a = record { bench = record { tag = t; number = nextLine b }; memory = m; reply = o; text = lineText (nextLine b) a }
 

@@ -1,3 +1,5 @@
 pub mod Line
 pub mod Text
 pub mod Bench
+pub mod Lines
+pub mod Claims

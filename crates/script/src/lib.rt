@@ -9,7 +9,7 @@ ghost use lib.ListN.{length, take};
 ghost use Rattle.crc.specs.Crc.{closed};
 ghost use Rattle.text.specs.Hex.{hexBytes};
 ghost use Rattle.script.specs.declared.Bench.{Bench};
-ghost use Rattle.script.specs.Bench.{begun, startOf, nextLine, shown, show, calls, benchOf};
+ghost use Rattle.script.specs.Bench.{begun, startOf, nextLine, longestText, shown, show, calls, benchOf};
 use reading::Reading;
 use tag::Tag;
 use tag::Uid;
@@ -116,6 +116,7 @@ fn arguments_of(s: &[u8], frame: &mut [u8; 602]) -> Arguments
 // A line without its line feed. Its text stands in `text` from place 0 on.
 pub fn line(b: Bench, m: &mut [u8], reply: &mut [u8; 643], s: &[u8], text: &mut [u8]) -> Outcome
     ensures { λ r. ⌜ shown (r .bench) (r .length) (now (m .exit)) (now (reply .exit)) (now (text .exit)) ≡ show (benchOf b (now (m .entry)) (now (reply .entry)) (now (s .entry))) (now (text .entry)) ⌝ }
+    ensures { λ r. ⌜ r .length ≤ longestText ⌝ }
 {
     let mut frame = [0u8; 602];
     let c = arguments_of(s, &mut frame);

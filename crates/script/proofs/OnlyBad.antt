@@ -1,0 +1,289 @@
+-- From the start on every line keeps the tag in range, and only a bad line prints ?. Assumes nothing.
+use mathlib.Core.Path.{_≡_, refl, sym, ap, subst, _∙_}
+use mathlib.Core.Bool.{Bool, true, false, not, _&&_, _||_, false≢true}
+use mathlib.Core.Logic.{_⊎_, inl, inr, ⊎-elim}
+use mathlib.Core.List.{List, [], _∷_, _++_, append-assoc}
+use Prim.Native.Nat.{ℕ, suc, _+_, _-_, _*_, _/_, _%_, _≤_, _<_}
+use native.Mathlib.Omega.{arith}
+use lib.Dec.{T, leb, ltb, eqb}
+use lib.Pow.{areBytes as areAll}
+use lib.ListN.{length, take, drop, getD, replicate, length-append}
+use lib.Seq.{sets, length-sets, take-at, drop-at}
+use borrow.Author.Tests.{eq-eqb, eqb-true, le-ltb, le-leb, lt-ltb}
+use Rattle.parts.specs.Pick.{pick}
+use Rattle.parts.proofs.Bools.{and-left, and-right, and-both, or-cases}
+use Rattle.parts.proofs.Picks.{pick-case, pick-false}
+use Rattle.crc.specs.Crc.{crcOf, crcBytes, closed, closedAt}
+use Rattle.crc.proofs.Below.{crc-below}
+use Rattle.tag.specs.declared.Tag.{Tag}
+use Rattle.tag.specs.Layout.{memoryBytes, replyBytes}
+use Rattle.tag.specs.Supply.{freshTag}
+use Rattle.signal.specs.declared.Answer.{Answer as WireAnswer}
+use Rattle.signal.specs.declared.Answer.the-variants.{Nothing as WireNothing, Ack as WireAck, NoAck as WireNoAck, Byte as WireByte}
+use Rattle.signal.specs.Signal.{signalOf}
+use Rattle.reply.specs.Reply.{Said as ReplySaid, nothing, body, answerOf, bufferOf}
+use Rattle.radio.specs.Radio.{radioOf}
+use Rattle.model.specs.declared.Answer.{Answer}
+use Rattle.model.specs.declared.Answer.the-variants.{Refused, Nothing, Ack, NoAck, Byte, Silence, Reply}
+use Rattle.model.specs.declared.Signal.{Signal}
+use Rattle.model.specs.declared.Signal.the-variants.{Wire, Field, Frame}
+use Rattle.model.specs.Signals.{topValue, signalInRange, signalBy}
+use Rattle.model.specs.Step.{Ended, Left, left, fromWire, fromRadio, radioSide, wireSide, transferOpen, tagInRange, actOf, stepOf, freshOf}
+use Rattle.model.specs.Claims.{areBytes, Fit}
+use Rattle.model.proofs.Kept.{keeps, fresh-fits}
+use Rattle.script.specs.declared.Bench.{Bench}
+use Rattle.script.specs.Hex.{isHex, hexValue, allHex, hexByte, hexBytes, hexText}
+use Rattle.script.specs.Line.{Said, bad, signal, frame, longest, alone, level, byteSent, frameSent, tabbed, lineOf}
+use Rattle.script.specs.Text.{decimal, badText, answerText, lineText}
+use Rattle.script.specs.Bench.{Printed, nextLine, prints, calls, saidOf, benchOf, benchUid, startOf}
+use Rattle.script.specs.Lines.{Carried, carried, printed, handedOn, afterLines, beforeLines}
+use Rattle.script.specs.Claims.{BenchFit, StartFits, LineKeepsFit, OnlyBadRefused}
+use Rattle.script.proofs.DigitLaws.{all-hex-at, hex-small, length-hex-text}
+use Rattle.script.proofs.TextLaws.{length-line}
+
+-- ---- what a line says has its value in range, and a frame's bytes are bytes
+sane : Said → Bool
+sane bad = true
+sane (signal code value) = signalInRange code value
+sane (frame s) = areBytes s
+
+abbrev Sane : Said → Type 0
+Sane x = sane x ≡ true
+
+alone-sane : (x : ℕ) → Sane (alone x)
+unfolding alone sane signalInRange topValue pick
+alone-sane x =
+    pick-case Sane (eqb x 0x53) _ _ (λ _. refl)
+    (λ _. pick-case Sane (eqb x 0x50) _ _ (λ _. refl)
+    (λ _. pick-case Sane (eqb x 0x44) _ _ (λ _. refl)
+    (λ _. refl)))
+
+level-sane : (code : ℕ) (s : List ℕ) → signalInRange code 0 ≡ true → signalInRange code 1 ≡ true → Sane (level code s)
+unfolding level sane
+level-sane code s z o =
+    let x = getD s 0 0 in
+    pick-case Sane (eqb (length s) 1 && (eqb x 0x30 || eqb x 0x31)) (signal code (x - 0x30)) bad
+    (λ h. ⊎-elim
+    (λ e. let v : x - 0x30 ≡ 0 = omega (arith, eqb-true x 0x30 e) in rw v z)
+    (λ e. let v : x - 0x30 ≡ 1 = omega (arith, eqb-true x 0x31 e) in rw v o)
+    (or-cases (eqb x 0x30) (eqb x 0x31) (and-right (eqb (length s) 1) (eqb x 0x30 || eqb x 0x31) h)))
+    (λ _. refl)
+
+byte-below : (x y : ℕ) → isHex x ≡ true → isHex y ≡ true → hexByte x y < 256
+byte-below x y p q = omega (arith, hex-small x p, hex-small y q)
+
+byte-sane : (s : List ℕ) → Sane (byteSent s)
+unfolding byteSent sane signalInRange topValue pick
+byte-sane s =
+    pick-case Sane (eqb (length s) 2 && allHex s) (signal 4 (hexByte (getD s 0 0) (getD s 1 0))) bad
+    (λ h.
+    let n = eqb-true (length s) 2 (and-left (eqb (length s) 2) (allHex s) h) in
+    let a = and-right (eqb (length s) 2) (allHex s) h in
+    le-leb (hexByte (getD s 0 0) (getD s 1 0)) 255
+    (omega (arith, byte-below (getD s 0 0) (getD s 1 0) (all-hex-at s 0 a (omega (arith, n))) (all-hex-at s 1 a (omega (arith, n))))))
+    (λ _. refl)
+
+bytes-read : (s : List ℕ) → allHex s ≡ true → areBytes (hexBytes s) ≡ true
+unfolding allHex hexBytes areBytes
+bytes-read [] h = refl
+bytes-read (x ∷ []) h = refl
+bytes-read (x ∷ y ∷ s) h =
+    let r = and-right (isHex x) (isHex y && allHex s) h in
+    and-both (ltb (hexByte x y) 256) (areBytes (hexBytes s))
+    (lt-ltb (hexByte x y) 256 (byte-below x y (and-left (isHex x) (isHex y && allHex s) h) (and-left (isHex y) (allHex s) r)))
+    (bytes-read s (and-right (isHex y) (allHex s) r))
+
+frame-sane : (s : List ℕ) → Sane (frameSent s)
+unfolding frameSent sane
+frame-sane s =
+    pick-case Sane (leb 2 (length s) && eqb (length s % 2) 0 && allHex s) (frame (hexBytes s)) bad
+    (λ h. bytes-read s (and-right (leb 2 (length s) && eqb (length s % 2) 0) (allHex s) h))
+    (λ _. refl)
+
+tabbed-sane : (x : ℕ) (s : List ℕ) → Sane (tabbed x s)
+unfolding tabbed sane signalInRange topValue pick
+tabbed-sane x s =
+    pick-case Sane (eqb x 0x56) _ _ (λ _. level-sane 1 s refl refl)
+    (λ _. pick-case Sane (eqb x 0x46) _ _ (λ _. level-sane 2 s refl refl)
+    (λ _. pick-case Sane (eqb x 0x42) _ _ (λ _. byte-sane s)
+    (λ _. pick-case Sane (eqb x 0x47) _ _ (λ _. level-sane 5 s refl refl)
+    (λ _. pick-case Sane (eqb x 0x52) _ _ (λ _. frame-sane s)
+    (λ _. refl)))))
+
+line-sane : (s : List ℕ) → Sane (lineOf s)
+unfolding lineOf sane
+line-sane s =
+    pick-case Sane (ltb longest (length s)) _ _ (λ _. refl)
+    (λ _. pick-case Sane (eqb (length s) 1) _ _ (λ _. alone-sane (getD s 0 0))
+    (λ _. pick-case Sane (eqb (getD s 1 0) 0x09) _ _ (λ _. tabbed-sane (getD s 0 0) (drop 2 s))
+    (λ _. refl)))
+
+-- ---- a frame with its CRC
+same-bytes : (s : List ℕ) → areBytes s ≡ areAll s
+unfolding areBytes
+same-bytes [] = refl
+same-bytes (x ∷ s) = ap (λ (b : Bool). ltb x 256 && b) (same-bytes s)
+
+bytes-append : (p q : List ℕ) → areBytes p ≡ true → areBytes q ≡ true → areBytes (p ++ q) ≡ true
+unfolding areBytes
+bytes-append [] q h k = k
+bytes-append (x ∷ p) q h k =
+    and-both (ltb x 256) (areBytes (p ++ q)) (and-left (ltb x 256) (areBytes p) h) (bytes-append p q (and-right (ltb x 256) (areBytes p) h) k)
+
+crc-bytes : (s : List ℕ) → crcOf s < 65536 → areBytes (crcBytes s) ≡ true
+unfolding areBytes
+crc-bytes s h = rw (lt-ltb (crcOf s % 256) 256 (omega arith), lt-ltb (crcOf s / 256) 256 (omega arith))
+
+closed-bytes : (s : List ℕ) → areBytes s ≡ true → areBytes (closed s) ≡ true
+closed-bytes s h = bytes-append s (crcBytes s) h (crc-bytes s (crc-below s (subst T (sym (sym (same-bytes s) ∙ h)) tt)))
+
+-- ---- a call in range is served, and its answer is no refusal
+passed : {A : Type 0} (b : Bool) (x y : A) → b ≡ false → pick b x y ≡ y
+passed b x y h = sym (pick-false x y y b h refl)
+
+served : (t : Tag) (m o : List ℕ) (code value : ℕ) (s : List ℕ) → Fit t m → replyBytes ≤ length o → signalInRange code value ≡ true
+    → stepOf t m o code value s ≡ actOf (signalBy code value) t m o s
+unfolding stepOf
+served t m o code value s f room h =
+    passed (not (eqb (length m) 1024)) _ _ (ap not (eq-eqb (length m) 1024 (f .size)))
+    ∙ passed (ltb (length o) 643) _ _ (le-ltb (length o) 643 room)
+    ∙ passed (not (signalInRange code value)) _ _ (ap not h)
+    ∙ passed (not (tagInRange t m)) _ _ (ap not (f .range))
+
+refusal : Answer → Bool
+refusal (Refused n) = true
+refusal Nothing = false
+refusal Ack = false
+refusal NoAck = false
+refusal (Byte x) = false
+refusal Silence = false
+refusal (Reply n) = false
+
+wire-answers : (a : WireAnswer) → refusal (fromWire a) ≡ false
+unfolding refusal fromWire
+wire-answers WireNothing = refl
+wire-answers WireAck = refl
+wire-answers WireNoAck = refl
+wire-answers (WireByte x) = refl
+
+radio-answers : (r : ReplySaid) → refusal (fromRadio (answerOf r)) ≡ false
+unfolding refusal fromRadio answerOf
+radio-answers nothing = refl
+radio-answers (body b) = refl
+
+act-answers : (x : Signal) (t : Tag) (m o s : List ℕ) → refusal (actOf x t m o s .answer) ≡ false
+unfolding actOf refusal
+act-answers (Wire x) t m o s = wire-answers (signalOf (wireSide t) (t .uid) m x .answer)
+act-answers (Field on) t m o s = refl
+act-answers Frame t m o s = radio-answers (radioOf (radioSide t) (t .uid) (t .host .vcc) (transferOpen t) (t .host .programming) m s .reply)
+
+-- ---- a text that is ? answers a refusal
+first : List ℕ → ℕ
+first s = getD s 0 0
+
+marked : (a : Answer) (o : List ℕ) → refusal a ≡ false → answerText a o ≡ badText → ⊥
+unfolding refusal answerText hexText first
+marked (Refused n) o r e = false≢true (sym r)
+marked Nothing o r e = omega (arith, ap first e)
+marked Ack o r e = omega (arith, ap first e)
+marked NoAck o r e = omega (arith, ap first e)
+marked (Byte x) o r e = omega (arith, ap length e)
+marked Silence o r e = omega (arith, ap first e)
+marked (Reply n) o r e = omega (arith, ap length e, length-hex-text (take (n - 2) o))
+
+-- the answer within a line's text
+line-answer : (n : ℕ) (a : List ℕ) → take (length a) (drop (length (decimal n) + 1) (lineText n a)) ≡ a
+unfolding lineText
+line-answer n a =
+    let d = decimal n in
+    ap (λ (x : List ℕ). take (length a) (drop (length d + 1) x))
+    (append-assoc d (0x09 ∷ a) (0x0A ∷ []) ∙ sym (append-assoc d (0x09 ∷ []) (a ++ 0x0A ∷ [])))
+    ∙ ap (take (length a)) (drop-at (d ++ 0x09 ∷ []) (a ++ 0x0A ∷ []) (length d + 1) (length-append d (0x09 ∷ [])))
+    ∙ take-at a (0x0A ∷ []) (length a) refl
+
+same-answer : (n : ℕ) (a b : List ℕ) → lineText n a ≡ lineText n b → a ≡ b
+same-answer n a b e =
+    let l : length a ≡ length b = omega (arith, ap length e, length-line n a, length-line n b) in
+    sym (line-answer n a)
+    ∙ ap (λ (x : List ℕ). take (length a) (drop (length (decimal n) + 1) x)) e
+    ∙ ap (λ (k : ℕ). take k (drop (length (decimal n) + 1) (lineText n b))) l
+    ∙ line-answer n b
+
+-- ---- the reply buffer keeps its length
+buffer-room : (r : ReplySaid) (o : List ℕ) → length (bufferOf r o) ≡ length o
+unfolding bufferOf closedAt
+buffer-room nothing o = refl
+buffer-room (body b) o =
+    let x = sets o 0 b in
+    pick-case (λ (l : List ℕ). length l ≡ length o) (leb (length b + 2) (length x)) _ _
+    (λ _. length-sets x (length b) (crcBytes (take (length b) x)) ∙ length-sets o 0 b)
+    (λ _. length-sets o 0 b)
+
+act-room : (x : Signal) (t : Tag) (m o s : List ℕ) → length (actOf x t m o s .reply) ≡ length o
+unfolding actOf
+act-room (Wire x) t m o s = refl
+act-room (Field on) t m o s = refl
+act-room Frame t m o s = buffer-room (radioOf (radioSide t) (t .uid) (t .host .vcc) (transferOpen t) (t .host .programming) m s .reply) o
+
+step-room : (t : Tag) (m o : List ℕ) (code value : ℕ) (s : List ℕ) → length (stepOf t m o code value s .reply) ≡ length o
+unfolding stepOf
+step-room t m o code value s =
+    let P : Ended → Type 0 = λ e. length (e .reply) ≡ length o in
+    pick-case P _ _ _ (λ _. refl)
+    (λ _. pick-case P _ _ _ (λ _. refl)
+    (λ _. pick-case P _ _ _ (λ _. refl)
+    (λ _. pick-case P _ _ _ (λ _. refl)
+    (λ _. act-room (signalBy code value) t m o s))))
+
+-- ---- a call from a bench that fits
+module _ (c : Carried) (f : BenchFit c) where
+  call-answers : (code value : ℕ) (s : List ℕ) → signalInRange code value ≡ true
+      → calls (c .bench) (c .memory) (c .reply) code value s .text ≡ lineText (nextLine (c .bench)) badText → ⊥
+  call-answers code value s h e =
+      let t = c .bench .tag in
+      let r = stepOf t (c .memory) (c .reply) code value s in
+      marked (r .answer) (r .reply)
+      (ap (λ (x : Ended). refusal (x .answer)) (served t (c .memory) (c .reply) code value s (f .tag) (f .room) h)
+      ∙ act-answers (signalBy code value) t (c .memory) (c .reply) s)
+      (same-answer (nextLine (c .bench)) (answerText (r .answer) (r .reply)) badText e)
+
+  said-answers : (x : Said) → Sane x → saidOf x (c .bench) (c .memory) (c .reply) .text ≡ lineText (nextLine (c .bench)) badText → x ≡ bad
+  unfolding saidOf sane signalInRange topValue pick
+  said-answers bad h e = refl
+  said-answers (signal code value) h e = absurd (call-answers code value [] h e)
+  said-answers (frame s) h e = absurd (call-answers 8 0 (closed s) refl e)
+
+  call-fits : (code value : ℕ) (s : List ℕ) → areBytes s ≡ true → BenchFit (handedOn (calls (c .bench) (c .memory) (c .reply) code value s))
+  call-fits code value s h = record {
+    tag = keeps (c .bench .tag) (c .memory) (c .reply) code value s h (f .tag);
+    room = omega (arith, f .room, step-room (c .bench .tag) (c .memory) (c .reply) code value s);
+  }
+
+  said-fits : (x : Said) → Sane x → BenchFit (handedOn (saidOf x (c .bench) (c .memory) (c .reply)))
+  unfolding saidOf sane areBytes
+  said-fits bad h = record { tag = f .tag; room = f .room }
+  said-fits (signal code value) h = call-fits code value [] refl
+  said-fits (frame s) h = call-fits 8 0 (closed s) (closed-bytes s h)
+
+-- ---- the claims
+pub start-fits : StartFits
+unfolding startOf freshOf
+start-fits m o l room =
+    let e = passed (not (eqb (length m) 1024)) _ (left Nothing (freshTag benchUid) (replicate 1024 0)) (ap not (eq-eqb (length m) 1024 l)) in
+    record { tag = subst (λ (x : Left). Fit (x .tag) (x .memory)) (sym e) (fresh-fits benchUid); room = room }
+
+pub line-keeps-fit : LineKeepsFit
+unfolding benchOf
+line-keeps-fit c s f = said-fits c f (lineOf s) (line-sane s)
+
+lines-keep-fit : (ls : List (List ℕ)) (c : Carried) → BenchFit c → BenchFit (afterLines c ls)
+unfolding afterLines
+lines-keep-fit [] c f = f
+lines-keep-fit (l ∷ ls) c f = lines-keep-fit ls (handedOn (printed c l)) (line-keeps-fit c l f)
+
+pub only-bad-refused : OnlyBadRefused
+unfolding benchOf saidOf
+only-bad-refused m o l room ls s =
+    let c = afterLines (beforeLines m o) ls in
+    let f = lines-keep-fit ls (beforeLines m o) (start-fits m o l room) in
+    (λ e. said-answers c f (lineOf s) (line-sane s) e, λ e. ap (λ (x : Said). saidOf x (c .bench) (c .memory) (c .reply)) e)

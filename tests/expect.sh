@@ -16,7 +16,7 @@ trying() { # TEXT
 }
 
 failed() { # TEXT
-    echo "$me: $what: $1" | head -c 1000
+    printf '%s: %s: %.600s\n' "$me" "$what" "$1"
     failures=$((failures + 1))
 }
 

@@ -14,7 +14,7 @@ use Rattle.model.specs.Signals.{signalInRange}
 use Rattle.model.specs.declared.Refusal.the-variants.{ReplyShort, SignalUnknown}
 use Rattle.model.proofs.Kept.{keeps, fresh-fits}
 use Rattle.waiting.specs.Calls.{Call, Device, device, Done, Ran, ran, entry, runBy}
-use Rattle.waiting.specs.Examples.{sends, uid}
+use Rattle.waiting.specs.Examples.{uid}
 use Rattle.waiting.specs.Claim.{framesFit}
 use Rattle.waiting.proofs.OneCall.{Fits, acted, refusal, call-is}
 use Rattle.waiting.proofs.Struck.{first-fits, rest-fits, fits-next}
@@ -125,7 +125,7 @@ abbrev by : (p : Pair) → PairComputed p → PairComputed p
 by p c = c
 
 all-computed : AllComputed twelve
-unfolding computes framesFit sends valueOf values unranged sameBytes Holds ComputedFrom PairComputed
+unfolding computes valueOf values unranged sameBytes Holds ComputedFrom PairComputed
 all-computed =
     by pair1 refl
     also by pair2 (refl, (refl, tt))

@@ -23,7 +23,7 @@ use Rattle.waiting.specs.Follows.{JudgedFollows, StrikingFollows, Answer
 use Rattle.waiting.proofs.OneCall.{Fits, struck-is}
 use Rattle.waiting.proofs.Struck.{first-fits, rest-fits, fits-next, RunsTo, by-test}
 use Rattle.waiting.proofs.Follow.{now, answers}
-use Rattle.waiting.proofs.Demand3.{demand-3, ends-shut, ends-alike}
+use Rattle.waiting.proofs.Demand3.{agreed, ends-shut, ends-alike}
 
 -- ---- two tags that answer as the waiting tag does answer alike
 record Alike (step : Step) (d : Device) (cs : List Call) : Type 0 where
@@ -33,12 +33,12 @@ record Alike (step : Step) (d : Device) (cs : List Call) : Type 0 where
 alike : (step : Step) → EveryList (Same step) → EveryList (Alike step)
 unfolding now answers
 alike step all d cs range size frames shut end =
-    let e = sym (all d cs range size frames shut end) ∙ demand-3 d cs range size frames shut end .same in
+    let e = sym (all d cs range size frames shut end) ∙ agreed d cs range size frames shut end .same in
     record { answers = ap answers e; device = ap now e }
 
 pub judged-follows : JudgedFollows
 judged-follows step all d cs range size frames shut end =
-    ap stateRefused (alike step all d cs range size frames shut end .answers) ∙ demand-3 d cs range size frames shut end .judged
+    ap stateRefused (alike step all d cs range size frames shut end .answers) ∙ agreed d cs range size frames shut end .judged
 
 -- ---- of silence and error 0Fh the answer decides the bytes
 unfoldable replyLength : Answer → ℕ

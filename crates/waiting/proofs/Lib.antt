@@ -6,5 +6,6 @@ pub mod Follow
 pub mod Demand3
 pub mod Follows
 pub mod Entry
+pub mod Behind
 pub mod Wrong
 pub mod Computes

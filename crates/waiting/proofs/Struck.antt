@@ -12,7 +12,8 @@ use Rattle.tag.specs.declared.Tag.{Tag}
 use Rattle.model.specs.Step.{transferOpen}
 use Rattle.model.specs.Claims.{areBytes, Keeps}
 use Rattle.waiting.specs.Calls.{Call, Said, Device, Done, Ran, ran, entry, runBy}
-use Rattle.waiting.specs.Claim.{framesFit, stateRefused, struck, others, otherAnswers, spoken, Shut, startAfter, AllShut}
+use Rattle.waiting.specs.Claim.{framesFit, stateRefused, struck, others, otherAnswers, spoken, Shut, startAfter, EachStruck, AllShut}
+use Rattle.waiting.specs.Follows.{RepliesShut}
 use Rattle.waiting.proofs.OneCall.{Fits, shutBy, struck-is, Stays, call-stays, call-judged}
 
 -- ---- one call
@@ -21,16 +22,14 @@ pub record Since (start t : Tag) : Type 0 where
   pub uid : start .uid ≡ t .uid
   pub registers : start .core .registers ≡ t .core .registers
 
+shut-reply : (start : Tag) (d : Device) (c : Call) → Fits d → Since start (d .tag) → struck entry d c ≡ true → RepliesShut entry start d c
+shut-reply start d c f s h =
+    ap (λ (e : Done). e .says) (struck-is d c f h)
+    ∙ ap (λ (u : Uid). spoken (shutBy (c .frame) (d .tag .air) u (d .tag .core .registers .dynamic)) (c .buffer)) (sym (s .uid))
+    ∙ ap (λ (g : Registers). spoken (shutBy (c .frame) (d .tag .air) (start .uid) (g .dynamic)) (c .buffer)) (sym (s .registers))
+
 shut-call : (start : Tag) (d : Device) (c : Call) → Fits d → Since start (d .tag) → struck entry d c ≡ true → Shut entry start d c
-shut-call start d c f s h =
-    let e = struck-is d c f h in
-    record {
-      unchanged = ap (λ (e : Done). e .device) e;
-      reply =
-          ap (λ (e : Done). e .says) e
-          ∙ ap (λ (u : Uid). spoken (shutBy (c .frame) (d .tag .air) u (d .tag .core .registers .dynamic)) (c .buffer)) (sym (s .uid))
-          ∙ ap (λ (g : Registers). spoken (shutBy (c .frame) (d .tag .air) (start .uid) (g .dynamic)) (c .buffer)) (sym (s .registers));
-    }
+shut-call start d c f s h = record { unchanged = ap (λ (e : Done). e .device) (struck-is d c f h); reply = shut-reply start d c f s h }
 
 -- with none open the tag itself is the start
 since-after : (start t : Tag) → (transferOpen t ≡ true → Since start t) → Since (startAfter start t) t
@@ -90,13 +89,23 @@ module _ (kept : Keeps) where
       (λ h. ap (λ (e : Done). e .device) (struck-is d c f h))
       (striking cs e (rest-fits c cs b) (fits-next d c (first-fits c cs b) f))
 
+  -- every struck frame, with what holds of each one
+  each-struck : (P : Tag → Device → Call → Type 0) → ((start : Tag) (d : Device) (c : Call) → Fits d → Since start (d .tag) → struck entry d c ≡ true → P start d c)
+      → (cs : List Call) (start : Tag) (d : Device) → framesFit cs ≡ true → Fits d → (transferOpen (d .tag) ≡ true → Since start (d .tag)) → EachStruck entry P start d cs
+  unfolding EachStruck
+  each-struck P p [] start d b f s = tt
+  each-struck P p (c ∷ cs) start d b f s =
+      let now = startAfter start (d .tag) in
+      let since = since-after start (d .tag) s in (
+        p now d c f since,
+        each-struck P p cs now (entry d c .device) (rest-fits c cs b) (fits-next d c (first-fits c cs b) f) (since-next now d (entry d c) (call-stays d c f) since),
+      )
+
   pub all-shut : (cs : List Call) (start : Tag) (d : Device) → framesFit cs ≡ true → Fits d → (transferOpen (d .tag) ≡ true → Since start (d .tag))
       → AllShut entry start d cs
   unfolding AllShut
-  all-shut [] start d b f s = tt
-  all-shut (c ∷ cs) start d b f s =
-      let now = startAfter start (d .tag) in
-      let since = since-after start (d .tag) s in (
-        shut-call now d c f since,
-        all-shut cs now (entry d c .device) (rest-fits c cs b) (fits-next d c (first-fits c cs b) f) (since-next now d (entry d c) (call-stays d c f) since),
-      )
+  all-shut = each-struck (Shut entry) shut-call
+
+  pub all-reply : (cs : List Call) (start : Tag) (d : Device) → framesFit cs ≡ true → Fits d → (transferOpen (d .tag) ≡ true → Since start (d .tag))
+      → EachStruck entry (RepliesShut entry) start d cs
+  all-reply = each-struck (RepliesShut entry) shut-reply

@@ -12,10 +12,8 @@ use Rattle.tag.specs.declared.Air.{Air}
 use Rattle.tag.specs.declared.Bus.{Bus}
 use Rattle.tag.specs.declared.Bus.the-variants.{Idle}
 use Rattle.tag.specs.declared.Host.{Host}
-use Rattle.tag.specs.declared.Mailbox.{Mailbox}
 use Rattle.tag.specs.declared.Core.{Core}
 use Rattle.tag.specs.declared.Uid.{Uid}
-use Rattle.tag.specs.declared.Tag.{Tag}
 use Rattle.tag.specs.Layout.{userBytes, memoryBytes, replyBytes}
 use Rattle.tag.specs.Radio.{withState, withSession}
 use Rattle.tag.specs.Mailbox.{emptyMailbox, noMessage}
@@ -99,6 +97,9 @@ abbrev pub onRegisters : (Registers → Registers) → Device → Device
 onRegisters f d = onCore (λ (c : Core). withRegisters (f (c .registers)) c) d
 
 -- ---- the radio side
+abbrev pub fieldIs : Bool → Device → Device
+fieldIs on d = onAir (λ (a : Air). record { field = on; radio = a .radio; session = a .session }) d
+
 abbrev pub radioState : RadioState → Device → Device
 radioState x d = onAir (withState x) d
 
@@ -107,6 +108,9 @@ abbrev pub radioSession : ℕ → Device → Device
 radioSession n d = onAir (withSession n) d
 
 -- ---- the host side
+abbrev pub vccIs : Bool → Device → Device
+vccIs on d = onHost (λ (h : Host). record { vcc = on; session = h .session; programming = h .programming; counter = h .counter; bus = h .bus }) d
+
 abbrev pub i2cSession : Device → Device
 i2cSession d = onHost (λ (h : Host). record { vcc = h .vcc; session = true; programming = h .programming; counter = h .counter; bus = h .bus }) d
 

@@ -13,7 +13,10 @@ JudgedFollows = (step : Step) → EveryList (Same step) → EveryList (Judged st
 abbrev pub StrikingFollows : Type 0
 StrikingFollows = (step : Step) → EveryList (Same step) → EveryList (Striking step)
 
--- ---- of a struck frame's reply: the bytes follow from the answer
+-- ---- of a struck frame: it changed nothing; its answer; its reply, bytes included, which follow from the answer
+abbrev pub Unchanged : Step → Tag → Device → Call → Type 0
+Unchanged step start d c = step d c .device ≡ d
+
 abbrev pub AnswersShut : Step → Tag → Device → Call → Type 0
 AnswersShut step start d c = step d c .says .answer ≡ spoken (shutReply start (d .tag .air) (c .frame)) (c .buffer) .answer
 

@@ -5,3 +5,4 @@ pub mod Claim
 pub mod Follows
 pub mod Entry
 pub mod Wrong
+pub mod Pinned

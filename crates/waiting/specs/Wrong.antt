@@ -16,7 +16,7 @@ use Rattle.model.specs.declared.Answer.the-variants.{NoAck}
 use Rattle.model.specs.declared.Signal.the-variants.{Frame}
 use Rattle.model.specs.Step.{withAir, actOf}
 use Rattle.waiting.specs.Calls.{Call, said, Device, device, Done, done, Step, doneBy, entry}
-use Rattle.waiting.specs.Examples.{onBus}
+use Rattle.waiting.specs.Examples.{onCore, onBus}
 use Rattle.waiting.specs.Claim.{struck, Demand3}
 
 abbrev pub Refuted : Step → Type 0
@@ -65,12 +65,9 @@ commitsAtOff d c =
     (entry d c)
 
 -- ---- one that answers a frame in a transfer by the registers as the leg's bytes so far would leave them
-abbrev pub withCore : Core → Tag → Tag
-withCore x t = record { air = t .air; host = t .host; core = x; uid = t .uid }
-
 unfoldable pub answersFromLeg : Device → Call → Done
 answersFromLeg d c =
-    let t = withCore (entry d (stopping c) .device .tag .core) (d .tag) in
+    let t = onCore (λ (x : Core). entry d (stopping c) .device .tag .core) d .tag in
     pick (struck entry d c) (done (doneBy (actOf Frame t (d .memory) (c .buffer) (c .frame)) .says) d)
     (entry d c)
 

@@ -1,5 +1,5 @@
 -- Demand 3 over the library's calls, from demand 3 at the entry point. Assumes nothing.
-use mathlib.Core.Path.{_≡_, refl, sym, ap, subst, _∙_}
+use mathlib.Core.Path.{_≡_, sym, ap, subst, _∙_}
 use mathlib.Core.Bool.{true, false}
 use mathlib.Core.List.{List, []}
 use Prim.Native.Nat.{ℕ}
@@ -11,13 +11,13 @@ use Rattle.state.proofs.There.{decodes-encoded}
 use Rattle.state.proofs.Again.{encodes-decoded}
 use Rattle.state.proofs.Decoded.{decoded-fits}
 use Rattle.model.specs.Step.{transferOpen, tagInRange}
-use Rattle.waiting.specs.Calls.{Call, Device, device, entry, runBy}
-use Rattle.waiting.specs.Waiting.{Waiting, closed, waitRun}
+use Rattle.waiting.specs.Calls.{Call, Device, device}
+use Rattle.waiting.specs.Waiting.{closed, waitRun}
 use Rattle.waiting.specs.Claim.{framesFit, isClosed}
 use Rattle.waiting.proofs.Demand3.{demand-3}
 use Rattle.library_demand3.specs.Calls.{exported}
-use Rattle.library_demand3.specs.Claim.{inBytes, AllLibraryShut, LibraryAgrees, LibraryDemand3}
-use Rattle.library_demand3.proofs.Follows.{striking-follows}
+use Rattle.library_demand3.specs.Claim.{inBytes, EachLibraryStruck, LibraryShut, LibraryAgrees, LibraryDemand3}
+use Rattle.library_demand3.proofs.Striking.{library-striking-follows}
 use Rattle.library_demand3.proofs.Lists.{Good, run-is, all-shut-is}
 
 -- from a tag's bytes
@@ -27,10 +27,10 @@ unfolding inBytes
 agrees d cs g range size frames shut end =
     let a = demand-3 d cs range size frames shut end in
     let back = sym (decodes-encoded (d .tag) (g .fits) .1) in
-    let all = subst (λ (t : Tag). AllLibraryShut exported t (bytesOf (d .tag)) (d .memory) cs) back (all-shut-is cs (d .tag) d frames g (a .shut)) in
+    let all = subst (λ (t : Tag). EachLibraryStruck exported (LibraryShut exported) t (bytesOf (d .tag)) (d .memory) cs) back (all-shut-is cs (d .tag) d frames g (a .shut)) in
     record {
       same = run-is cs d frames g ∙ ap inBytes (sym (a .same)) ∙ ap (λ (t : Tag). inBytes (waitRun (closed [] (device t (d .memory))) cs)) back;
-      striking = striking-follows exported (tagOf (bytesOf (d .tag))) (bytesOf (d .tag)) (d .memory) cs all;
+      striking = library-striking-follows exported (tagOf (bytesOf (d .tag))) (bytesOf (d .tag)) (d .memory) cs all;
       shut = all;
     }
 

@@ -12,8 +12,6 @@ use Rattle.parts.proofs.Bools.{and-left, and-right, and-both}
 use Rattle.parts.proofs.Picks.{pick-case}
 use Rattle.tag.specs.declared.Tag.{Tag}
 use Rattle.tag.specs.Layout.{memoryBytes, replyBytes}
-use Rattle.signal.specs.declared.Signal.{Signal as WireSignal}
-use Rattle.signal.specs.declared.Signal.the-variants.{Start, Send, Fetch, Stop, Vcc, ProgrammingEnd}
 use Rattle.signal.specs.Claims.{sentByte}
 use Rattle.signal.proofs.Line.{keeps-counter}
 use Rattle.signal.proofs.Bytes.{keeps-bytes}

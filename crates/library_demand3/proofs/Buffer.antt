@@ -7,6 +7,7 @@ use native.Mathlib.Omega.{arith}
 use lib.Dec.{ltb}
 use lib.ListN.{length, getD, drop}
 use Rattle.parts.specs.Pick.{pick}
+use Rattle.parts.specs.Bytes.{areBytes}
 use Rattle.parts.proofs.Bools.{and-left, and-right, and-both}
 use Rattle.tag.specs.declared.Tag.{Tag}
 use Rattle.state.specs.Layout.{bytesOf, tagOf}
@@ -14,7 +15,6 @@ use Rattle.state.proofs.Decoded.{decoded-fits}
 use Rattle.reply.specs.Reply.{nothing, body, answerOf}
 use Rattle.model.specs.Signals.{signalBy}
 use Rattle.model.specs.Step.{fromRadio, transferOpen}
-use Rattle.model.specs.Claims.{areBytes as areFrameBytes}
 use Rattle.model.proofs.Kept.{keeps}
 use Rattle.capi.specs.Interface.{answerNumber}
 use Rattle.waiting.specs.Calls.{Call, Device, device, Done, entry, runBy}
@@ -41,7 +41,7 @@ frames-first : (p q : List Call) → framesFit (p ++ q) ≡ true → framesFit p
 unfolding framesFit
 frames-first [] q h = refl
 frames-first (c ∷ p) q h =
-    and-both (areFrameBytes (c .frame)) (framesFit p) (first-frame c (p ++ q) h) (frames-first p q (rest-frames c (p ++ q) h))
+    and-both (areBytes (c .frame)) (framesFit p) (first-frame c (p ++ q) h) (frames-first p q (rest-frames c (p ++ q) h))
 
 -- ---- a step beside the entry point, call by call: s and m are its bytes, d is the entry point's tag
 module _ (step : LibraryStep) where

@@ -7,6 +7,7 @@ use native.Mathlib.Nat.{mod-lt}
 use native.Mathlib.Omega.{arith}
 use lib.Dec.{leb, ltb, eqb}
 use borrow.Author.Tests.{eqb-true, leb-true, ltb-true, lt-ltb}
+use Rattle.parts.specs.Bytes.{areBytes}
 use Rattle.parts.proofs.Bools.{and-left, and-right}
 use Rattle.registers.specs.declared.Registers.{Registers}
 use Rattle.registers.specs.Defined.{onlyBits, definedOnly}
@@ -20,7 +21,7 @@ use Rattle.ranges.specs.Ranges.{registersInRange, airInRange, putCurrent, mailb
 use Rattle.rule.specs.PageRange.{busInRange}
 use Rattle.model.specs.Step.{wireSide, tagInRange}
 use Rattle.state.specs.Layout.{registerBytes}
-use Rattle.state.specs.Claims.{areBytes, isByte, isWord, busFits, PasswordsFit, areEight, Fits}
+use Rattle.state.specs.Claims.{isByte, isWord, busFits, PasswordsFit, areEight, Fits}
 use Rattle.library_demand3.proofs.WireKept.{highByteOf}
 
 -- ---- registers

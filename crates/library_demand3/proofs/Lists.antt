@@ -6,18 +6,18 @@ use Prim.Native.Nat.{ℕ, _+_}
 use native.Mathlib.Omega.{arith}
 use lib.Dec.{ltb}
 use borrow.Author.Tests.{le-ltb}
+use Rattle.parts.specs.Bytes.{areBytes}
 use Rattle.parts.proofs.Picks.{pick-case}
 use Rattle.parts.proofs.Bools.{and-left, and-right}
 use Rattle.tag.specs.declared.Tag.{Tag}
 use Rattle.state.specs.Layout.{bytesOf, tagOf}
-use Rattle.state.specs.Claims.{areBytes, Fits}
+use Rattle.state.specs.Claims.{Fits}
 use Rattle.state.proofs.There.{decodes-encoded}
 use Rattle.model.specs.declared.Refusal.the-variants.{MemoryLength, ReplyShort, SignalUnknown, OutOfRange}
 use Rattle.model.specs.declared.Answer.{Answer}
 use Rattle.model.specs.declared.Answer.the-variants.{Refused, Nothing, Ack, NoAck, Byte, Silence, Reply}
 use Rattle.model.specs.Signals.{signalBy}
 use Rattle.model.specs.Step.{Ended, number, transferOpen, stepOf}
-use Rattle.model.specs.Claims.{areBytes as areFrameBytes}
 use Rattle.capi.specs.Interface.{refusalNumber, answerNumber, isRefused, stateAfter, Called, called}
 use Rattle.capi.proofs.Refusals.{act-served}
 use Rattle.capi.proofs.Tags.{steps-the-tag}
@@ -25,7 +25,7 @@ use Rattle.waiting.specs.Calls.{Call, Device, device, Done, Ran, entry, runBy}
 use Rattle.waiting.specs.Claim.{framesFit, isRefusal, isFrame, struck, Shut, startAfter, EachStruck, AllShut}
 use Rattle.library_demand3.specs.Calls.{exported, answerBy, LibraryRan, libraryRan, libraryRun}
 use Rattle.library_demand3.specs.Claim.{inNumber, inNumbers, libraryStruck, shutAnswer, EachLibraryStruck, LibraryShut}
-use Rattle.library_demand3.proofs.Kept.{keeps-fits, of-frame}
+use Rattle.library_demand3.proofs.Kept.{keeps-fits}
 
 -- ---- one call
 abbrev T : Tag → Ended → Type 0
@@ -66,19 +66,19 @@ pub record Good (d : Device) : Type 0 where
   pub fits : Fits (d .tag)
   pub bytes : areBytes (d .memory) ≡ true
 
-pub good-next : (d : Device) (c : Call) → areFrameBytes (c .frame) ≡ true → Good d → Good (entry d c .device)
+pub good-next : (d : Device) (c : Call) → areBytes (c .frame) ≡ true → Good d → Good (entry d c .device)
 unfolding entry
 good-next d c b g =
-    let k = keeps-fits (d .tag) (d .memory) (c .buffer) (c .code) (c .value) (c .frame) (g .fits) (g .bytes) (of-frame (c .frame) b) in
+    let k = keeps-fits (d .tag) (d .memory) (c .buffer) (c .code) (c .value) (c .frame) (g .fits) (g .bytes) b in
     record { fits = k .0; bytes = k .1 }
 
-pub first-frame : (c : Call) (cs : List Call) → framesFit (c ∷ cs) ≡ true → areFrameBytes (c .frame) ≡ true
+pub first-frame : (c : Call) (cs : List Call) → framesFit (c ∷ cs) ≡ true → areBytes (c .frame) ≡ true
 unfolding framesFit
-first-frame c cs b = and-left (areFrameBytes (c .frame)) (framesFit cs) b
+first-frame c cs b = and-left (areBytes (c .frame)) (framesFit cs) b
 
 pub rest-frames : (c : Call) (cs : List Call) → framesFit (c ∷ cs) ≡ true → framesFit cs ≡ true
 unfolding framesFit
-rest-frames c cs b = and-right (areFrameBytes (c .frame)) (framesFit cs) b
+rest-frames c cs b = and-right (areBytes (c .frame)) (framesFit cs) b
 
 -- ---- the answers, and the bytes at the end
 abbrev pub inLibrary : Ran → LibraryRan

@@ -14,7 +14,6 @@ use Rattle.tag.specs.Bus.{isActive}
 use Rattle.tag.specs.Radio.{isSelected}
 use Rattle.tag.specs.Supply.{freshTag}
 use Rattle.state.specs.Layout.{flagByte, radioNumber, radioStateOf, spaceNumber, spaceOf, airBytes, airDecodes, airAt, busBytes, isBus, busOf, busDecodes, busAt, hostBytes, hostDecodes, hostAt, registerBytes, registersAt, mailboxBytes, mailboxDecodes, mailboxAt, passwordBytes, passwordsAt, bytesOf, decodes, tagOf}
-use Rattle.state.specs.Claims.{areBytes}
 use Rattle.transfer.specs.Legs.{isRefused, ends, fresher, isEmpty, finished, push, parse}
 use Rattle.transfer.specs.Whole.{bytesSent, replies, accepted, writeLeg, selected, legOf, lastLeg, legsOf, transferOf}
 use Rattle.capi.specs.Interface.{refusalNumber, answerNumber, isRefused as isAnswerRefused, stateAfter, stepCall}
@@ -29,7 +28,7 @@ use Rattle.library_demand3.specs.Wrong.{LibraryRefuted, acksStop, refuse
 
 -- all that a run of the library's calls, and the waiting tag's, computes with
 unfoldable runs : Unit {0}
-unfolding computes flagByte radioNumber radioStateOf spaceNumber spaceOf airBytes airDecodes airAt busBytes isBus busOf busDecodes busAt hostBytes hostDecodes hostAt registerBytes registersAt mailboxBytes mailboxDecodes mailboxAt passwordBytes passwordsAt bytesOf decodes tagOf areBytes isRefused ends fresher isEmpty finished push parse bytesSent replies accepted writeLeg selected legOf lastLeg legsOf transferOf refusalNumber answerNumber isAnswerRefused stateAfter stepCall fill answered isStarted ackedSelect whenClosed note frameAnswer whenOpen waitAct waitStep waitRun framesFit isFrame isClosed exported libraryRun inNumbers inBytes libraryStruck EachLibraryStruck
+unfolding computes flagByte radioNumber radioStateOf spaceNumber spaceOf airBytes airDecodes airAt busBytes isBus busOf busDecodes busAt hostBytes hostDecodes hostAt registerBytes registersAt mailboxBytes mailboxDecodes mailboxAt passwordBytes passwordsAt bytesOf decodes tagOf isRefused ends fresher isEmpty finished push parse bytesSent replies accepted writeLeg selected legOf lastLeg legsOf transferOf refusalNumber answerNumber isAnswerRefused stateAfter stepCall fill answered isStarted ackedSelect whenClosed note frameAnswer whenOpen waitAct waitStep waitRun framesFit isFrame isClosed exported libraryRun inNumbers inBytes libraryStruck EachLibraryStruck
 runs = tt
 
 -- ---- what is compared: of the last answer its number, and byte i of its buffer

@@ -6,11 +6,11 @@ use Prim.Native.Nat.{ℕ}
 use lib.Dec.{ltb}
 use lib.ListN.{length}
 use Rattle.parts.specs.Pick.{pick}
+use Rattle.parts.specs.Bytes.{areBytes}
 use Rattle.tag.specs.declared.Air.{Air}
 use Rattle.tag.specs.declared.Tag.{Tag}
 use Rattle.tag.specs.Layout.{memoryBytes}
 use Rattle.state.specs.Layout.{bytesOf, decodes, tagOf}
-use Rattle.state.specs.Claims.{areBytes}
 use Rattle.model.specs.Signals.{signalBy}
 use Rattle.model.specs.Step.{transferOpen, tagInRange}
 use Rattle.capi.specs.Interface.{answerNumber}

@@ -6,4 +6,5 @@ pub mod Striking
 pub mod Lists
 pub mod Demand3
 pub mod Buffer
+pub mod Fresh
 pub mod Wrong

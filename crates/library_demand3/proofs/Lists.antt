@@ -94,6 +94,12 @@ run-is (c ∷ cs) d b g =
     ∙ ap (λ (r : LibraryRan). libraryRan (inNumber (e .says) ∷ r .answers) (r .state) (r .memory))
     (run-is cs (e .device) (rest-frames c cs b) (good-next d c (first-frame c cs b) g))
 
+-- the tag at the end fits too
+pub run-good : (cs : List Call) (d : Device) → framesFit cs ≡ true → Good d → Good (runBy entry d cs .device)
+unfolding runBy
+run-good [] d b g = g
+run-good (c ∷ cs) d b g = run-good cs (entry d c .device) (rest-frames c cs b) (good-next d c (first-frame c cs b) g)
+
 -- ---- struck frames
 -- a refusal's number is below 0x100, and no other's
 pub refusal-number : (a : Answer) → ltb (answerNumber a) 0x100 ≡ isRefusal a

@@ -11,13 +11,14 @@ use Rattle.tag.specs.declared.Air.{Air}
 use Rattle.tag.specs.declared.Tag.{Tag}
 use Rattle.tag.specs.Layout.{memoryBytes}
 use Rattle.state.specs.Layout.{bytesOf, decodes, tagOf}
+use Rattle.model.specs.declared.Answer.the-variants.{Nothing}
 use Rattle.model.specs.Signals.{signalBy}
 use Rattle.model.specs.Step.{transferOpen, tagInRange}
-use Rattle.capi.specs.Interface.{answerNumber}
+use Rattle.capi.specs.Interface.{answerNumber, freshCall}
 use Rattle.waiting.specs.Calls.{Call, Said, device}
 use Rattle.waiting.specs.Waiting.{Waiting, closed, inside, waitRun}
 use Rattle.waiting.specs.Claim.{framesFit, isFrame, shutReply, spoken, startAfter, isClosed}
-use Rattle.library_demand3.specs.Calls.{LibraryStep, Numbered, numbered, answerBy, LibraryRan, libraryRan, libraryRun}
+use Rattle.library_demand3.specs.Calls.{LibraryStep, exported, Numbered, numbered, answerBy, LibraryRan, libraryRan, libraryRun}
 
 -- ---- the waiting tag in numbers and bytes
 abbrev pub inNumber : Said → Numbered
@@ -92,3 +93,17 @@ EveryLibraryList P = (s m : List ℕ) (cs : List Call)
 
 abbrev pub LibraryDemand3 : LibraryStep → Type 0
 LibraryDemand3 step = EveryLibraryList (LibraryAgrees step)
+
+-- for the exported function that is what its own bytes show: a list that leaves bytes with no transfer open is such a list
+abbrev pub LibraryEndsAlike : Type 0
+LibraryEndsAlike = (s m : List ℕ) (cs : List Call)
+    → areBytes s ≡ true → decodes s ≡ true → areBytes m ≡ true → length m ≡ memoryBytes → tagInRange (tagOf s) m ≡ true
+    → transferOpen (tagOf s) ≡ false → framesFit cs ≡ true → transferOpen (tagOf (libraryRun exported s m cs .state)) ≡ false
+    → isClosed (waitRun (closed [] (device (tagOf s) m)) cs) ≡ true
+
+-- the bytes that `st25dv_fresh` leaves are such a start: so it holds of every list of calls after it; u is the UID
+abbrev pub LibraryAfterFresh : Type 0
+LibraryAfterFresh = (u m s : List ℕ) (cs : List Call) → let c = freshCall u m s in
+    areBytes u ≡ true → c .number ≡ answerNumber Nothing
+    → framesFit cs ≡ true → isClosed (waitRun (closed [] (device (tagOf (c .state)) (c .memory))) cs) ≡ true
+    → LibraryAgrees exported (c .state) (c .memory) cs

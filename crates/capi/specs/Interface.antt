@@ -20,14 +20,14 @@ use Rattle.capi.specs.declared.LibraryRefusal.the-variants.{Model, State
 -- ---- the numbers
 -- of a refusal
 unfoldable pub refusalNumber : LibraryRefusal → ℕ
--- "1 to 4 are document 01's refusals"
+-- 1 to 4, document 01's
 refusalNumber (Model r) = number r
--- "13: the state buffer has not 83 bytes"
+-- the state buffer has not its 83 bytes
 refusalNumber StateLength = 13
--- "14: the UID has not 8 bytes"
+-- the UID has not its 8 bytes
 refusalNumber UidLength = 14
 
--- of an answer: "0x100 none, 0x101 Ack, 0x102 NoAck, 0x103 silence, 0x200 + x a byte x, 0x1000 + n a reply of n bytes (CRC included)"
+-- of an answer; the n bytes of a reply include its CRC
 unfoldable pub answerNumber : Answer → ℕ
 answerNumber (Refused r) = refusalNumber (Model r)
 answerNumber Nothing = 0x100

@@ -1,13 +1,14 @@
 -- What the ranges say of a tag's numbers. Assumes nothing.
-use mathlib.Core.Path.{_≡_, refl, sym, subst}
-use mathlib.Core.Bool.{Bool, true, false, not, _&&_, _||_}
+use mathlib.Core.Path.{_≡_, refl}
+use mathlib.Core.Bool.{true, not, _&&_, _||_}
 use mathlib.Core.List.{List}
 use Prim.Native.Nat.{ℕ, _%_, _≤_, _<_}
 use native.Mathlib.Nat.{mod-lt}
 use native.Mathlib.Omega.{arith}
 use lib.Dec.{leb, ltb, eqb}
 use borrow.Author.Tests.{eqb-true, leb-true, ltb-true, lt-ltb}
-use Rattle.parts.proofs.Bools.{and-left, and-right, and-both}
+use Rattle.parts.specs.Bytes.{areBytes}
+use Rattle.parts.proofs.Bools.{and-left, and-right}
 use Rattle.registers.specs.declared.Registers.{Registers}
 use Rattle.registers.specs.Defined.{onlyBits, definedOnly}
 use Rattle.areas.specs.Ends.{rises, endsInRange}
@@ -20,7 +21,7 @@ use Rattle.ranges.specs.Ranges.{registersInRange, airInRange, putCurrent, mailb
 use Rattle.rule.specs.PageRange.{busInRange}
 use Rattle.model.specs.Step.{wireSide, tagInRange}
 use Rattle.state.specs.Layout.{registerBytes}
-use Rattle.state.specs.Claims.{areBytes, isByte, isWord, busFits, PasswordsFit, areEight, Fits}
+use Rattle.state.specs.Claims.{isByte, isWord, busFits, PasswordsFit, areEight, Fits}
 use Rattle.library_demand3.proofs.WireKept.{highByteOf}
 
 -- ---- registers

@@ -1,19 +1,18 @@
 -- Every call leaves a tag whose numbers fit, and bytes. Assumes nothing.
-use mathlib.Core.Path.{_≡_, refl, subst}
+use mathlib.Core.Path.{_≡_, subst}
 use mathlib.Core.Bool.{true, false, not}
-use mathlib.Core.List.{List, [], _∷_}
-use Prim.Native.Nat.{ℕ, zero, suc, _<_}
+use mathlib.Core.List.{List}
+use Prim.Native.Nat.{ℕ, _<_}
 use native.Mathlib.Omega.{arith}
 use lib.Dec.{ltb, eqb}
 use lib.ListN.{length}
-use borrow.Author.Tests.{eqb-true, ltb-true, lt-ltb, not-false}
+use borrow.Author.Tests.{eqb-true, ltb-true, not-false}
 use Rattle.parts.specs.Pick.{pick}
-use Rattle.parts.proofs.Bools.{and-left, and-right, and-both}
+use Rattle.parts.specs.Bytes.{areBytes}
+use Rattle.parts.proofs.Below.{Below, bytes-below, are-below}
 use Rattle.parts.proofs.Picks.{pick-case}
 use Rattle.tag.specs.declared.Tag.{Tag}
 use Rattle.tag.specs.Layout.{memoryBytes, replyBytes}
-use Rattle.signal.specs.declared.Signal.{Signal as WireSignal}
-use Rattle.signal.specs.declared.Signal.the-variants.{Start, Send, Fetch, Stop, Vcc, ProgrammingEnd}
 use Rattle.signal.specs.Claims.{sentByte}
 use Rattle.signal.proofs.Line.{keeps-counter}
 use Rattle.signal.proofs.Bytes.{keeps-bytes}
@@ -21,32 +20,14 @@ use Rattle.model.specs.declared.Signal.{Signal}
 use Rattle.model.specs.declared.Signal.the-variants.{Wire, Field, Frame}
 use Rattle.model.specs.Signals.{signalInRange, signalBy}
 use Rattle.model.specs.Step.{Ended, wireSide, radioSide, transferOpen, tagInRange, actOf, stepOf}
-use Rattle.model.specs.Claims.{areBytes as areFrameBytes, Fit}
+use Rattle.model.specs.Claims.{Fit}
 use Rattle.model.proofs.Kept.{keeps}
 use Rattle.model.proofs.Value.{sent-fits}
-use Rattle.state.specs.Claims.{areBytes, Fits}
-use Rattle.state.proofs.Again.{byte-below}
-use Rattle.state.proofs.Decoded.{Below}
+use Rattle.state.specs.Claims.{Fits}
 use Rattle.library_demand3.specs.Kept.{KeepsFits}
 use Rattle.library_demand3.proofs.WireKept.{highByteOf, wire-sound}
 use Rattle.library_demand3.proofs.RadioKept.{radio-sound}
 use Rattle.library_demand3.proofs.InRange.{fits-in-range, high-below}
-
--- ---- lists of bytes, by their numbers
-pub all-below : (s : List ℕ) → Below s → areBytes s ≡ true
-unfolding areBytes
-all-below [] h = refl
-all-below (x ∷ s) h = and-both (ltb x 256) (areBytes s) (lt-ltb x 256 (h zero)) (all-below s (λ i. h (suc i)))
-
-frame-below : (s : List ℕ) → Below s → areFrameBytes s ≡ true
-unfolding areFrameBytes
-frame-below [] h = refl
-frame-below (x ∷ s) h = and-both (ltb x 256) (areFrameBytes s) (lt-ltb x 256 (h zero)) (frame-below s (λ i. h (suc i)))
-
-pub of-frame : (s : List ℕ) → areFrameBytes s ≡ true → areBytes s ≡ true
-unfolding areFrameBytes areBytes
-of-frame [] h = refl
-of-frame (x ∷ s) h = and-both (ltb x 256) (areBytes s) (and-left (ltb x 256) (areFrameBytes s) h) (of-frame s (and-right (ltb x 256) (areFrameBytes s) h))
 
 -- ---- the byte that a signal in range sends
 unfoldable sent : Signal → ℕ
@@ -81,12 +62,12 @@ module _ (t : Tag) (m o f : List ℕ) (fits : Fits t) (h : Below m) where
   act-fits (Wire x) s b k =
       let w = wire-sound (wireSide t) (t .uid) m x s h (record { high = high; passwords = fits .passwords }) in (
         fits-in-range _ _ (k .range) (keeps-counter (wireSide t) (t .uid) m x counter) (w .high) (w .passwords) (fits .uid),
-        all-below _ (keeps-bytes (wireSide t) (t .uid) m x s h),
+        are-below _ (keeps-bytes (wireSide t) (t .uid) m x s h),
       )
-  act-fits (Field on) s b k = (fits-in-range _ _ (k .range) counter high (fits .passwords) (fits .uid), all-below m h)
+  act-fits (Field on) s b k = (fits-in-range _ _ (k .range) counter high (fits .passwords) (fits .uid), are-below m h)
   act-fits Frame s b k =
       let r = radio-sound (radioSide t) (t .uid) (t .host .vcc) (transferOpen t) (t .host .programming) m f (fits .passwords) h b in
-      (fits-in-range _ _ (k .range) counter high (r .passwords) (fits .uid), all-below _ (r .memory))
+      (fits-in-range _ _ (k .range) counter high (r .passwords) (fits .uid), are-below _ (r .memory))
 
 -- ---- a call
 -- one that no refusal applies to
@@ -98,8 +79,8 @@ acts t m o code value f a b c d = rw (a, b, c, d)
 pub keeps-fits : KeepsFits
 unfolding stepOf
 keeps-fits t m o code value f fits are frame =
-    let h : Below m = λ i. byte-below m i are in
-    let b : Below f = λ i. byte-below f i frame in
+    let h : Below m = bytes-below m are in
+    let b : Below f = bytes-below f frame in
     pick-case F (not (eqb (length m) memoryBytes)) _ _ (λ _. (fits, are))
     (λ n1. pick-case F (ltb (length o) replyBytes) _ _ (λ _. (fits, are))
     (λ n2. pick-case F (not (signalInRange code value)) _ _ (λ _. (fits, are))
@@ -107,4 +88,4 @@ keeps-fits t m o code value f fits are frame =
     (λ n4.
     let fit : Fit t m = record { range = not-false (tagInRange t m) n4; size = eqb-true (length m) memoryBytes (not-false (eqb (length m) memoryBytes) n1) } in
     act-fits t m o f fits h (signalBy code value) (sent-below code value (not-false (signalInRange code value) n3)) b
-    (subst (λ (e : Ended). Fit (e .tag) (e .memory)) (acts t m o code value f n1 n2 n3 n4) (keeps t m o code value f (frame-below f b) fit))))))
+    (subst (λ (e : Ended). Fit (e .tag) (e .memory)) (acts t m o code value f n1 n2 n3 n4) (keeps t m o code value f frame fit))))))

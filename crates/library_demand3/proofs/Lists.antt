@@ -1,34 +1,31 @@
 -- Lists of the library's calls are lists of the entry point's. Assumes nothing.
 use mathlib.Core.Path.{_≡_, refl, sym, ap, subst, _∙_}
-use mathlib.Core.Bool.{Bool, true, false, not, _&&_, false≢true}
+use mathlib.Core.Bool.{Bool, true, not, _&&_, false≢true}
 use mathlib.Core.List.{List, [], _∷_}
 use Prim.Native.Nat.{ℕ, _+_}
 use native.Mathlib.Omega.{arith}
-use lib.Dec.{ltb, eqb}
-use lib.ListN.{length}
+use lib.Dec.{ltb}
 use borrow.Author.Tests.{le-ltb}
-use Rattle.parts.specs.Pick.{pick}
+use Rattle.parts.specs.Bytes.{areBytes}
 use Rattle.parts.proofs.Picks.{pick-case}
 use Rattle.parts.proofs.Bools.{and-left, and-right}
 use Rattle.tag.specs.declared.Tag.{Tag}
 use Rattle.state.specs.Layout.{bytesOf, tagOf}
-use Rattle.state.specs.Claims.{areBytes, Fits}
+use Rattle.state.specs.Claims.{Fits}
 use Rattle.state.proofs.There.{decodes-encoded}
-use Rattle.model.specs.declared.Refusal.{Refusal}
 use Rattle.model.specs.declared.Refusal.the-variants.{MemoryLength, ReplyShort, SignalUnknown, OutOfRange}
 use Rattle.model.specs.declared.Answer.{Answer}
 use Rattle.model.specs.declared.Answer.the-variants.{Refused, Nothing, Ack, NoAck, Byte, Silence, Reply}
 use Rattle.model.specs.Signals.{signalBy}
 use Rattle.model.specs.Step.{Ended, number, transferOpen, stepOf}
-use Rattle.model.specs.Claims.{areBytes as areFrameBytes}
 use Rattle.capi.specs.Interface.{refusalNumber, answerNumber, isRefused, stateAfter, Called, called}
 use Rattle.capi.proofs.Refusals.{act-served}
 use Rattle.capi.proofs.Tags.{steps-the-tag}
 use Rattle.waiting.specs.Calls.{Call, Device, device, Done, Ran, entry, runBy}
-use Rattle.waiting.specs.Claim.{framesFit, isRefusal, isFrame, struck, Shut, startAfter, AllShut}
+use Rattle.waiting.specs.Claim.{framesFit, isRefusal, isFrame, struck, Shut, startAfter, EachStruck, AllShut}
 use Rattle.library_demand3.specs.Calls.{exported, answerBy, LibraryRan, libraryRan, libraryRun}
-use Rattle.library_demand3.specs.Claim.{inNumber, inNumbers, libraryStruck, shutAnswer, LibraryShut, AllLibraryShut}
-use Rattle.library_demand3.proofs.Kept.{keeps-fits, of-frame}
+use Rattle.library_demand3.specs.Claim.{inNumber, inNumbers, libraryStruck, shutAnswer, EachLibraryStruck, LibraryShut}
+use Rattle.library_demand3.proofs.Kept.{keeps-fits}
 
 -- ---- one call
 abbrev T : Tag → Ended → Type 0
@@ -69,19 +66,19 @@ pub record Good (d : Device) : Type 0 where
   pub fits : Fits (d .tag)
   pub bytes : areBytes (d .memory) ≡ true
 
-good-next : (d : Device) (c : Call) → areFrameBytes (c .frame) ≡ true → Good d → Good (entry d c .device)
+pub good-next : (d : Device) (c : Call) → areBytes (c .frame) ≡ true → Good d → Good (entry d c .device)
 unfolding entry
 good-next d c b g =
-    let k = keeps-fits (d .tag) (d .memory) (c .buffer) (c .code) (c .value) (c .frame) (g .fits) (g .bytes) (of-frame (c .frame) b) in
+    let k = keeps-fits (d .tag) (d .memory) (c .buffer) (c .code) (c .value) (c .frame) (g .fits) (g .bytes) b in
     record { fits = k .0; bytes = k .1 }
 
-first-frame : (c : Call) (cs : List Call) → framesFit (c ∷ cs) ≡ true → areFrameBytes (c .frame) ≡ true
+pub first-frame : (c : Call) (cs : List Call) → framesFit (c ∷ cs) ≡ true → areBytes (c .frame) ≡ true
 unfolding framesFit
-first-frame c cs b = and-left (areFrameBytes (c .frame)) (framesFit cs) b
+first-frame c cs b = and-left (areBytes (c .frame)) (framesFit cs) b
 
-rest-frames : (c : Call) (cs : List Call) → framesFit (c ∷ cs) ≡ true → framesFit cs ≡ true
+pub rest-frames : (c : Call) (cs : List Call) → framesFit (c ∷ cs) ≡ true → framesFit cs ≡ true
 unfolding framesFit
-rest-frames c cs b = and-right (areFrameBytes (c .frame)) (framesFit cs) b
+rest-frames c cs b = and-right (areBytes (c .frame)) (framesFit cs) b
 
 -- ---- the answers, and the bytes at the end
 abbrev pub inLibrary : Ran → LibraryRan
@@ -97,9 +94,15 @@ run-is (c ∷ cs) d b g =
     ∙ ap (λ (r : LibraryRan). libraryRan (inNumber (e .says) ∷ r .answers) (r .state) (r .memory))
     (run-is cs (e .device) (rest-frames c cs b) (good-next d c (first-frame c cs b) g))
 
+-- the tag at the end fits too
+pub run-good : (cs : List Call) (d : Device) → framesFit cs ≡ true → Good d → Good (runBy entry d cs .device)
+unfolding runBy
+run-good [] d b g = g
+run-good (c ∷ cs) d b g = run-good cs (entry d c .device) (rest-frames c cs b) (good-next d c (first-frame c cs b) g)
+
 -- ---- struck frames
 -- a refusal's number is below 0x100, and no other's
-refusal-number : (a : Answer) → ltb (answerNumber a) 0x100 ≡ isRefusal a
+pub refusal-number : (a : Answer) → ltb (answerNumber a) 0x100 ≡ isRefusal a
 unfolding answerNumber refusalNumber number isRefusal
 refusal-number (Refused MemoryLength) = refl
 refusal-number (Refused ReplyShort) = refl
@@ -112,7 +115,7 @@ refusal-number (Byte x) = le-ltb (0x200 + x) 0x100 (omega arith)
 refusal-number Silence = refl
 refusal-number (Reply n) = le-ltb (0x1000 + n) 0x100 (omega arith)
 
-decoded : (t : Tag) → Fits t → tagOf (bytesOf t) ≡ t
+pub decoded : (t : Tag) → Fits t → tagOf (bytesOf t) ≡ t
 decoded t f = decodes-encoded t f .1
 
 struck-is : (d : Device) (c : Call) → Good d → libraryStruck exported (bytesOf (d .tag)) (d .memory) c ≡ struck entry d c
@@ -140,17 +143,17 @@ shut-is start d c g h =
     }
 
 pub all-shut-is : (cs : List Call) (start : Tag) (d : Device) → framesFit cs ≡ true → Good d → AllShut entry start d cs
-    → AllLibraryShut exported start (bytesOf (d .tag)) (d .memory) cs
-unfolding AllShut AllLibraryShut
+    → EachLibraryStruck exported (LibraryShut exported) start (bytesOf (d .tag)) (d .memory) cs
+unfolding AllShut EachStruck EachLibraryStruck
 all-shut-is [] start d b g h = tt
 all-shut-is (c ∷ cs) start d b g h =
     let now = startAfter start (d .tag) in
     let s = bytesOf (d .tag) in
     let e = step-is (d .tag) (d .memory) c (g .fits) in
     subst (λ (t : Tag). (libraryStruck exported s (d .memory) c ≡ true → LibraryShut exported (startAfter start t) s (d .memory) c)
-    × AllLibraryShut exported (startAfter start t) (exported s (d .memory) c .state) (exported s (d .memory) c .memory) cs)
+    × EachLibraryStruck exported (LibraryShut exported) (startAfter start t) (exported s (d .memory) c .state) (exported s (d .memory) c .memory) cs)
     (sym (decoded (d .tag) (g .fits))) (
       λ t. shut-is now d c g (h .0 (sym (struck-is d c g) ∙ t)),
-      subst (λ (x : Called). AllLibraryShut exported now (x .state) (x .memory) cs) (sym e)
+      subst (λ (x : Called). EachLibraryStruck exported (LibraryShut exported) now (x .state) (x .memory) cs) (sym e)
           (all-shut-is cs now (entry d c .device) (rest-frames c cs b) (good-next d c (first-frame c cs b) g) (h .1)),
     )

@@ -1,10 +1,10 @@
 -- A frame keeps the passwords and the memory of bytes. Assumes nothing.
 use mathlib.Core.Bool.{Bool}
-use mathlib.Core.List.{List, [], _∷_}
-use Prim.Native.Nat.{ℕ, zero, suc, _+_, _*_, _<_}
-use lib.ListN.{getD, set}
+use mathlib.Core.List.{List}
+use Prim.Native.Nat.{ℕ, _+_, _*_}
 use lib.Seq.{sets}
 use Rattle.parts.specs.Bytes.{bytesAt}
+use Rattle.parts.proofs.Below.{Below, run-below, sets-below}
 use Rattle.parts.proofs.Picks.{pick-case}
 use Rattle.tag.specs.declared.Uid.{Uid}
 use Rattle.tag.specs.declared.Passwords.{Passwords}
@@ -24,20 +24,7 @@ use Rattle.radio.specs.declared.Request.{Request as Fields}
 use Rattle.radio.specs.Commands.{requestOf, serveOf}
 use Rattle.radio.specs.Radio.{answered, radioOf}
 use Rattle.state.specs.Claims.{PasswordsFit}
-use Rattle.state.proofs.Decoded.{Below, eight-run}
-use Rattle.library_demand3.proofs.WireKept.{run-below}
-
--- ---- bytes stored
-set-below : (l : List ℕ) (i x : ℕ) → x < 256 → Below l → Below (set l i x)
-set-below [] i x p h j = h j
-set-below (y ∷ l) zero x p h zero = p
-set-below (y ∷ l) zero x p h (suc j) = h (suc j)
-set-below (y ∷ l) (suc i) x p h zero = h zero
-set-below (y ∷ l) (suc i) x p h (suc j) = set-below l i x p (λ n. h (suc n)) j
-
-sets-below : (xs l : List ℕ) (at : ℕ) → Below xs → Below l → Below (sets l at xs)
-sets-below [] l at p h = h
-sets-below (x ∷ xs) l at p h = sets-below xs (set l at x) (suc at) (λ n. p (suc n)) (set-below l at x (p zero) h)
+use Rattle.state.proofs.Decoded.{eight-run}
 
 -- a radio password replaced
 radio-fits : (n : ℕ) (p : Passwords) (s : List ℕ) (at : ℕ) → Below s → PasswordsFit p → PasswordsFit (withRadioPassword n (passwordAt s at) p)

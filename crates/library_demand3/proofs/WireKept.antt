@@ -5,7 +5,7 @@ use Prim.Native.Nat.{ℕ, _<_}
 use native.Mathlib.Omega.{arith}
 use lib.Dec.{ltb, eqb}
 use lib.ListN.{length, getD}
-use Rattle.parts.specs.Bytes.{bytesAt}
+use Rattle.parts.proofs.Below.{Below, run-below}
 use Rattle.parts.proofs.Picks.{pick-case}
 use Rattle.tag.specs.declared.Space.{Space}
 use Rattle.tag.specs.declared.Space.the-variants.{User, System}
@@ -26,8 +26,7 @@ use Rattle.signal.specs.declared.Signal.the-variants.{Start, Send, Fetch, Stop,
 use Rattle.signal.specs.Signal.{Ended, sideBus, dueOf, startAt, startOf, stopAt, selectBy, dataOf, sendAt, fetchAt, signalOf}
 use Rattle.signal.specs.Claims.{sentByte}
 use Rattle.state.specs.Claims.{PasswordsFit}
-use Rattle.state.proofs.Again.{byte-below}
-use Rattle.state.proofs.Decoded.{Below, are-run, eight-run}
+use Rattle.state.proofs.Decoded.{eight-run}
 
 -- the high address byte that a write leg holds, or 0
 unfoldable pub highByteOf : Bus → ℕ
@@ -41,10 +40,6 @@ highByteOf (DataLeg space count spoiled) = 0
 pub record Sound (w : WireSide) : Type 0 where
   pub high : highByteOf (w .host .bus) < 256
   pub passwords : PasswordsFit (w .core .passwords)
-
--- the numbers past a list's end are 0
-pub run-below : (m : List ℕ) (at n : ℕ) → Below m → Below (bytesAt m at n)
-run-below m at n h i = byte-below (bytesAt m at n) i (are-run m at n h)
 
 -- the I2C password replaced
 i2c-fits : (p : Passwords) (s : List ℕ) (at : ℕ) → Below s → PasswordsFit p → PasswordsFit (withI2cPassword (passwordAt s at) p)

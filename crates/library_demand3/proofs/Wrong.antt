@@ -1,7 +1,7 @@
 -- Library steps that demand 3 over the library's calls shuts out, each by one list. Assumes nothing.
 use mathlib.Core.Path.{_≡_, refl, ap}
-use mathlib.Core.Bool.{Bool, true, false, not}
-use mathlib.Core.List.{List, [], _∷_, _++_}
+use mathlib.Core.Bool.{true, false, not}
+use mathlib.Core.List.{List, [], _∷_}
 use Prim.Native.Nat.{ℕ}
 use native.Mathlib.Omega.{arith}
 use lib.Dec.{ltb, eqb}
@@ -13,23 +13,22 @@ use Rattle.tag.specs.Layout.{memoryBytes}
 use Rattle.tag.specs.Bus.{isActive}
 use Rattle.tag.specs.Radio.{isSelected}
 use Rattle.tag.specs.Supply.{freshTag}
-use Rattle.state.specs.Layout.{stateBytes, flagByte, radioNumber, radioStateOf, spaceNumber, spaceOf, airBytes, airDecodes, airAt, busBytes, isBus, busOf, busDecodes, busAt, hostBytes, hostDecodes, hostAt, registerBytes, registersAt, mailboxBytes, mailboxDecodes, mailboxAt, passwordBytes, passwordsAt, bytesOf, decodes, tagOf}
-use Rattle.state.specs.Claims.{areBytes}
+use Rattle.state.specs.Layout.{flagByte, radioNumber, radioStateOf, spaceNumber, spaceOf, airBytes, airDecodes, airAt, busBytes, isBus, busOf, busDecodes, busAt, hostBytes, hostDecodes, hostAt, registerBytes, registersAt, mailboxBytes, mailboxDecodes, mailboxAt, passwordBytes, passwordsAt, bytesOf, decodes, tagOf}
 use Rattle.transfer.specs.Legs.{isRefused, ends, fresher, isEmpty, finished, push, parse}
-use Rattle.transfer.specs.Whole.{bytesSent, accepted, writeLeg, selected, legOf, lastLeg, legsOf, transferOf}
+use Rattle.transfer.specs.Whole.{bytesSent, replies, accepted, writeLeg, selected, legOf, lastLeg, legsOf, transferOf}
 use Rattle.capi.specs.Interface.{refusalNumber, answerNumber, isRefused as isAnswerRefused, stateAfter, stepCall}
 use Rattle.waiting.specs.Calls.{Call, Device, device}
-use Rattle.waiting.specs.Examples.{zeros, fieldTo, start, send, stop, programmingEnd, frame, uid, powered, _but_, radioState, radioSession, i2cSession, beingProgrammed, onBus, hostMessage}
+use Rattle.waiting.specs.Examples.{zeros, fieldTo, send, stop, programmingEnd, frame, uid, powered, _but_, radioState, radioSession, i2cSession, beingProgrammed, onBus, hostMessage}
 use Rattle.waiting.specs.Waiting.{fill, answered, isStarted, ackedSelect, whenClosed, note, frameAnswer, whenOpen, waitAct, waitStep, waitRun}
 use Rattle.waiting.specs.Claim.{framesFit, isFrame, isClosed}
 use Rattle.waiting.proofs.Computes.{computes}
 use Rattle.library_demand3.specs.Calls.{Numbered, LibraryRan, exported, libraryRun}
-use Rattle.library_demand3.specs.Claim.{inNumbers, inBytes, libraryStruck, AllLibraryShut}
+use Rattle.library_demand3.specs.Claim.{inNumbers, inBytes, libraryStruck, EachLibraryStruck, LibrarySame}
 use Rattle.library_demand3.specs.Wrong.{LibraryRefuted, acksStop, refusesBy3, raisesReply, writesPast, leavesTrace, keepsState, coded, decoded, codesSession, clearsPage, supplied, marksState, restored, marksMemory, turned, turnsField, wrongWhere}
 
 -- all that a run of the library's calls, and the waiting tag's, computes with
 unfoldable runs : Unit {0}
-unfolding computes flagByte radioNumber radioStateOf spaceNumber spaceOf airBytes airDecodes airAt busBytes isBus busOf busDecodes busAt hostBytes hostDecodes hostAt registerBytes registersAt mailboxBytes mailboxDecodes mailboxAt passwordBytes passwordsAt bytesOf decodes tagOf areBytes isRefused ends fresher isEmpty finished push parse bytesSent accepted writeLeg selected legOf lastLeg legsOf transferOf refusalNumber answerNumber isAnswerRefused stateAfter stepCall fill answered isStarted ackedSelect whenClosed note frameAnswer whenOpen waitAct waitStep waitRun framesFit isFrame isClosed exported libraryRun inNumbers inBytes libraryStruck AllLibraryShut
+unfolding computes flagByte radioNumber radioStateOf spaceNumber spaceOf airBytes airDecodes airAt busBytes isBus busOf busDecodes busAt hostBytes hostDecodes hostAt registerBytes registersAt mailboxBytes mailboxDecodes mailboxAt passwordBytes passwordsAt bytesOf decodes tagOf isRefused ends fresher isEmpty finished push parse bytesSent replies accepted writeLeg selected legOf lastLeg legsOf transferOf refusalNumber answerNumber isAnswerRefused stateAfter stepCall fill answered isStarted ackedSelect whenClosed note frameAnswer whenOpen waitAct waitStep waitRun framesFit isFrame isClosed exported libraryRun inNumbers inBytes libraryStruck EachLibraryStruck
 runs = tt
 
 -- ---- what is compared: of the last answer its number, and byte i of its buffer
@@ -59,6 +58,10 @@ bytes d = bytesOf (d .tag)
 -- a tag whose bus is started: the next byte sent is a select
 abbrev awaiting : Device
 awaiting = powered but onBus (Started false)
+
+-- a frame between a select and its Stop
+abbrev framed : List Call
+framed = send 0xA6 ∷ read ∷ stop ∷ []
 
 -- ---- `same`: the numbers
 pub acks-stop-refuted : LibraryRefuted acksStop
@@ -90,7 +93,7 @@ writes-past-refuted h =
 pub leaves-trace-refuted : LibraryRefuted leavesTrace
 unfolding runs leavesTrace
 leaves-trace-refuted h =
-    let f : _≡_ {A = ℕ} 1 0 = ap (λ (a : Numbered). getD (a .buffer) 642 0) (h (bytes awaiting) (awaiting .memory) (send 0xA6 ∷ read ∷ stop ∷ []) refl refl refl refl refl refl refl refl .shut .1 .0 refl .reply) in
+    let f : _≡_ {A = ℕ} 1 0 = ap (λ (a : Numbered). getD (a .buffer) 642 0) (h (bytes awaiting) (awaiting .memory) framed refl refl refl refl refl refl refl refl .shut .1 .0 refl .reply) in
     omega arith
 
 -- ---- `same`: the bytes at the end
@@ -114,23 +117,36 @@ clears-page-refuted h =
     omega arith
 
 -- ---- `shut`
+-- by that list's answers and bytes at the end each of the three is right
+marks-state-same : LibrarySame marksState (bytes awaiting) (awaiting .memory) framed
+unfolding runs marksState supplied
+marks-state-same = refl
+
 pub marks-state-refuted : LibraryRefuted marksState
 unfolding runs marksState supplied
 marks-state-refuted h =
-    let f : _≡_ {A = ℕ} 0 1 = ap (λ (s : List ℕ). getD s 3 0) (h (bytes awaiting) (awaiting .memory) (send 0xA6 ∷ read ∷ stop ∷ []) refl refl refl refl refl refl refl refl .shut .1 .0 refl .state) in
+    let f : _≡_ {A = ℕ} 0 1 = ap (λ (s : List ℕ). getD s 3 0) (h (bytes awaiting) (awaiting .memory) framed refl refl refl refl refl refl refl refl .shut .1 .0 refl .state) in
     omega arith
+
+marks-memory-same : LibrarySame marksMemory (bytes awaiting) (awaiting .memory) framed
+unfolding runs marksMemory restored
+marks-memory-same = refl
 
 pub marks-memory-refuted : LibraryRefuted marksMemory
 unfolding runs marksMemory restored
 marks-memory-refuted h =
-    let f : _≡_ {A = ℕ} 256 0 = ap (λ (m : List ℕ). getD m 1023 0) (h (bytes awaiting) (awaiting .memory) (send 0xA6 ∷ read ∷ stop ∷ []) refl refl refl refl refl refl refl refl .shut .1 .0 refl .memory) in
+    let f : _≡_ {A = ℕ} 256 0 = ap (λ (m : List ℕ). getD m 1023 0) (h (bytes awaiting) (awaiting .memory) framed refl refl refl refl refl refl refl refl .shut .1 .0 refl .memory) in
     omega arith
+
+turns-field-same : LibrarySame turnsField (bytes awaiting) (awaiting .memory) framed
+unfolding runs turnsField turned
+turns-field-same = refl
 
 -- error 0Fh, where the state that it stored has silence
 pub turns-field-refuted : LibraryRefuted turnsField
 unfolding runs turnsField turned
 turns-field-refuted h =
-    let f : _≡_ {A = ℕ} 0x1004 0x103 = ap (λ (a : Numbered). a .number) (h (bytes awaiting) (awaiting .memory) (send 0xA6 ∷ read ∷ stop ∷ []) refl refl refl refl refl refl refl refl .shut .1 .0 refl .reply) in
+    let f : _≡_ {A = ℕ} 0x1004 0x103 = ap (λ (a : Numbered). a .number) (h (bytes awaiting) (awaiting .memory) framed refl refl refl refl refl refl refl refl .shut .1 .0 refl .reply) in
     omega arith
 
 -- ---- the start

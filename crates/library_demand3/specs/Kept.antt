@@ -3,8 +3,9 @@ use mathlib.Core.Path.{_≡_}
 use mathlib.Core.Bool.{true}
 use mathlib.Core.List.{List}
 use Prim.Native.Nat.{ℕ}
+use Rattle.parts.specs.Bytes.{areBytes}
 use Rattle.tag.specs.declared.Tag.{Tag}
-use Rattle.state.specs.Claims.{areBytes, Fits}
+use Rattle.state.specs.Claims.{Fits}
 use Rattle.model.specs.Step.{stepOf}
 
 -- every call keeps it that each number of the tag fits its type and the memory's bytes are bytes; f is the frame

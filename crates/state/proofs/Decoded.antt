@@ -1,32 +1,22 @@
 -- The tag of bytes fits. Assumes nothing.
 use mathlib.Core.Path.{_≡_, refl}
-use mathlib.Core.Bool.{Bool, true, _&&_}
-use mathlib.Core.List.{List, [], _∷_}
-use Prim.Native.Nat.{ℕ, zero, suc, _+_, _<_}
+use mathlib.Core.Bool.{true}
+use mathlib.Core.List.{List}
+use Prim.Native.Nat.{ℕ}
 use native.Mathlib.Omega.{arith}
-use lib.Dec.{ltb, eqb}
+use lib.Dec.{eqb}
 use lib.ListN.{length, getD}
 use borrow.Author.Tests.{eq-eqb, lt-ltb}
-use Rattle.parts.specs.Bytes.{bytesAt}
+use Rattle.parts.specs.Bytes.{bytesAt, areBytes}
+use Rattle.parts.proofs.Below.{Below, bytes-below, are-run}
 use Rattle.parts.proofs.Bools.{and-both}
 use Rattle.parts.proofs.Lists.{length-bytesAt}
 use Rattle.parts.proofs.Picks.{pick-case}
 use Rattle.tag.specs.declared.Bus.{Bus}
 use Rattle.state.specs.Layout.{wordOf, airAt, busOf, busAt, hostAt, registerBytes, registersAt, mailboxAt, passwordsAt, tagOf}
-use Rattle.state.specs.Claims.{areBytes, isByte, isWord, areEight, busFits, DecodedFits}
-use Rattle.state.proofs.AreBytes.{are-append}
-use Rattle.state.proofs.Again.{byte-below}
+use Rattle.state.specs.Claims.{isByte, isWord, areEight, busFits, DecodedFits}
 
--- ---- a run of bytes
-abbrev pub Below : List ℕ → Type 0
-Below s = (i : ℕ) → getD s i 0 < 256
-
-pub are-run : (s : List ℕ) (at n : ℕ) → Below s → areBytes (bytesAt s at n) ≡ true
-unfolding bytesAt areBytes
-are-run s at zero h = refl
-are-run s at (suc n) h = are-append (bytesAt s at n) (getD s (at + n) 0 ∷ []) (are-run s at n h) (rw (lt-ltb (getD s (at + n) 0) 256 (h (at + n))))
-
--- eight of them are a password or a UID
+-- eight bytes of a list are a password or a UID
 pub eight-run : (s : List ℕ) (at : ℕ) → Below s → areEight (bytesAt s at 8) ≡ true
 eight-run s at h =
     and-both (eqb (length (bytesAt s at 8)) 8) (areBytes (bytesAt s at 8)) (eq-eqb (length (bytesAt s at 8)) 8 (length-bytesAt s at 8)) (are-run s at 8 h)
@@ -55,7 +45,7 @@ module _ (s : List ℕ) (h : Below s) where
 pub decoded-fits : DecodedFits
 unfolding tagOf airAt hostAt mailboxAt passwordsAt
 decoded-fits s are =
-    let h : Below s = λ i. byte-below s i are in
+    let h : Below s = bytes-below s are in
     record {
       session = byte s h 2;
       counter = word s h 6 7;

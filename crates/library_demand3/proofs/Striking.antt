@@ -1,15 +1,15 @@
--- What follows from the rest of the claim. Assumes nothing.
-use mathlib.Core.Path.{_≡_, refl, ap, subst, _∙_}
+-- Frames may be struck out where none changed a byte. Assumes nothing.
+use mathlib.Core.Path.{_≡_, refl, ap, subst}
 use mathlib.Core.Bool.{Bool, true, false}
 use mathlib.Core.List.{List, [], _∷_}
 use Prim.Native.Nat.{ℕ}
 use Rattle.parts.specs.Pick.{pick}
-use Rattle.tag.specs.declared.Tag.{Tag}
 use Rattle.state.specs.Layout.{tagOf}
 use Rattle.waiting.specs.Calls.{Call}
 use Rattle.waiting.specs.Claim.{startAfter}
 use Rattle.library_demand3.specs.Calls.{LibraryStep, Numbered, answerBy, LibraryRan, libraryRan, libraryRun}
-use Rattle.library_demand3.specs.Claim.{libraryStruck, libraryOthers, libraryOtherAnswers, AllLibraryShut, StrikingFollows}
+use Rattle.library_demand3.specs.Claim.{libraryStruck, libraryOthers, libraryOtherAnswers, EachLibraryStruck}
+use Rattle.library_demand3.specs.Follows.{LibraryStrikingFollows}
 
 module _ (step : LibraryStep) (s m : List ℕ) (c : Call) (rest : List Call) (said : List Numbered) (s′ m′ : List ℕ) where
   -- `rest` are the calls left of the others, `said` their answers
@@ -23,12 +23,12 @@ module _ (step : LibraryStep) (s m : List ℕ) (c : Call) (rest : List Call) (sa
   by-test false h r =
       ap (λ (x : LibraryRan). libraryRan (answerBy (step s m c) ∷ x .answers) (x .state) (x .memory)) r
 
-pub striking-follows : StrikingFollows
-unfolding AllLibraryShut libraryOthers libraryOtherAnswers libraryRun
-striking-follows step start s m [] h = refl
-striking-follows step start s m (c ∷ cs) h =
+pub library-striking-follows : LibraryStrikingFollows
+unfolding EachLibraryStruck libraryOthers libraryOtherAnswers libraryRun
+library-striking-follows step start s m [] h = refl
+library-striking-follows step start s m (c ∷ cs) h =
     let s₁ = step s m c .state in
     let m₁ = step s m c .memory in
     by-test step s m c (libraryOthers step s₁ m₁ cs) (libraryOtherAnswers step s₁ m₁ cs) (libraryRun step s₁ m₁ cs .state) (libraryRun step s₁ m₁ cs .memory)
     (libraryStruck step s m c) (λ t. let k = h .0 t in (k .state, k .memory))
-    (striking-follows step (startAfter start (tagOf s)) s₁ m₁ cs (h .1))
+    (library-striking-follows step (startAfter start (tagOf s)) s₁ m₁ cs (h .1))

@@ -6,6 +6,7 @@ use mathlib.Core.Logic.{⊎-elim}
 use Prim.Native.Nat.{ℕ, _<_}
 use lib.Dec.{leb}
 use lib.ListN.{length, getD}
+use Rattle.parts.specs.Bytes.{areBytes}
 use Rattle.parts.specs.Bits.{isSet}
 use Rattle.parts.proofs.Below.{bytes-below}
 use Rattle.parts.proofs.Bools.{and-left, and-right, and-both, or-first, or-second}
@@ -31,7 +32,7 @@ use Rattle.model.specs.declared.Signal.{Signal}
 use Rattle.model.specs.declared.Signal.the-variants.{Wire, Field, Frame}
 use Rattle.model.specs.Signals.{signalBy}
 use Rattle.model.specs.Step.{Ended, wireSide, radioSide, withRadio, withAir, transferOpen, tagInRange, actOf, stepOf}
-use Rattle.model.specs.Claims.{areBytes, Fit, Keeps, FreshFits}
+use Rattle.model.specs.Claims.{Fit, Keeps, FreshFits}
 
 -- ---- the test of supply: v is VCC, e MB_EN, s session, p programming, a bus activity
 supplied-first : (v e s p a : Bool) → (v || not (e || s || p || a)) ≡ true → (v || not e) ≡ true

@@ -4,7 +4,7 @@ use mathlib.Core.Bool.{true}
 use mathlib.Core.List.{List}
 use Prim.Native.Nat.{ℕ, _≤_}
 use lib.ListN.{length, replicate}
-unfoldable pub use Rattle.parts.specs.Bytes.{areBytes}
+use Rattle.parts.specs.Bytes.{areBytes}
 use Rattle.tag.specs.declared.Uid.{Uid}
 use Rattle.tag.specs.declared.Tag.{Tag}
 use Rattle.tag.specs.Layout.{memoryBytes, replyBytes}

@@ -11,6 +11,7 @@ use lib.ListN.{length, take, drop, getD, replicate, length-append}
 use lib.Seq.{sets, length-sets, take-at, drop-at}
 use borrow.Author.Tests.{eq-eqb, eqb-true, le-ltb, le-leb, lt-ltb}
 use Rattle.parts.specs.Pick.{pick}
+use Rattle.parts.specs.Bytes.{areBytes}
 use Rattle.parts.proofs.Bools.{and-left, and-right, and-both, or-cases}
 use Rattle.parts.proofs.Picks.{pick-case, pick-false}
 use Rattle.crc.specs.Crc.{crcOf, crcBytes, closed, closedAt}
@@ -29,7 +30,7 @@ use Rattle.model.specs.declared.Signal.{Signal}
 use Rattle.model.specs.declared.Signal.the-variants.{Wire, Field, Frame}
 use Rattle.model.specs.Signals.{topValue, signalInRange, signalBy}
 use Rattle.model.specs.Step.{Ended, Left, left, fromWire, fromRadio, radioSide, wireSide, transferOpen, tagInRange, actOf, stepOf, freshOf}
-use Rattle.model.specs.Claims.{areBytes, Fit}
+use Rattle.model.specs.Claims.{Fit}
 use Rattle.model.proofs.Kept.{keeps, fresh-fits}
 use Rattle.text.specs.Hex.{hexValue, allHex, hexByte, hexBytes, hexText}
 use Rattle.text.specs.Decimal.{decimal}

@@ -1,5 +1,5 @@
 -- Names for long `unfolding` lines: to unfold one of them is to unfold all that its own line names. Assumes nothing.
-use Rattle.parts.specs.Bytes.{bytesAt, copied, agree}
+use Rattle.parts.specs.Bytes.{bytesAt, copied, agree, areBytes}
 use Rattle.parts.specs.Pick.{pick}
 use Rattle.crc.specs.Crc.{shifted, bit, bits, byte, run, crcOf, goodFrame, closedAt}
 use Rattle.registers.specs.Defined.{definedOnly, freshRegisters}
@@ -29,7 +29,6 @@ use Rattle.message.specs.Message.{takesMessage, writeMessageOf, lengthOf, asked
 use Rattle.password.specs.Password.{presentOf, writePasswordOf, quietOf, selectOf as passwordSelectOf, resetOf}
 use Rattle.radio.specs.Commands.{serveOf}
 use Rattle.radio.specs.Radio.{answered, radioOf}
-use Rattle.model.specs.Claims.{areBytes}
 use Rattle.model.specs.Signals.{topValue, signalInRange, signalBy}
 use Rattle.model.specs.Step.{number, fromWire, fromRadio, tagInRange, actOf, stepOf, freshOf}
 use Rattle.transfer.specs.Legs.{isRefused, ends, fresher, isEmpty, finished, push, parse}

@@ -6,6 +6,7 @@ use Prim.Native.Nat.{ℕ}
 use native.Mathlib.Omega.{arith}
 use lib.ListN.{getD, drop}
 use Rattle.parts.specs.Pick.{pick}
+use Rattle.parts.specs.Bytes.{areBytes}
 use Rattle.parts.proofs.Picks.{pick-case}
 use Rattle.parts.proofs.Bools.{and-left, and-right, and-both}
 use Rattle.tag.specs.declared.Tag.{Tag}
@@ -15,7 +16,6 @@ use Rattle.model.specs.declared.Answer.{Answer}
 use Rattle.model.specs.declared.Answer.the-variants.{Refused, Nothing, Ack, NoAck, Byte, Silence, Reply}
 use Rattle.model.specs.Signals.{signalBy}
 use Rattle.model.specs.Step.{fromRadio, transferOpen}
-use Rattle.model.specs.Claims.{areBytes}
 use Rattle.model.proofs.Kept.{keeps}
 use Rattle.waiting.specs.Calls.{Call, Said, Device, Done, done, Step, Ran, ran, entry, runBy}
 use Rattle.waiting.specs.Claim.{framesFit, stateRefused, isRefusal, isFrame, struck, others, otherAnswers, spoken, shutReply, startAfter, EachStruck, Same, EveryList}

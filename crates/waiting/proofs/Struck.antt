@@ -4,13 +4,14 @@ use mathlib.Core.Path.{_≡_, refl, sym, ap, subst, _∙_}
 use mathlib.Core.Bool.{Bool, true, false, _||_}
 use mathlib.Core.List.{List, [], _∷_}
 use Rattle.parts.specs.Pick.{pick}
+use Rattle.parts.specs.Bytes.{areBytes}
 use Rattle.parts.proofs.Picks.{pick-case}
 use Rattle.parts.proofs.Bools.{and-left, and-right}
 use Rattle.registers.specs.declared.Registers.{Registers}
 use Rattle.tag.specs.declared.Uid.{Uid}
 use Rattle.tag.specs.declared.Tag.{Tag}
 use Rattle.model.specs.Step.{transferOpen}
-use Rattle.model.specs.Claims.{areBytes, Keeps}
+use Rattle.model.specs.Claims.{Keeps}
 use Rattle.waiting.specs.Calls.{Call, Said, Device, Done, Ran, ran, entry, runBy}
 use Rattle.waiting.specs.Claim.{framesFit, stateRefused, struck, others, otherAnswers, spoken, Shut, startAfter, EachStruck, AllShut}
 use Rattle.waiting.specs.Follows.{RepliesShut}

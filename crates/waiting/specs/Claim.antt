@@ -5,6 +5,7 @@ use mathlib.Core.List.{List, [], _∷_}
 use Prim.Native.Nat.{ℕ}
 use lib.ListN.{length}
 use Rattle.parts.specs.Pick.{pick}
+use Rattle.parts.specs.Bytes.{areBytes}
 use Rattle.tag.specs.declared.Air.{Air}
 use Rattle.tag.specs.declared.Tag.{Tag}
 use Rattle.tag.specs.Layout.{memoryBytes}
@@ -18,16 +19,15 @@ use Rattle.model.specs.declared.Signal.{Signal}
 use Rattle.model.specs.declared.Signal.the-variants.{Wire, Field, Frame}
 use Rattle.model.specs.Signals.{signalBy}
 use Rattle.model.specs.Step.{fromRadio, transferOpen, tagInRange}
-use Rattle.model.specs.Claims.{areBytes}
 use Rattle.waiting.specs.Calls.{Call, Said, said, Device, Done, Step, Ran, ran, runBy, entry}
 use Rattle.waiting.specs.Waiting.{Waiting, closed, inside, waitRun}
 
--- ---- "each number fits its type": a frame's bytes are bytes; no other number needs it
+-- ---- each number fits its type: a frame's bytes are bytes; no other number needs it
 unfoldable pub framesFit : List Call → Bool
 framesFit [] = true
 framesFit (c ∷ cs) = areBytes (c .frame) && framesFit cs
 
--- ---- "refusal[s] 1 and 4 never occur"
+-- ---- refusals 1 and 4 never occur
 unfoldable pub refusedByState : Answer → Bool
 refusedByState (Refused MemoryLength) = true
 refusedByState (Refused ReplyShort) = false
@@ -45,7 +45,7 @@ unfoldable pub stateRefused : List Said → Bool
 stateRefused [] = false
 stateRefused (a ∷ s) = refusedByState (a .answer) || stateRefused s
 
--- ---- "Strike out the unrefused frames that arrived while a transfer was open"
+-- ---- the unrefused frames that came inside a transfer are struck out
 unfoldable pub isRefusal : Answer → Bool
 isRefusal (Refused why) = true
 isRefusal Nothing = false
@@ -77,8 +77,8 @@ otherAnswers step d (c ∷ cs) =
     let rest = otherAnswers step (step d c .device) cs in
     pick (struck step d c) rest (step d c .says ∷ rest)
 
--- ---- "its reply was silence or error 0Fh, as 01 fixes from the frame, the tag at the start of the transfer,
--- and the field and radio state when the frame came"
+-- ---- a struck frame's reply: silence or 0Fh, as 01 fixes from the frame, the tag at the transfer's start,
+-- and the field and radio state when it came
 abbrev pub shutReply : Tag → Air → List ℕ → Reply
 shutReply start air s =
     pick (isSilent s air (start .uid) (start .core .registers .dynamic) || isMute s (start .uid)) nothing
@@ -87,7 +87,7 @@ shutReply start air s =
 abbrev pub spoken : Reply → List ℕ → Said
 spoken r o = said (fromRadio (answerOf r)) (bufferOf r o)
 
--- a struck frame "changed nothing", and its reply is that
+-- a struck frame changed nothing, and its reply is that
 pub record Shut (step : Step) (start : Tag) (d : Device) (c : Call) : Type 0 where
   pub unchanged : step d c .device ≡ d
   pub reply : step d c .says ≡ spoken (shutReply start (d .tag .air) (c .frame)) (c .buffer)
@@ -108,7 +108,7 @@ unfolding EachStruck
 AllShut step start d cs = EachStruck step (Shut step) start d cs
 
 -- ---- the claim: from device d, the calls cs
--- "Every call has the same answer from both, reply bytes and refusal numbers included, and the final tag is the same, state and every byte."
+-- the same answer to every call, reply bytes and refusal numbers included, and the same final tag, state and every byte
 abbrev pub Same : Step → Device → List Call → Type 0
 Same step d cs = waitRun (closed [] d) cs ≡ closed (runBy step d cs .answers) (runBy step d cs .device)
 
@@ -116,7 +116,7 @@ Same step d cs = waitRun (closed [] d) cs ≡ closed (runBy step d cs .answers) 
 abbrev pub Judged : Step → Device → List Call → Type 0
 Judged step d cs = stateRefused (runBy step d cs .answers) ≡ false
 
--- "Strike out the unrefused frames .., and the other answers and the final tag stay the same."
+-- without the struck frames all else stays the same
 abbrev pub Striking : Step → Device → List Call → Type 0
 Striking step d cs = runBy step d (others step d cs) ≡ ran (otherAnswers step d cs) (runBy step d cs .device)
 
@@ -124,7 +124,7 @@ pub record Agrees (step : Step) (d : Device) (cs : List Call) : Type 0 where
   pub same : Same step d cs
   pub judged : Judged step d cs
   pub striking : Striking step d cs
-  -- "Every struck frame changed nothing, and its reply was silence or error 0Fh"
+  -- every struck frame changed nothing, and its reply was silence or 0Fh
   pub shut : AllShut step (d .tag) d cs
 
 -- the list finishes with no transfer open: the waiting tag says so, since a wrong tag might never close its own
@@ -132,7 +132,7 @@ unfoldable pub isClosed : Waiting → Bool
 isClosed (closed out k) = true
 isClosed (inside out k n sl) = false
 
--- "Start from any well-formed tag .., with no transfer open. Take every list of calls that finishes with no transfer open"
+-- from any tag within 01's ranges with no transfer open, for every list of calls that finishes with none open
 abbrev pub EveryList : (Device → List Call → Type 0) → Type 0
 EveryList P = (d : Device) (cs : List Call)
     → tagInRange (d .tag) (d .memory) ≡ true → length (d .memory) ≡ memoryBytes → framesFit cs ≡ true

@@ -1,0 +1,36 @@
+use borrow.Author.Needs.{needs}
+use mathlib.Core.Path.{ap, _∙_}
+use mathlib.Core.List.{List}
+use Prim.Native.Nat.{ℕ}
+use native.Mathlib.Omega.{arith}
+use Rattle.script.specs.Bench.{Printed, show}
+use Rattle.script.specs.Lines.{carried, printed}
+use Rattle.stream.proofs.Held.{whole-line}
+use Rattle.stream.proofs.end_line.Statement.{statement}
+use Rattle.stream.proofs.end_line.Tie as tie
+
+join-requires : tie.Need-join-requires
+join-requires c κs = search needs
+
+line-from-requires : tie.Need-line-from-requires
+line-from-requires c κs = search needs
+
+line-requires : tie.Need-line-requires
+line-requires c κs = search needs
+
+same-length : tie.Need-same-length
+same-length c = search needs
+
+returns : tie.Need-returns
+returns c =
+    let a = c .before .before .before .before .before .before .before .before .before .before .before .before .before .args in
+    let st = carried (a .b) (a .m .now) (a .reply .now) in (
+      c .before .before .line .ensures .0
+          ∙ ap (λ (l : List ℕ). show (printed st l) (a .text .now)) (c .before .before .before .before .line-from .ensures ∙ c .before .before .before .before .before .before .before .before .before .join .ensures .0)
+          ∙ ap (λ (r : Printed). show r (a .text .now)) (whole-line st (a .kept .now) (a .s .now) (a .have)),
+      c .before .before .line .ensures .1,
+    )
+
+pub end-line-spec : {M : Type 1} → statement M
+end-line-spec =
+    tie.close (tie.spec join-requires line-from-requires line-requires same-length returns)

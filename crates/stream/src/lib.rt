@@ -1,0 +1,154 @@
+// Lines out of pieces of any length: a step with a piece of the input, and the end of the input.
+ghost use mathlib.Core.Path.{_≡_};
+ghost use mathlib.Core.List.{_++_};
+ghost use Prim.Native.Nat.{_≤_, min};
+ghost use lib.Dec.{eqb};
+ghost use lib.ListN.{length, take};
+ghost use Rattle.parts.specs.Pick.{pick};
+ghost use Rattle.script.specs.Bench.{shown, show};
+ghost use Rattle.script.specs.Lines.{carried, printed};
+ghost use Rattle.stream.specs.Step.{keptMost, keep, textRoom, fedOf, endOf, stepped, puts};
+use script::Bench;
+use script::Outcome;
+
+// What a step leaves beside the lent buffers: the unfinished line has `have` bytes.
+pub struct Taken {
+    pub bench: Bench,
+    pub have: usize,
+    // Bytes of the piece that it used.
+    pub used: usize,
+    // Bytes of text that it wrote.
+    pub wrote: usize,
+}
+
+fn least(a: usize, b: usize) -> usize
+    ensures { λ r. ⌜ r ≡ min a b ⌝ }
+{
+    if a < b {
+        return a;
+    }
+    b
+}
+
+// How many bytes are kept: a number past the end is the end.
+fn kept_count(kept: &[u8], have: usize) -> usize
+    ensures { λ r. ⌜ r ≡ min have (length (now (kept .entry))) ⌝ }
+{
+    least(have, kept.len())
+}
+
+// Adds bytes to the unfinished line. Of a line that is too long 1,201 bytes are kept: it stays too long.
+fn hold(kept: &mut [u8; 1201], have: usize, s: &[u8]) -> usize
+    requires { ⌜ have ≤ keptMost ⌝ }
+    ensures { λ r. ⌜ take r (now (kept .exit)) ≡ keep (take have (now (kept .entry)) ++ now (s .entry)) ⌝ }
+    ensures { λ r. ⌜ (have ≤ r) × (r ≤ keptMost) ⌝ }
+{
+    let n = least(1201 - have, s.len());
+    parts::put_bytes(kept, have, s, 0, n);
+    have + n
+}
+
+// The unfinished line ends with the bytes s: they are added to what is kept of it. Where nothing is kept they are the
+// line, and nothing is copied.
+fn join(kept: &mut [u8; 1201], have: usize, s: &[u8]) -> usize
+    requires { ⌜ have ≤ keptMost ⌝ }
+    ensures { λ r. ⌜ pick (eqb r 0) (now (s .entry)) (take r (now (kept .exit))) ≡ pick (eqb have 0) (now (s .entry)) (keep (take have (now (kept .entry)) ++ now (s .entry))) ⌝ }
+    ensures { λ r. ⌜ r ≤ keptMost ⌝ }
+{
+    if have == 0 {
+        return 0;
+    }
+    hold(kept, have, s)
+}
+
+// The line.
+fn line_from<'a>(kept: &'a [u8], n: usize, s: &'a [u8]) -> &'a [u8]
+    requires { ⌜ n ≤ length (now kept) ⌝ }
+    ensures { λ r. ⌜ now r ≡ pick (eqb n 0) (now (s .entry)) (take n (now (kept .entry))) ⌝ }
+{
+    if n == 0 {
+        return s;
+    }
+    &kept[0..n]
+}
+
+// The unfinished line ends with the bytes s.
+fn end_line(
+    b: Bench,
+    m: &mut [u8; 1024],
+    reply: &mut [u8; 643],
+    kept: &mut [u8; 1201],
+    have: usize,
+    s: &[u8],
+    text: &mut [u8],
+) -> Outcome
+    requires { ⌜ have ≤ keptMost ⌝ }
+    ensures { λ r. ⌜ shown (r .bench) (r .length) (now (m .exit)) (now (reply .exit)) (now (text .exit)) ≡ show (printed (carried b (now (m .entry)) (now (reply .entry))) (take have (now (kept .entry)) ++ now (s .entry))) (now (text .entry)) ⌝ }
+    ensures { λ r. ⌜ r .length ≤ textRoom ⌝ }
+{
+    let n = join(kept, have, s);
+    script::line(b, m, reply, line_from(kept, n, s), text)
+}
+
+// A piece of the input, after an unfinished line: the first `have` bytes of `kept` (all, where it has fewer). What stands
+// past them is neither read nor promised. The texts stand in `out` from place 0 on. It stops before a line feed where
+// `out` has no room for 1,304 bytes more: the caller writes what stands there and calls again with the rest of the
+// piece.
+pub fn step(
+    b: Bench,
+    m: &mut [u8; 1024],
+    reply: &mut [u8; 643],
+    kept: &mut [u8; 1201],
+    have: usize,
+    s: &[u8],
+    out: &mut [u8],
+) -> Taken
+    ensures { λ r. ⌜ stepped (r .bench) (now (m .exit)) (now (reply .exit)) (take (r .have) (now (kept .exit))) (r .used) (r .wrote) (now (out .exit)) ≡ puts (fedOf (length (now (out .entry))) (carried b (now (m .entry)) (now (reply .entry))) (take have (now (kept .entry))) (now (s .entry))) (now (out .entry)) ⌝ }
+    ensures { λ r. ⌜ (r .used ≤ length (now (s .entry))) × (r .wrote ≤ length (now (out .entry))) ⌝ }
+{
+    let mut bench = b;
+    let mut n = kept_count(kept, have);
+    let mut from = 0;
+    let mut at = 0;
+    let mut end = text::line_end(s, 0);
+    while (end < s.len()) & (1304 <= out.len() - at) {
+        let o = end_line(bench, m, reply, kept, n, &s[from..end], &mut out[at..]);
+        bench = o.bench;
+        at += o.length;
+        n = 0;
+        from = end + 1;
+        end = text::line_end(s, from);
+    }
+    let rest = hold(kept, n, &s[from..end]);
+    Taken {
+        bench,
+        have: rest,
+        used: end,
+        wrote: at,
+    }
+}
+
+// The end of the input: an unfinished line that has a byte gets its line feed.
+pub fn end(
+    b: Bench,
+    m: &mut [u8; 1024],
+    reply: &mut [u8; 643],
+    kept: &mut [u8; 1201],
+    have: usize,
+    out: &mut [u8],
+) -> Taken
+    ensures { λ r. ⌜ stepped (r .bench) (now (m .exit)) (now (reply .exit)) (take (r .have) (now (kept .exit))) (r .used) (r .wrote) (now (out .exit)) ≡ puts (endOf (length (now (out .entry))) (carried b (now (m .entry)) (now (reply .entry))) (take have (now (kept .entry)))) (now (out .entry)) ⌝ }
+    ensures { λ r. ⌜ r .wrote ≤ length (now (out .entry)) ⌝ }
+{
+    let held = kept_count(kept, have);
+    if held == 0 {
+        return Taken {
+            bench: b,
+            have: 0,
+            used: 0,
+            wrote: 0,
+        };
+    }
+    let feed = [b'\n'];
+    step(b, m, reply, kept, held, &feed, out)
+}

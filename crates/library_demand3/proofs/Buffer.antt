@@ -11,20 +11,21 @@ use Rattle.parts.specs.Bytes.{areBytes}
 use Rattle.parts.proofs.Bools.{and-left, and-right, and-both}
 use Rattle.tag.specs.declared.Tag.{Tag}
 use Rattle.state.specs.Layout.{bytesOf, tagOf}
-use Rattle.state.proofs.Decoded.{decoded-fits}
 use Rattle.reply.specs.Reply.{nothing, body, answerOf}
 use Rattle.model.specs.Signals.{signalBy}
 use Rattle.model.specs.Step.{fromRadio, transferOpen}
 use Rattle.model.proofs.Kept.{keeps}
 use Rattle.capi.specs.Interface.{answerNumber}
 use Rattle.waiting.specs.Calls.{Call, Device, device, Done, entry, runBy}
-use Rattle.waiting.specs.Claim.{framesFit, isRefusal, isFrame, struck, spoken, shutReply, startAfter}
+use Rattle.waiting.specs.Waiting.{closed, waitRun}
+use Rattle.waiting.specs.Claim.{framesFit, isClosed, isRefusal, isFrame, struck, spoken, shutReply, startAfter}
 use Rattle.waiting.proofs.OneCall.{Fits, struck-is}
 use Rattle.waiting.proofs.Struck.{fits-next}
 use Rattle.waiting.proofs.Demand3.{demand-3, ends-alike}
 use Rattle.library_demand3.specs.Calls.{LibraryStep, Numbered, answerBy, LibraryRan, libraryRun}
 use Rattle.library_demand3.specs.Claim.{inNumber, inNumbers, inBytes, libraryStruck, EachLibraryStruck, LibrarySame, EveryLibraryList}
 use Rattle.library_demand3.specs.Follows.{NumberShut, AnswerShut, BufferFollows}
+use Rattle.library_demand3.proofs.Demand3.{good}
 use Rattle.library_demand3.proofs.Lists.{Good, good-next, first-frame, rest-frames, inLibrary, refusal-number, decoded}
 
 -- ---- of silence and one reply the number decides the buffer
@@ -56,18 +57,18 @@ module _ (step : LibraryStep) where
 
   at-first : EveryLibraryList (LibrarySame step) → EveryLibraryList (λ (s m : List ℕ) (cs : List Call). Beside s m (device (tagOf s) m) cs)
   unfolding inBytes
-  at-first all s m cs are is bytes size range shut frames end =
+  at-first all s m cs t frames end =
       let d = device (tagOf s) m in
-      let same : (p : List Call) → framesFit p ≡ true → transferOpen (runBy entry d p .device .tag) ≡ false → libraryRun step s m p ≡ inLibrary (runBy entry d p) =
-      λ p f h.
-      let e = ends-alike d p range size f shut h in
-      all s m p are is bytes size range shut f e ∙ ap inBytes (demand-3 d p range size f shut e .same) in
+      let same : (p : List Call) → framesFit p ≡ true → isClosed (waitRun (closed [] d) p) ≡ true → libraryRun step s m p ≡ inLibrary (runBy entry d p) =
+      λ p f e. all s m p t f e ∙ ap inBytes (demand-3 d p (t .range) (t .size) f (t .shut) e .same) in
       record {
-        good = record { fits = decoded-fits s are; bytes = bytes };
-        fits = record { range = range; size = size };
+        good = good s m t;
+        fits = record { range = t .range; size = t .size };
         frames = frames;
-        answers = ap (λ (r : LibraryRan). r .answers) (all s m cs are is bytes size range shut frames end ∙ ap inBytes (demand-3 d cs range size frames shut end .same));
-        shut = λ p q e h. ap (λ (r : LibraryRan). r .state) (same p (frames-first p q (ap framesFit e ∙ frames)) h);
+        answers = ap (λ (x : LibraryRan). x .answers) (same cs frames end);
+        shut = λ p q e h.
+            let f = frames-first p q (ap framesFit e ∙ frames) in
+            ap (λ (x : LibraryRan). x .state) (same p f (ends-alike d p (t .range) (t .size) f (t .shut) h));
       }
 
   module _ (c : Call) (cs : List Call) (s m : List ℕ) (d : Device) (b : Beside s m d (c ∷ cs)) where
@@ -118,5 +119,4 @@ module _ (step : LibraryStep) where
   )
 
 pub buffer-follows : BufferFollows
-buffer-follows step all s m cs are is bytes size range shut frames end h =
-    buffers step cs (tagOf s) s m (device (tagOf s) m) (at-first step all s m cs are is bytes size range shut frames end) h
+buffer-follows step all s m cs t frames end h = buffers step cs (tagOf s) s m (device (tagOf s) m) (at-first step all s m cs t frames end) h

@@ -16,7 +16,7 @@ use Rattle.waiting.specs.Waiting.{closed, waitRun}
 use Rattle.waiting.specs.Claim.{framesFit, isClosed}
 use Rattle.waiting.proofs.Demand3.{demand-3, ends-alike}
 use Rattle.library_demand3.specs.Calls.{exported, LibraryRan, libraryRun}
-use Rattle.library_demand3.specs.Claim.{inBytes, EachLibraryStruck, LibraryShut, LibraryAgrees, LibraryDemand3, LibraryEndsAlike}
+use Rattle.library_demand3.specs.Claim.{inBytes, EachLibraryStruck, LibraryShut, LibraryAgrees, Starts, LibraryDemand3, LibraryEndsAlike}
 use Rattle.library_demand3.proofs.Striking.{library-striking-follows}
 use Rattle.library_demand3.proofs.Lists.{Good, run-is, run-good, all-shut-is}
 
@@ -34,19 +34,23 @@ agrees d cs g range size frames shut end =
       shut = all;
     }
 
+-- ---- from a start
+pub good : (s m : List ℕ) → Starts s m → Good (device (tagOf s) m)
+good s m t = record { fits = decoded-fits s (t .state); bytes = t .memory }
+
 -- the theorem
 pub library-demand-3 : LibraryDemand3 exported
-library-demand-3 s m cs are is bytes size range shut frames end =
-    subst (λ (x : List ℕ). LibraryAgrees exported x m cs) (encodes-decoded s are is)
-    (agrees (device (tagOf s) m) cs (record { fits = decoded-fits s are; bytes = bytes }) range size frames shut end)
+library-demand-3 s m cs t frames end =
+    subst (λ (x : List ℕ). LibraryAgrees exported x m cs) (encodes-decoded s (t .state) (t .whole))
+    (agrees (device (tagOf s) m) cs (good s m t) (t .range) (t .size) frames (t .shut) end)
 
 -- ---- the end of the list
 pub library-ends-alike : LibraryEndsAlike
-library-ends-alike s m cs are is bytes size range shut frames end =
+library-ends-alike s m cs t frames end =
     let d = device (tagOf s) m in
-    let g : Good d = record { fits = decoded-fits s are; bytes = bytes } in
+    let g = good s m t in
     let state : libraryRun exported s m cs .state ≡ bytesOf (runBy entry d cs .device .tag) =
-    ap (λ (x : List ℕ). libraryRun exported x m cs .state) (sym (encodes-decoded s are is)) ∙ ap (λ (r : LibraryRan). r .state) (run-is cs d frames g) in
-    ends-alike d cs range size frames shut
+    ap (λ (x : List ℕ). libraryRun exported x m cs .state) (sym (encodes-decoded s (t .state) (t .whole))) ∙ ap (λ (r : LibraryRan). r .state) (run-is cs d frames g) in
+    ends-alike d cs (t .range) (t .size) frames (t .shut)
     (ap transferOpen (sym (decodes-encoded (runBy entry d cs .device .tag) (run-good cs d frames g .fits) .1))
     ∙ ap (λ (x : List ℕ). transferOpen (tagOf x)) (sym state) ∙ end)

@@ -1,7 +1,7 @@
 -- The fresh tag's bytes are a start of the claim. Assumes nothing.
 use mathlib.Core.Path.{_≡_, refl, sym, ap, subst, _∙_}
 use mathlib.Core.Bool.{true, false, not}
-use mathlib.Core.List.{List, []}
+use mathlib.Core.List.{List}
 use Prim.Native.Nat.{ℕ}
 use native.Mathlib.Omega.{arith}
 use lib.Dec.{eqb}
@@ -16,7 +16,7 @@ use Rattle.tag.specs.Layout.{memoryBytes}
 use Rattle.tag.specs.Bus.{isOpen}
 use Rattle.tag.specs.Keys.{uidAt, freshPasswords}
 use Rattle.tag.specs.Supply.{freshTag}
-use Rattle.state.specs.Layout.{registerBytes, bytesOf, tagOf}
+use Rattle.state.specs.Layout.{registerBytes, bytesOf}
 use Rattle.state.specs.Claims.{busFits, Fits}
 use Rattle.state.proofs.There.{decodes-encoded}
 use Rattle.state.proofs.AreBytes.{encodes-bytes}
@@ -25,12 +25,7 @@ use Rattle.model.specs.declared.Answer.the-variants.{Nothing}
 use Rattle.model.specs.Step.{number, transferOpen, tagInRange, freshOf}
 use Rattle.model.proofs.Kept.{fresh-fits}
 use Rattle.capi.specs.Interface.{refusalNumber, answerNumber, isRefused, stateAfter, Made, made, freshCall}
-use Rattle.waiting.specs.Calls.{Call, device}
-use Rattle.waiting.specs.Waiting.{closed, waitRun}
-use Rattle.waiting.specs.Claim.{framesFit, isClosed}
-use Rattle.library_demand3.specs.Calls.{exported}
-use Rattle.library_demand3.specs.Claim.{LibraryAgrees, LibraryAfterFresh}
-use Rattle.library_demand3.proofs.Demand3.{library-demand-3}
+use Rattle.library_demand3.specs.Claim.{Starts, FreshStarts}
 
 -- ---- what the call leaves
 abbrev zeros : List ℕ
@@ -74,16 +69,18 @@ shut : (u : List ℕ) → transferOpen (fresh u) ≡ false
 unfolding freshTag isOpen
 shut u = refl
 
-from-fresh : (u : List ℕ) (cs : List Call) → areBytes u ≡ true → framesFit cs ≡ true
-    → isClosed (waitRun (closed [] (device (tagOf (bytesOf (fresh u))) zeros)) cs) ≡ true → LibraryAgrees exported (bytesOf (fresh u)) zeros cs
-from-fresh u cs h frames end =
+starts : (u : List ℕ) → areBytes u ≡ true → Starts (bytesOf (fresh u)) zeros
+starts u h =
     let f = fresh-tag-fits u h in
     let d = decodes-encoded (fresh u) f in
-    library-demand-3 (bytesOf (fresh u)) zeros cs (encodes-bytes (fresh u) f) (d .0) zeros-are refl
-    (ap (λ (t : Tag). tagInRange t zeros) (d .1) ∙ fresh-fits (uidAt u 0) .range) (ap transferOpen (d .1) ∙ shut u) frames end
+    record {
+      state = encodes-bytes (fresh u) f;
+      whole = d .0;
+      memory = zeros-are;
+      size = refl;
+      range = ap (λ (t : Tag). tagInRange t zeros) (d .1) ∙ fresh-fits (uidAt u 0) .range;
+      shut = ap transferOpen (d .1) ∙ shut u;
+    }
 
-pub library-after-fresh : LibraryAfterFresh
-library-after-fresh u m s cs h n frames end =
-    let e = fresh-is u m s n in
-    subst (λ (c : Made). isClosed (waitRun (closed [] (device (tagOf (c .state)) (c .memory))) cs) ≡ true → LibraryAgrees exported (c .state) (c .memory) cs) (sym e)
-    (from-fresh u cs h frames) end
+pub fresh-starts : FreshStarts
+fresh-starts u m s h n = subst (λ (c : Made). Starts (c .state) (c .memory)) (sym (fresh-is u m s n)) (starts u h)

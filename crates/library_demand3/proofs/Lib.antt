@@ -5,6 +5,6 @@ pub mod Kept
 pub mod Striking
 pub mod Lists
 pub mod Demand3
+pub mod Wrong
 pub mod Buffer
 pub mod Fresh
-pub mod Wrong

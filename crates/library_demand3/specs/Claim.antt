@@ -83,12 +83,19 @@ pub record LibraryAgrees (step : LibraryStep) (s m : List ℕ) (cs : List Call) 
   pub striking : LibraryStriking step s m cs
   pub shut : EachLibraryStruck step (LibraryShut step) (tagOf s) s m cs
 
--- from 83 bytes that decode to a tag in range with no transfer open, and 1,024 bytes of memory, every list of calls, their frames of bytes,
--- that finishes with no transfer open: the waiting tag says so
+-- 83 bytes that decode to a tag in range with no transfer open, and 1,024 bytes of memory
+pub record Starts (s m : List ℕ) : Type 0 where
+  pub state : areBytes s ≡ true
+  pub whole : decodes s ≡ true
+  pub memory : areBytes m ≡ true
+  pub size : length m ≡ memoryBytes
+  pub range : tagInRange (tagOf s) m ≡ true
+  pub shut : transferOpen (tagOf s) ≡ false
+
+-- from there every list of calls, their frames of bytes, that finishes with no transfer open: the waiting tag says so
 abbrev pub EveryLibraryList : (List ℕ → List ℕ → List Call → Type 0) → Type 0
-EveryLibraryList P = (s m : List ℕ) (cs : List Call)
-    → areBytes s ≡ true → decodes s ≡ true → areBytes m ≡ true → length m ≡ memoryBytes → tagInRange (tagOf s) m ≡ true
-    → transferOpen (tagOf s) ≡ false → framesFit cs ≡ true → isClosed (waitRun (closed [] (device (tagOf s) m)) cs) ≡ true
+EveryLibraryList P = (s m : List ℕ) (cs : List Call) → Starts s m
+    → framesFit cs ≡ true → isClosed (waitRun (closed [] (device (tagOf s) m)) cs) ≡ true
     → P s m cs
 
 abbrev pub LibraryDemand3 : LibraryStep → Type 0
@@ -96,14 +103,11 @@ LibraryDemand3 step = EveryLibraryList (LibraryAgrees step)
 
 -- for the exported function that is what its own bytes show: a list that leaves bytes with no transfer open is such a list
 abbrev pub LibraryEndsAlike : Type 0
-LibraryEndsAlike = (s m : List ℕ) (cs : List Call)
-    → areBytes s ≡ true → decodes s ≡ true → areBytes m ≡ true → length m ≡ memoryBytes → tagInRange (tagOf s) m ≡ true
-    → transferOpen (tagOf s) ≡ false → framesFit cs ≡ true → transferOpen (tagOf (libraryRun exported s m cs .state)) ≡ false
+LibraryEndsAlike = (s m : List ℕ) (cs : List Call) → Starts s m
+    → framesFit cs ≡ true → transferOpen (tagOf (libraryRun exported s m cs .state)) ≡ false
     → isClosed (waitRun (closed [] (device (tagOf s) m)) cs) ≡ true
 
--- the bytes that `st25dv_fresh` leaves are such a start: so it holds of every list of calls after it; u is the UID
-abbrev pub LibraryAfterFresh : Type 0
-LibraryAfterFresh = (u m s : List ℕ) (cs : List Call) → let c = freshCall u m s in
-    areBytes u ≡ true → c .number ≡ answerNumber Nothing
-    → framesFit cs ≡ true → isClosed (waitRun (closed [] (device (tagOf (c .state)) (c .memory))) cs) ≡ true
-    → LibraryAgrees exported (c .state) (c .memory) cs
+-- the bytes that `st25dv_fresh` leaves are such a start, where it is not refused; u is the UID
+abbrev pub FreshStarts : Type 0
+FreshStarts = (u m s : List ℕ) → let c = freshCall u m s in
+    areBytes u ≡ true → c .number ≡ answerNumber Nothing → Starts (c .state) (c .memory)

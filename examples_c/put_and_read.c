@@ -17,10 +17,10 @@ static uint32_t frame_call(uint32_t code, uint32_t value, const uint8_t *frame, 
 /* A signal, and the answer that it must have. */
 static void expect(uint32_t code, uint32_t value, uint32_t answer)
 {
-    static const uint8_t none[1];
-    uint32_t a = frame_call(code, value, none, 0);
+    uint32_t a = frame_call(code, value, NULL, 0);
     if (a != answer) {
-        printf("code %u value %u: answer 0x%x, not 0x%x\n", (unsigned)code, (unsigned)value, (unsigned)a, (unsigned)answer);
+        printf("code %u value %u: %s 0x%x, not 0x%x\n", (unsigned)code, (unsigned)value,
+               a < ST25DV_NONE ? "refused by" : "answer", (unsigned)a, (unsigned)answer);
         exit(1);
     }
 }
@@ -84,12 +84,12 @@ int main(void)
     expect(ST25DV_VCC, 1, ST25DV_NONE);
     enable_mailbox();
     write_leg(0xA6, 0x2008, (const uint8_t *)rate, sizeof rate - 1);
-    printf("put %u bytes\n", (unsigned)(sizeof rate - 1));
+    printf("put %u bytes, HOST_PUT is %u\n", (unsigned)(sizeof rate - 1), (unsigned)state[ST25DV_AT_HOST_PUT]);
 
     expect(ST25DV_FIELD, 1, ST25DV_NONE);
     ask(read_length, sizeof read_length);
     printf("the mailbox has %u bytes\n", reply[1] + 1u);
     n = ask(read_message, sizeof read_message);
-    printf("read %.*s\n", (int)n, (const char *)reply + 1);
+    printf("read %.*s, HOST_PUT is %u\n", (int)n, (const char *)reply + 1, (unsigned)state[ST25DV_AT_HOST_PUT]);
     return 0;
 }

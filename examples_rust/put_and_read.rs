@@ -15,6 +15,7 @@ const FRAME: u32 = 8;
 const NONE: u32 = 0x100;
 const ACK: u32 = 0x101;
 const REPLY: u32 = 0x1000;
+const AT_HOST_PUT: usize = 29;
 
 #[link(name = "capi", kind = "static")]
 extern "C" {
@@ -123,7 +124,8 @@ fn fail(why: &str) -> ! {
 
 fn agree(what: &str, answer: u32, expected: u32) {
     if answer != expected {
-        fail(&format!("{what}: answer 0x{answer:x}, not 0x{expected:x}"));
+        let how = if answer < NONE { "refused by" } else { "answer" };
+        fail(&format!("{what}: {how} 0x{answer:x}, not 0x{expected:x}"));
     }
 }
 
@@ -133,11 +135,11 @@ fn main() {
     t.signal(VCC, 1);
     t.enable_mailbox();
     t.write_leg(0xA6, 0x2008, rate);
-    println!("put {} bytes", rate.len());
+    println!("put {} bytes, HOST_PUT is {}", rate.len(), t.state[AT_HOST_PUT]);
 
     t.signal(FIELD, 1);
     let length = t.ask(&[0x02, 0xAB, 0x02]);
     println!("the mailbox has {} bytes", length[0] as usize + 1);
     let message = t.ask(&[0x02, 0xAC, 0x02, 0x00, 0x00]);
-    println!("read {}", String::from_utf8_lossy(&message));
+    println!("read {}, HOST_PUT is {}", String::from_utf8_lossy(&message), t.state[AT_HOST_PUT]);
 }

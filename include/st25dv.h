@@ -1,5 +1,6 @@
-/* A proved model of the ST25DV04K, for programs in C. docs/LIBRARY.md says what each number and each byte of the state means.
- * Every buffer that is lent must be there for the call: no null pointer, not even for a length of 0, and no two that overlap. */
+/* A proved model of the ST25DV04K, for programs in C. docs/LIBRARY.md says what a caller owes (in short: each pointer
+ * has as many bytes as its length says, no two buffers overlap, nothing else touches them during the call), and what
+ * the tag does with each signal, address and command. */
 #ifndef ST25DV_H
 #define ST25DV_H
 
@@ -10,13 +11,18 @@
 extern "C" {
 #endif
 
-/* lengths of the buffers */
+/* ---- lengths of the buffers */
 #define ST25DV_STATE_BYTES 83u
 #define ST25DV_UID_BYTES 8u
-#define ST25DV_MEMORY_BYTES 1024u /* user memory 0 to 511, mailbox 512 to 767, page buffer 768 to 1023 */
-#define ST25DV_REPLY_BYTES 643u   /* at least */
+#define ST25DV_MEMORY_BYTES 1024u
+#define ST25DV_REPLY_BYTES 643u /* at least */
 
-/* codes of a signal, and the values that each takes */
+/* ---- parts of the memory */
+#define ST25DV_MEMORY_AT_USER 0u      /* 512 bytes: user memory */
+#define ST25DV_MEMORY_AT_MAILBOX 512u /* 256 bytes: the mailbox */
+#define ST25DV_MEMORY_AT_PAGE 768u    /* 256 bytes: data bytes of the write leg under way */
+
+/* ---- codes of a signal, and the values that each takes */
 #define ST25DV_VCC 1u             /* 0 or 1 */
 #define ST25DV_FIELD 2u           /* 0 or 1 */
 #define ST25DV_START 3u           /* 0 */
@@ -26,28 +32,96 @@ extern "C" {
 #define ST25DV_PROGRAMMING_END 7u /* 0 */
 #define ST25DV_FRAME 8u           /* 0 */
 
-/* refusals: every lent byte is as before */
-#define ST25DV_MEMORY_LENGTH 1u   /* the memory has not 1,024 bytes */
-#define ST25DV_REPLY_SHORT 2u     /* the reply buffer is shorter than 643 */
-#define ST25DV_SIGNAL_UNKNOWN 3u  /* the code is unknown, or its value out of range */
-#define ST25DV_OUT_OF_RANGE 4u    /* the state's bytes are no state, or one that breaks a range */
-#define ST25DV_STATE_LENGTH 13u   /* the state has not 83 bytes */
-#define ST25DV_UID_LENGTH 14u     /* the UID has not 8 bytes */
+/* ---- refusals, in the order in which they are judged; all are below ST25DV_NONE, and leave every lent byte as it was */
+#define ST25DV_REFUSED_MEMORY_LENGTH 1u  /* the memory has not ST25DV_MEMORY_BYTES */
+#define ST25DV_REFUSED_REPLY_SHORT 2u    /* the reply buffer has fewer than ST25DV_REPLY_BYTES */
+#define ST25DV_REFUSED_SIGNAL_UNKNOWN 3u /* the code is unknown, or its value out of range */
+#define ST25DV_REFUSED_STATE_LENGTH 13u  /* the state has not ST25DV_STATE_BYTES */
+#define ST25DV_REFUSED_OUT_OF_RANGE 4u   /* the state's bytes are no state, or one that breaks a range */
+#define ST25DV_REFUSED_UID_LENGTH 14u    /* the UID has not ST25DV_UID_BYTES */
 
-/* answers */
+/* ---- answers */
 #define ST25DV_NONE 0x100u
 #define ST25DV_ACK 0x101u
 #define ST25DV_NOACK 0x102u
-#define ST25DV_SILENCE 0x103u
-#define ST25DV_BYTE 0x200u        /* + the byte fetched */
-#define ST25DV_REPLY 0x1000u      /* + the reply's length, its CRC included; it stands in the reply buffer from place 0 on */
+#define ST25DV_SILENCE 0x103u /* no reply to a frame */
+#define ST25DV_BYTE 0x200u    /* + the byte fetched, 0 to 255 */
+#define ST25DV_REPLY 0x1000u  /* + the reply's length, its CRC included; it stands in the reply buffer from place 0 on */
 
-/* The fresh tag with a UID, its lowest byte first. Clears the memory. */
+/* ---- places of the state's bytes; a number of two bytes has its low byte first. Flags are 0 or 1. */
+#define ST25DV_AT_FIELD 0u          /* flag */
+#define ST25DV_AT_RADIO_STATE 1u    /* ST25DV_READY, ST25DV_QUIET or ST25DV_SELECTED */
+#define ST25DV_AT_RADIO_SESSION 2u  /* ST25DV_SESSION_NONE or ST25DV_SESSION_PASSWORD_0 to _3 */
+#define ST25DV_AT_VCC 3u            /* flag */
+#define ST25DV_AT_I2C_SESSION 4u    /* flag: open */
+#define ST25DV_AT_PROGRAMMING 5u    /* flag: under way */
+#define ST25DV_AT_COUNTER 6u        /* two bytes: the address counter */
+#define ST25DV_AT_BUS 8u            /* ST25DV_BUS_.. */
+#define ST25DV_AT_SPACE 9u          /* bus 2 to 5: ST25DV_SPACE_.. (else 0) */
+#define ST25DV_AT_TRANSFER_OPEN 10u /* bus 1: flag; this place has a name for each bus that uses it (else 0) */
+#define ST25DV_AT_HOST_NOACKED 10u  /* bus 2: flag */
+#define ST25DV_AT_SPOILED 10u       /* bus 5: flag */
+#define ST25DV_AT_LAST_FETCHED 11u  /* bus 2: flag, the last byte of an RF message was fetched (else 0) */
+#define ST25DV_AT_HIGH_ADDRESS 12u  /* bus 4: the high address byte (else 0) */
+#define ST25DV_AT_PAGE_COUNT 13u    /* bus 5: two bytes, the page bytes (else 0) */
+#define ST25DV_AT_RF_MNGT 15u
+#define ST25DV_AT_RF_MNGT_DYN 16u
+#define ST25DV_AT_RFA1SS 17u
+#define ST25DV_AT_ENDA1 18u
+#define ST25DV_AT_RFA2SS 19u
+#define ST25DV_AT_ENDA2 20u
+#define ST25DV_AT_RFA3SS 21u
+#define ST25DV_AT_ENDA3 22u
+#define ST25DV_AT_RFA4SS 23u
+#define ST25DV_AT_I2CSS 24u
+#define ST25DV_AT_LOCK_CCFILE 25u
+#define ST25DV_AT_MB_MODE 26u
+#define ST25DV_AT_LOCK_CFG 27u
+#define ST25DV_AT_MB_EN 28u          /* flag */
+#define ST25DV_AT_HOST_PUT 29u       /* flag */
+#define ST25DV_AT_RF_PUT 30u         /* flag */
+#define ST25DV_AT_HOST_CURRENT 31u   /* flag */
+#define ST25DV_AT_RF_CURRENT 32u     /* flag */
+#define ST25DV_AT_MESSAGE_LENGTH 33u /* two bytes */
+#define ST25DV_AT_I2C_PASSWORD 35u   /* eight bytes, as a password leg sends them */
+#define ST25DV_AT_PASSWORD_0 43u     /* eight bytes, as a frame sends them; so for passwords 1 to 3 */
+#define ST25DV_AT_PASSWORD_1 51u
+#define ST25DV_AT_PASSWORD_2 59u
+#define ST25DV_AT_PASSWORD_3 67u
+#define ST25DV_AT_UID 75u            /* eight bytes, lowest first */
+
+/* values at ST25DV_AT_RADIO_STATE */
+#define ST25DV_READY 0u
+#define ST25DV_QUIET 1u
+#define ST25DV_SELECTED 2u
+
+/* values at ST25DV_AT_RADIO_SESSION */
+#define ST25DV_SESSION_NONE 0u
+#define ST25DV_SESSION_PASSWORD_0 1u
+#define ST25DV_SESSION_PASSWORD_1 2u
+#define ST25DV_SESSION_PASSWORD_2 3u
+#define ST25DV_SESSION_PASSWORD_3 4u
+
+/* values at ST25DV_AT_BUS */
+#define ST25DV_BUS_IDLE 0u
+#define ST25DV_BUS_STARTED 1u
+#define ST25DV_BUS_READ_LEG 2u
+#define ST25DV_BUS_WRITE_LEG 3u   /* before its address */
+#define ST25DV_BUS_LOW_ADDRESS 4u /* a write leg after the high address byte */
+#define ST25DV_BUS_DATA_LEG 5u    /* a write leg past its address */
+
+/* values at ST25DV_AT_SPACE */
+#define ST25DV_SPACE_USER 0u
+#define ST25DV_SPACE_SYSTEM 1u
+
+/* ---- functions; a pointer with a length of 0 may be null */
+
+/* The fresh tag with a UID, its lowest byte first. Clears the memory. Answers ST25DV_NONE or a refusal. */
 uint32_t st25dv_fresh(const uint8_t *uid, size_t uid_bytes,
                       uint8_t *memory, size_t memory_bytes,
                       uint8_t *state, size_t state_bytes);
 
-/* One signal. The frame, CRC included, is read with ST25DV_FRAME alone; any byte with a length of 0 will do elsewhere. */
+/* One signal. The frame, CRC included, is read with ST25DV_FRAME alone; hand in NULL and 0 with the others. */
 uint32_t st25dv_step(uint8_t *state, size_t state_bytes,
                      uint8_t *memory, size_t memory_bytes,
                      uint8_t *reply, size_t reply_bytes,

@@ -5,9 +5,12 @@ pub mod bench;
 pub mod crc;
 pub mod cut;
 pub mod dice;
+pub mod faults;
+pub mod feed;
 #[cfg(feature = "library")]
 pub mod library;
 pub mod model;
+pub mod pieces;
 pub mod radio;
 pub mod script;
 pub mod state;

@@ -13,6 +13,10 @@ use crate::dice::Dice;
 use crate::tag::*;
 use legs::USER_WRITE;
 
+/// Lengths of long lines, and of long last ones: first and last.
+const LONG_LINES: (usize, usize) = (LONGEST_LINE - 1, 3000);
+const LAST_LINES: (usize, usize) = (LONGEST_LINE - 1, LONGEST_LINE + 2);
+
 /// A line without its line feed.
 pub type Line = Vec<u8>;
 
@@ -42,6 +46,31 @@ pub fn script(seed: u64, size: usize) -> Script {
     Script {
         lines: author.lines,
         ended: !author.dice.one_in(4),
+    }
+}
+
+/// A seed's script for the reading of lines, `size` lines long: long lines are frequent, and
+/// every other script ends in one without line feed.
+pub fn long_script(seed: u64, size: usize) -> Script {
+    let mut author = Author::new(seed);
+    author.opening();
+    while author.lines.len() < size {
+        author.act();
+        if author.dice.one_in(4) {
+            let line = author.frame_line(LONG_LINES);
+            author.put(line);
+        }
+    }
+    author.lines.truncate(size);
+    let unfinished = author.dice.one_in(2);
+    if unfinished {
+        author.lines.pop();
+        let line = author.frame_line(LAST_LINES);
+        author.lines.push(line);
+    }
+    Script {
+        lines: author.lines,
+        ended: !unfinished,
     }
 }
 

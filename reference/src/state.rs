@@ -6,8 +6,8 @@ use crate::tag::*;
 pub const STATE_SIZE: usize = 83;
 
 // Refusals beside 01's four.
-pub const STATE_LENGTH: u32 = 13;
-pub const UID_LENGTH: u32 = 14;
+pub const REFUSED_STATE_LENGTH: u32 = 13;
+pub const REFUSED_UID_LENGTH: u32 = 14;
 
 // Numbers of the bus.
 const IDLE: u8 = 0;
@@ -209,7 +209,8 @@ fn signal(code: u32, value: u32, frame: &[u8]) -> Signal<'_> {
     }
 }
 
-/// One call over the state's bytes.
+/// One call over the state's bytes. 1 to 3 need no state; the state's length is judged right
+/// before the first refusal that reads it.
 pub fn step(
     state: &mut [u8],
     memory: &mut [u8],
@@ -218,13 +219,15 @@ pub fn step(
     value: u32,
     frame: &[u8],
 ) -> u32 {
-    let Ok(bytes) = <&mut [u8; STATE_SIZE]>::try_from(state) else {
-        return STATE_LENGTH;
-    };
     let signal = signal(code, value, frame);
+    if let Err(refusal) = model::judge_call(memory, reply, signal) {
+        return number(Err(refusal));
+    }
+    let Ok(bytes) = <&mut [u8; STATE_SIZE]>::try_from(state) else {
+        return REFUSED_STATE_LENGTH;
+    };
     let Some(mut tag) = decode(bytes) else {
-        let judged = model::judge_call(memory, reply, signal);
-        return number(judged.and(Err(Refusal::Range)));
+        return number(Err(Refusal::Range));
     };
     let answer = model::step(&mut tag, memory, reply, signal);
     if answer.is_ok() {
@@ -233,17 +236,17 @@ pub fn step(
     number(answer)
 }
 
-/// The fresh tag's bytes; the memory is cleared.
+/// The fresh tag's bytes; the memory is cleared. 01's refusal 1 comes first here too.
 pub fn fresh(uid: &[u8], memory: &mut [u8], state: &mut [u8]) -> u32 {
-    let Ok(bytes) = <&mut [u8; STATE_SIZE]>::try_from(state) else {
-        return STATE_LENGTH;
-    };
-    let Ok(uid) = <[u8; 8]>::try_from(uid) else {
-        return UID_LENGTH;
-    };
     if memory.len() != MEMORY_SIZE {
         return number(Err(Refusal::Memory));
     }
+    let Ok(bytes) = <&mut [u8; STATE_SIZE]>::try_from(state) else {
+        return REFUSED_STATE_LENGTH;
+    };
+    let Ok(uid) = <[u8; 8]>::try_from(uid) else {
+        return REFUSED_UID_LENGTH;
+    };
     memory.fill(0);
     *bytes = encode(&model::fresh(uid));
     number(Ok(Answer::None))

@@ -12,6 +12,7 @@ use Rattle.registers.specs.Map.{written}
 use Rattle.areas.specs.declared.Side.the-variants.{Radio}
 use Rattle.areas.specs.Rights.{isLocked, mayWrite}
 use Rattle.tag.specs.Layout.{blocks}
+use Rattle.errors.specs.declared.RadioError.the-variants.{TooManyBlocks, NoSuchBlock, WriteLeavesArea, WriteForbidden, NotLockable, AlreadyLocked}
 use Rattle.reply.specs.declared.RadioSide.{RadioSide}
 use Rattle.reply.specs.Reply.{good}
 use Rattle.reply.specs.Outcome.{Told, told, fails, sideRegisters}
@@ -26,15 +27,15 @@ mayWriteAll r session first (suc n) = mayWriteAll r session first n && mayWrite 
 -- the data stand at place `at` of the frame
 unfoldable pub writeOf : RadioSide → List ℕ → ℕ → ℕ → List ℕ → ℕ → Told
 writeOf s m first more frame at =
-    pick (ltb 3 more) (fails 0x0F s m)
-    (pick (leb blocks first) (fails 0x10 s m)
-    (pick (leaves (s .core .registers .ends) first (first + more)) (fails 0x0F s m)
-    (pick (not (mayWriteAll (s .core .registers) (s .air .session) first (more + 1))) (fails 0x12 s m)
+    pick (ltb 3 more) (fails TooManyBlocks s m)
+    (pick (leb blocks first) (fails NoSuchBlock s m)
+    (pick (leaves (s .core .registers .ends) first (first + more)) (fails WriteLeavesArea s m)
+    (pick (not (mayWriteAll (s .core .registers) (s .air .session) first (more + 1))) (fails WriteForbidden s m)
     (told (good []) s (sets m (4 * first) (bytesAt frame at (4 * (more + 1))))))))
 
 -- "22 Lock: 10h block above 1; 11h already locked": sets the block's bit of LOCK_CCFILE
 unfoldable pub lockOf : RadioSide → List ℕ → ℕ → Told
 lockOf s m block =
-    pick (ltb 1 block) (fails 0x10 s m)
-    (pick (isLocked (s .core .registers .ccfile) block) (fails 0x11 s m)
+    pick (ltb 1 block) (fails NotLockable s m)
+    (pick (isLocked (s .core .registers .ccfile) block) (fails AlreadyLocked s m)
     (told (good []) (sideRegisters (written (s .core .registers) 0x0C (keepBits 2 (s .core .registers .ccfile .bits) + (block + 1))) s) m))

@@ -4,6 +4,7 @@ ghost use Prim.Native.Nat.{_≤_};
 ghost use Rattle.reply.specs.Outcome.{ended, finish};
 ghost use Rattle.block_writes.specs.Writes.{mayWriteAll, writeOf, lockOf};
 use areas::Side;
+use errors::RadioError;
 use registers::Registers;
 use reply::Outcome;
 use reply::RadioSide;
@@ -38,19 +39,19 @@ pub fn write(
     let r = s.core.registers;
     let last = first as u16 + more as u16;
     if 3 < more {
-        let answer = reply::error(out, 0x0F);
+        let answer = reply::error(out, RadioError::TooManyBlocks);
         return Outcome { answer, side: s };
     }
     if tag::BLOCKS <= first as u16 {
-        let answer = reply::error(out, 0x10);
+        let answer = reply::error(out, RadioError::NoSuchBlock);
         return Outcome { answer, side: s };
     }
     if blocks::leaves(r.ends, first as u16, last) {
-        let answer = reply::error(out, 0x0F);
+        let answer = reply::error(out, RadioError::WriteLeavesArea);
         return Outcome { answer, side: s };
     }
     if !may_write_all(r, s.air.session, first, more as u16 + 1) {
-        let answer = reply::error(out, 0x12);
+        let answer = reply::error(out, RadioError::WriteForbidden);
         return Outcome { answer, side: s };
     }
     parts::put_bytes(m, 4 * (first as usize), frame, at, 4 * (more as usize + 1));
@@ -64,11 +65,11 @@ pub fn lock(s: RadioSide, m: &[u8], out: &mut [u8], block: u8) -> Outcome
 {
     let r = s.core.registers;
     if 1 < block {
-        let answer = reply::error(out, 0x10);
+        let answer = reply::error(out, RadioError::NotLockable);
         return Outcome { answer, side: s };
     }
     if areas::is_locked(r.ccfile, block as u16) {
-        let answer = reply::error(out, 0x11);
+        let answer = reply::error(out, RadioError::AlreadyLocked);
         return Outcome { answer, side: s };
     }
     let bits = r.ccfile.bits % 4 + (block + 1);

@@ -11,6 +11,7 @@ use Rattle.areas.specs.declared.Side.the-variants.{Radio}
 use Rattle.areas.specs.Ends.{areaOfBlock}
 use Rattle.areas.specs.Rights.{mayRead, mayWrite}
 use Rattle.tag.specs.Layout.{blocks}
+use Rattle.errors.specs.declared.RadioError.the-variants.{NoSuchBlock, ReadLeavesArea, ReadProtected}
 use Rattle.reply.specs.declared.RadioSide.{RadioSide}
 use Rattle.reply.specs.Reply.{good}
 use Rattle.reply.specs.Outcome.{Told, told, fails}
@@ -35,9 +36,9 @@ blocksOf r session m option first (suc n) = blocksOf r session m option first n 
 -- "20, 23 Read: block, or first and count-1; 10h first above 127; 0Fh leaves area or memory; 15h protected"; more is count-1
 unfoldable pub readOf : RadioSide → List ℕ → Bool → ℕ → ℕ → Told
 readOf s m option first more =
-    pick (leb blocks first) (fails 0x10 s m)
-    (pick (leaves (s .core .registers .ends) first (first + more)) (fails 0x0F s m)
-    (pick (not (mayRead (s .core .registers) (Radio (s .air .session)) first)) (fails 0x15 s m)
+    pick (leb blocks first) (fails NoSuchBlock s m)
+    (pick (leaves (s .core .registers .ends) first (first + more)) (fails ReadLeavesArea s m)
+    (pick (not (mayRead (s .core .registers) (Radio (s .air .session)) first)) (fails ReadProtected s m)
     (told (good (blocksOf (s .core .registers) (s .air .session) m option first (more + 1))) s m)))
 
 -- the statuses of n blocks from the first on
@@ -48,5 +49,5 @@ statusesOf r session first (suc n) = statusesOf r session first n ++ statusOf r 
 -- "2C Status: first, count-1; 10h; stops at block 127"
 unfoldable pub statusReply : RadioSide → List ℕ → ℕ → ℕ → Told
 statusReply s m first more =
-    pick (leb blocks first) (fails 0x10 s m)
+    pick (leb blocks first) (fails NoSuchBlock s m)
     (told (good (statusesOf (s .core .registers) (s .air .session) first (pick (ltb (blocks - first) (more + 1)) (blocks - first) (more + 1)))) s m)

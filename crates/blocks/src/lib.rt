@@ -8,6 +8,7 @@ ghost use Rattle.parts.specs.Pick.{pick};
 ghost use Rattle.reply.specs.Outcome.{ended, finish};
 ghost use Rattle.blocks.specs.Blocks.{leaves, statusOf, blockOf, blocksOf, readOf, statusesOf, statusReply};
 use areas::Side;
+use errors::RadioError;
 use registers::Ends;
 use registers::Registers;
 use reply::Outcome;
@@ -105,15 +106,15 @@ pub fn read(s: RadioSide, m: &[u8], out: &mut [u8], option: bool, first: u8, mor
     let above = tag::BLOCKS <= start;
     let leaving = leaves(r.ends, start, last);
     if above {
-        let answer = reply::error(out, 0x10);
+        let answer = reply::error(out, RadioError::NoSuchBlock);
         return Outcome { answer, side: s };
     }
     if leaving {
-        let answer = reply::error(out, 0x0F);
+        let answer = reply::error(out, RadioError::ReadLeavesArea);
         return Outcome { answer, side: s };
     }
     if !areas::may_read(r, Side::Radio(session), start) {
-        let answer = reply::error(out, 0x15);
+        let answer = reply::error(out, RadioError::ReadProtected);
         return Outcome { answer, side: s };
     }
     parts::put(out, 0, 0x00);
@@ -151,7 +152,7 @@ pub fn status(s: RadioSide, m: &[u8], out: &mut [u8], first: u8, more: u8) -> Ou
     ensures { λ r. ⌜ ended r (now (m .entry)) (now (out .exit)) ≡ finish (statusReply s (now (m .entry)) first more) (now (out .entry)) ⌝ }
 {
     if tag::BLOCKS <= first as u16 {
-        let answer = reply::error(out, 0x10);
+        let answer = reply::error(out, RadioError::NoSuchBlock);
         return Outcome { answer, side: s };
     }
     let n = lesser(tag::BLOCKS - first as u16, more as u16 + 1);

@@ -27,7 +27,7 @@ use Rattle.capi.specs.Claims.{RefusedStepKeeps, RefusedFreshKeeps}
 -- a number below 0x100 is a refusal's
 number-refused : (a : Answer) → answerNumber a < 0x100 → isRefused a ≡ true
 unfolding answerNumber isRefused
-number-refused (Refused n) h = refl
+number-refused (Refused r) h = refl
 number-refused Nothing h = absurd (omega arith)
 number-refused Ack h = absurd (omega arith)
 number-refused NoAck h = absurd (omega arith)
@@ -48,7 +48,7 @@ unfolding isRefused fromRadio answerOf
 radio-served nothing = refl
 radio-served (body b) = refl
 
-act-served : (x : Signal) (t : Tag) (m o f : List ℕ) → isRefused (actOf x t m o f .answer) ≡ false
+pub act-served : (x : Signal) (t : Tag) (m o f : List ℕ) → isRefused (actOf x t m o f .answer) ≡ false
 unfolding actOf isRefused
 act-served (Wire x) t m o f = wire-served (signalOf (wireSide t) (t .uid) m x .answer)
 act-served (Field on) t m o f = refl
@@ -82,7 +82,10 @@ unfolding stepCall
 refused-step-keeps s m o code value f =
     pick-case (Still s m o) _ _ _ (λ _ _. refl)
     (λ _. pick-case (Still s m o) _ _ _ (λ _ _. refl)
-    (λ _. stepped s m o (stepOf (tagOf s) m o code value f) (step-keeps (tagOf s) m o code value f)))
+    (λ _. pick-case (Still s m o) _ _ _ (λ _ _. refl)
+    (λ _. pick-case (Still s m o) _ _ _ (λ _ _. refl)
+    (λ _. pick-case (Still s m o) _ _ _ (λ _ _. refl)
+    (λ _. stepped s m o (stepOf (tagOf s) m o code value f) (step-keeps (tagOf s) m o code value f))))))
 
 -- ---- the fresh tag
 abbrev KeepsMemory : List ℕ → Left → Type 0
@@ -106,4 +109,5 @@ pub refused-fresh-keeps : RefusedFreshKeeps
 unfolding freshCall
 refused-fresh-keeps u m s =
     pick-case (StillMade s m) _ _ _ (λ _ _. refl)
-    (λ _. pick-case (StillMade s m) _ _ _ (λ _ _. refl) (λ _. freshly s m (freshOf (uidAt u 0) m) (fresh-keeps (uidAt u 0) m)))
+    (λ _. pick-case (StillMade s m) _ _ _ (λ _ _. refl)
+    (λ _. pick-case (StillMade s m) _ _ _ (λ _ _. refl) (λ _. freshly s m (freshOf (uidAt u 0) m) (fresh-keeps (uidAt u 0) m))))

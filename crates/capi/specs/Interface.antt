@@ -9,15 +9,27 @@ use Rattle.tag.specs.declared.Tag.{Tag}
 use Rattle.tag.specs.Layout.{memoryBytes, replyBytes}
 use Rattle.tag.specs.Keys.{uidAt}
 use Rattle.state.specs.Layout.{stateBytes, bytesOf, decodes, tagOf}
+use Rattle.model.specs.declared.Refusal.the-variants.{MemoryLength, ReplyShort, SignalUnknown, OutOfRange}
 use Rattle.model.specs.declared.Answer.{Answer}
 use Rattle.model.specs.declared.Answer.the-variants.{Refused, Nothing, Ack, NoAck, Byte, Silence, Reply}
 use Rattle.model.specs.Signals.{signalInRange}
-use Rattle.model.specs.Step.{number, memoryLength, replyShort, signalUnknown, outOfRange, stepOf, freshOf}
+use Rattle.model.specs.Step.{number, stepOf, freshOf}
+use Rattle.capi.specs.declared.LibraryRefusal.{LibraryRefusal}
+use Rattle.capi.specs.declared.LibraryRefusal.the-variants.{Model, StateLength, UidLength}
 
 -- ---- the numbers
--- "1 to 4 are document 01's refusals", "0x100 none, 0x101 Ack, 0x102 NoAck, 0x103 silence, 0x200 + x a byte x, 0x1000 + n a reply of n bytes (CRC included)"
+-- of a refusal
+unfoldable pub refusalNumber : LibraryRefusal → ℕ
+-- 1 to 4, document 01's
+refusalNumber (Model r) = number r
+-- the state buffer has not its 83 bytes
+refusalNumber StateLength = 13
+-- the UID has not its 8 bytes
+refusalNumber UidLength = 14
+
+-- of an answer; the n bytes of a reply include its CRC
 unfoldable pub answerNumber : Answer → ℕ
-answerNumber (Refused n) = n
+answerNumber (Refused r) = refusalNumber (Model r)
 answerNumber Nothing = 0x100
 answerNumber Ack = 0x101
 answerNumber NoAck = 0x102
@@ -25,16 +37,8 @@ answerNumber (Byte x) = 0x200 + x
 answerNumber Silence = 0x103
 answerNumber (Reply n) = 0x1000 + n
 
--- "13: the state buffer has not 83 bytes (judged first)"
-abbrev pub stateLength : ℕ
-stateLength = 13
-
--- "14: the UID has not 8 bytes (fresh; judged after 13)"
-abbrev pub uidLength : ℕ
-uidLength = 14
-
 unfoldable pub isRefused : Answer → Bool
-isRefused (Refused n) = true
+isRefused (Refused r) = true
 isRefused Nothing = false
 isRefused Ack = false
 isRefused NoAck = false
@@ -44,7 +48,7 @@ isRefused (Reply n) = false
 
 -- a reply has at most 643 bytes
 unfoldable pub replyFits : Answer → Bool
-replyFits (Refused n) = true
+replyFits (Refused r) = true
 replyFits Nothing = true
 replyFits Ack = true
 replyFits NoAck = true
@@ -67,21 +71,22 @@ pub record Called : Type 0 where
 abbrev pub called : ℕ → List ℕ → List ℕ → List ℕ → Called
 called n s m o = record { number = n; state = s; memory = m; reply = o }
 
--- bytes that decode to no state: "1, 2, 3, then 4"
-unfoldable pub undecoded : List ℕ → List ℕ → ℕ → ℕ → ℕ
-undecoded m o code value =
-    pick (not (eqb (length m) memoryBytes)) (number memoryLength)
-    (pick (ltb (length o) replyBytes) (number replyShort)
-    (pick (not (signalInRange code value)) (number signalUnknown)
-    (number outOfRange)))
+-- a refusal: every lent byte as before
+abbrev pub refusing : LibraryRefusal → List ℕ → List ℕ → List ℕ → Called
+refusing r s m o = called (refusalNumber r) s m o
 
--- "13, then 1, 2, 3, then 4 (bytes that decode to no state, or a state that breaks a range)"; s is the state, f the frame
+-- the refusals in their order, then the model's step of the tag; s is the state, f the frame.
+-- 1, 2 and 3 are judged without a state: each is given exactly when document 01 says. 13 comes right before the first refusal that reads the state,
+-- which is 4: bytes that decode to no state, or (by the model) a tag that breaks a range.
 unfoldable pub stepCall : List ℕ → List ℕ → List ℕ → ℕ → ℕ → List ℕ → Called
 stepCall s m o code value f =
-    pick (not (eqb (length s) stateBytes)) (called stateLength s m o)
-    (pick (not (decodes s)) (called (undecoded m o code value) s m o)
+    pick (not (eqb (length m) memoryBytes)) (refusing (Model MemoryLength) s m o)
+    (pick (ltb (length o) replyBytes) (refusing (Model ReplyShort) s m o)
+    (pick (not (signalInRange code value)) (refusing (Model SignalUnknown) s m o)
+    (pick (not (eqb (length s) stateBytes)) (refusing StateLength s m o)
+    (pick (not (decodes s)) (refusing (Model OutOfRange) s m o)
     (let e = stepOf (tagOf s) m o code value f in
-    called (answerNumber (e .answer)) (stateAfter s (e .answer) (e .tag)) (e .memory) (e .reply)))
+    called (answerNumber (e .answer)) (stateAfter s (e .answer) (e .tag)) (e .memory) (e .reply))))))
 
 -- ---- the fresh tag
 pub record Made : Type 0 where
@@ -92,10 +97,11 @@ pub record Made : Type 0 where
 abbrev pub made : ℕ → List ℕ → List ℕ → Made
 made n s m = record { number = n; state = s; memory = m }
 
--- u is the UID; then refusal 1, as of every call
+-- 1 without a state, as above; then 13, then 14; u is the UID
 unfoldable pub freshCall : List ℕ → List ℕ → List ℕ → Made
 freshCall u m s =
-    pick (not (eqb (length s) stateBytes)) (made stateLength s m)
-    (pick (not (eqb (length u) 8)) (made uidLength s m)
+    pick (not (eqb (length m) memoryBytes)) (made (refusalNumber (Model MemoryLength)) s m)
+    (pick (not (eqb (length s) stateBytes)) (made (refusalNumber StateLength) s m)
+    (pick (not (eqb (length u) 8)) (made (refusalNumber UidLength) s m)
     (let e = freshOf (uidAt u 0) m in
-    made (answerNumber (e .answer)) (stateAfter s (e .answer) (e .tag)) (e .memory)))
+    made (answerNumber (e .answer)) (stateAfter s (e .answer) (e .tag)) (e .memory))))

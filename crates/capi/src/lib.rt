@@ -1,21 +1,36 @@
-// The tag for programs in C and Rust: functions over numbers and lent bytes. Nothing here relies on a check by the caller.
+// The tag for programs in C and Rust: functions over numbers and lent bytes. What a number can tell is judged here; docs/LIBRARY.md says what a caller owes.
 ghost use mathlib.Core.Path.{_≡_};
 ghost use mathlib.Core.Bool.{true};
 ghost use lib.ListN.{length};
-ghost use Rattle.parts.specs.Pick.{pick};
 ghost use Rattle.crc.specs.Crc.{crcOf};
 ghost use Rattle.state.specs.Layout.{stateBytes};
 ghost use Rattle.model.specs.Signals.{topValue, signalInRange};
-ghost use Rattle.capi.specs.Interface.{answerNumber, isRefused, replyFits, stateAfter, undecoded, called, stepCall, made, freshCall};
+ghost use Rattle.capi.specs.Interface.{refusalNumber, answerNumber, isRefused, replyFits, stateAfter, called, stepCall, made, freshCall};
 use model::Answer;
 use model::Outcome;
+use model::Refusal;
 use tag::Uid;
 
-// The state buffer has not its 83 bytes.
-pub const STATE_LENGTH: u32 = 13;
+// The refusals of the exported functions: the model's, and two of their own.
+pub enum LibraryRefusal {
+    Model(Refusal),
+    // The state buffer has not its 83 bytes.
+    StateLength,
+    // The UID has not its 8 bytes.
+    UidLength,
+}
 
-// The UID has not its 8 bytes.
-pub const UID_LENGTH: u32 = 14;
+impl LibraryRefusal {
+    pub fn number(self) -> u32
+        ensures { λ r. ⌜ r ≡ refusalNumber self ⌝ }
+    {
+        match self {
+            LibraryRefusal::Model(r) => r.number() as u32,
+            LibraryRefusal::StateLength => 13,
+            LibraryRefusal::UidLength => 14,
+        }
+    }
+}
 
 // ---- the signal's code and value, 32 bits wide
 fn top_value(code: u32) -> u32
@@ -36,31 +51,12 @@ fn signal_in_range(code: u32, value: u32) -> bool
     (1 <= code) & (code <= 8) & (value <= top_value(code))
 }
 
-// The code at the model's width; 0, which is none, for a signal that is unknown.
-fn narrow_code(code: u32, value: u32) -> u8
-    ensures { λ r. ⌜ r ≡ pick (signalInRange code value) code 0 ⌝ }
-{
-    if signal_in_range(code, value) {
-        return code as u8;
-    }
-    0
-}
-
-fn narrow_value(code: u32, value: u32) -> u16
-    ensures { λ r. ⌜ r ≡ pick (signalInRange code value) value 0 ⌝ }
-{
-    if signal_in_range(code, value) {
-        return value as u16;
-    }
-    0
-}
-
 // ---- the answers
 fn is_refused(a: Answer) -> bool
     ensures { λ r. ⌜ r ≡ isRefused a ⌝ }
 {
     match a {
-        Answer::Refused(n) => true,
+        Answer::Refused(r) => true,
         Answer::Nothing => false,
         Answer::Ack => false,
         Answer::NoAck => false,
@@ -75,7 +71,7 @@ fn answer_number(a: Answer) -> u32
     ensures { λ r. ⌜ r ≡ answerNumber a ⌝ }
 {
     match a {
-        Answer::Refused(n) => n as u32,
+        Answer::Refused(r) => LibraryRefusal::Model(r).number(),
         Answer::Nothing => 0x100,
         Answer::Ack => 0x101,
         Answer::NoAck => 0x102,
@@ -100,22 +96,6 @@ fn keep(o: Outcome, s: &mut [u8])
     }
 }
 
-// The refusal of a state that does not decode.
-fn undecoded(m: &[u8], out: &[u8], code: u32, value: u32) -> u32
-    ensures { λ r. ⌜ r ≡ undecoded (now (m .entry)) (now (out .entry)) code value ⌝ }
-{
-    if m.len() != tag::MEMORY_BYTES {
-        return 1;
-    }
-    if out.len() < tag::REPLY_BYTES {
-        return 2;
-    }
-    if !signal_in_range(code, value) {
-        return 3;
-    }
-    4
-}
-
 // ---- the exported functions
 // One call: the state's 83 bytes, the memory, the reply buffer, a signal's code and value, and a frame.
 #[no_mangle]
@@ -129,21 +109,23 @@ pub extern "C" fn st25dv_step(
 ) -> u32
     ensures { λ r. ⌜ called r (now (s .exit)) (now (m .exit)) (now (out .exit)) ≡ stepCall (now (s .entry)) (now (m .entry)) (now (out .entry)) code value (now (frame .entry)) ⌝ }
 {
+    if m.len() != tag::MEMORY_BYTES {
+        return LibraryRefusal::Model(Refusal::MemoryLength).number();
+    }
+    if out.len() < tag::REPLY_BYTES {
+        return LibraryRefusal::Model(Refusal::ReplyShort).number();
+    }
+    if !signal_in_range(code, value) {
+        return LibraryRefusal::Model(Refusal::SignalUnknown).number();
+    }
     if s.len() != state::STATE_BYTES {
-        return STATE_LENGTH;
+        return LibraryRefusal::StateLength.number();
     }
     if !state::decodes(s) {
-        return undecoded(m, out, code, value);
+        return LibraryRefusal::Model(Refusal::OutOfRange).number();
     }
     let t = state::decode(s);
-    let o = model::step(
-        t,
-        m,
-        out,
-        narrow_code(code, value),
-        narrow_value(code, value),
-        frame,
-    );
+    let o = model::step(t, m, out, code as u8, value as u16, frame);
     keep(o, s);
     let answer = o.answer;
     answer_number(answer)
@@ -154,11 +136,14 @@ pub extern "C" fn st25dv_step(
 pub extern "C" fn st25dv_fresh(uid: &[u8], m: &mut [u8], s: &mut [u8]) -> u32
     ensures { λ r. ⌜ made r (now (s .exit)) (now (m .exit)) ≡ freshCall (now (uid .entry)) (now (m .entry)) (now (s .entry)) ⌝ }
 {
+    if m.len() != tag::MEMORY_BYTES {
+        return LibraryRefusal::Model(Refusal::MemoryLength).number();
+    }
     if s.len() != state::STATE_BYTES {
-        return STATE_LENGTH;
+        return LibraryRefusal::StateLength.number();
     }
     if uid.len() != 8 {
-        return UID_LENGTH;
+        return LibraryRefusal::UidLength.number();
     }
     let o = model::fresh(Uid::at(uid, 0), m);
     keep(o, s);

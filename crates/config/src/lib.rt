@@ -2,6 +2,7 @@
 ghost use mathlib.Core.Path.{_≡_};
 ghost use Rattle.reply.specs.Outcome.{ended, finish};
 ghost use Rattle.config.specs.Config.{isPointer, readConfigOf, mailboxAfter, writtenCore, writeConfigOf, readDynamicOf, writeDynamicOf};
+use errors::RadioError;
 use reply::Outcome;
 use reply::RadioSide;
 use tag::Core;
@@ -19,7 +20,7 @@ pub fn read(s: RadioSide, m: &[u8], out: &mut [u8], p: u8) -> Outcome
 {
     if !is_pointer(p) {
         return Outcome {
-            answer: reply::error(out, 0x10),
+            answer: reply::error(out, RadioError::NoSuchRegister),
             side: s,
         };
     }
@@ -57,19 +58,19 @@ pub fn write(s: RadioSide, m: &[u8], out: &mut [u8], p: u8, x: u8) -> Outcome
     let r = s.core.registers;
     if !is_pointer(p) {
         return Outcome {
-            answer: reply::error(out, 0x10),
+            answer: reply::error(out, RadioError::NoSuchRegister),
             side: s,
         };
     }
     if (r.config.bits / 1 % 2 == 1) | (s.air.session != 1) {
         return Outcome {
-            answer: reply::error(out, 0x12),
+            answer: reply::error(out, RadioError::ConfigurationClosed),
             side: s,
         };
     }
     if !areas::end_allows(r.ends, p as u32, x) {
         return Outcome {
-            answer: reply::error(out, 0x0F),
+            answer: reply::error(out, RadioError::EndRefused),
             side: s,
         };
     }
@@ -88,7 +89,7 @@ pub fn read_dynamic(s: RadioSide, m: &[u8], out: &mut [u8], p: u8) -> Outcome
 {
     if p != 0x0D {
         return Outcome {
-            answer: reply::error(out, 0x10),
+            answer: reply::error(out, RadioError::NoSuchDynamicRegister),
             side: s,
         };
     }
@@ -105,7 +106,7 @@ pub fn write_dynamic(s: RadioSide, m: &[u8], out: &mut [u8], vcc: bool, p: u8, x
 {
     if p != 0x0D {
         return Outcome {
-            answer: reply::error(out, 0x10),
+            answer: reply::error(out, RadioError::NoSuchDynamicRegister),
             side: s,
         };
     }

@@ -7,6 +7,7 @@ mod show;
 mod state;
 
 use model::Answer;
+use model::Refusal;
 use tag::Tag;
 use tag::Uid;
 
@@ -25,7 +26,21 @@ const MEMORY: usize = 1100;
 const REPLY: usize = 700;
 
 // A line's bytes: a place and the whole memory.
-const LINE: u16 = 1102;
+const LINE: usize = 1102;
+
+// What a line prints: that it is none of these, a call's answer, the tag, or the two CRCs.
+enum Said {
+    Bad,
+    Answer(Answer),
+    Tag,
+    Crcs,
+}
+
+// What a line leaves.
+struct Outcome {
+    run: Run,
+    said: Said,
+}
 
 fn uid() -> Uid {
     Uid {
@@ -48,37 +63,21 @@ fn with_tag(r: Run, t: Tag) -> Run {
     n
 }
 
+fn says(run: Run, said: Said) -> Outcome {
+    Outcome { run, said }
+}
+
 // A line that is none of these.
-fn bad(r: Run) -> Run {
-    io::write_all(1, b"?");
-    r
+fn bad(r: Run) -> Outcome {
+    says(r, Said::Bad)
 }
 
-fn print_refusal(number: u8) {
-    io::write_all(1, b"!");
-    io::print_decimal(1, number as u64);
-}
-
-fn print_answer(a: Answer, out: &[u8]) {
-    match a {
-        Answer::Refused(n) => print_refusal(n),
-        Answer::Nothing => text::none(),
-        Answer::Ack => {
-            io::write_all(1, b"A");
-        }
-        Answer::NoAck => {
-            io::write_all(1, b"N");
-        }
-        Answer::Byte(x) => text::byte(x),
-        Answer::Silence => {
-            io::write_all(1, b".");
-        }
-        Answer::Reply(n) => text::bytes(out, n),
-    }
+fn nothing(r: Run) -> Outcome {
+    says(r, Said::Answer(Answer::Nothing))
 }
 
 // The fresh tag; a refusal leaves the tag that there was.
-fn fresh(r: Run, m: &mut [u8]) -> Run {
+fn fresh(r: Run, m: &mut [u8]) -> Outcome {
     let size = r.memory;
     if m.len() < size {
         return bad(r);
@@ -86,20 +85,16 @@ fn fresh(r: Run, m: &mut [u8]) -> Run {
     let o = model::fresh(uid(), &mut m[0..size]);
     let a = o.answer;
     match a {
-        Answer::Refused(n) => {
-            print_refusal(n);
-            r
-        }
+        Answer::Refused(why) => says(r, Said::Answer(Answer::Refused(why))),
         _ => {
-            text::none();
             let t = o.tag;
-            with_tag(r, t)
+            nothing(with_tag(r, t))
         }
     }
 }
 
 // A call and its answer.
-fn call(r: Run, m: &mut [u8], out: &mut [u8], bytes: &[u8], n: usize) -> Run {
+fn call(r: Run, m: &mut [u8], out: &mut [u8], bytes: &[u8], n: usize) -> Outcome {
     if n < 3 {
         return bad(r);
     }
@@ -126,13 +121,12 @@ fn call(r: Run, m: &mut [u8], out: &mut [u8], bytes: &[u8], n: usize) -> Run {
         &bytes[3..n],
     );
     let a = o.answer;
-    print_answer(a, out);
     let after = o.tag;
-    with_tag(r, after)
+    says(with_tag(r, after), Said::Answer(a))
 }
 
 // How much of a buffer of `most` bytes calls hand in from here on.
-fn lent(r: Run, kind: u8, bytes: &[u8], n: u16, most: usize) -> Run {
+fn lent(r: Run, kind: u8, bytes: &[u8], n: usize, most: usize) -> Outcome {
     let size = state::word_at(bytes, 0) as usize;
     if n != 2 {
         return bad(r);
@@ -140,23 +134,22 @@ fn lent(r: Run, kind: u8, bytes: &[u8], n: u16, most: usize) -> Run {
     if most < size {
         return bad(r);
     }
-    text::none();
     let mut next = r;
     if kind == b'J' {
         next.memory = size;
-        return next;
+        return nothing(next);
     }
     next.reply = size;
-    next
+    nothing(next)
 }
 
 // Bytes that fit the memory from a place on.
-fn memory(r: Run, m: &mut [u8], bytes: &[u8], n: u16) -> Run {
+fn memory(r: Run, m: &mut [u8], bytes: &[u8], n: usize) -> Outcome {
     if n < 2 {
         return bad(r);
     }
     let at = state::word_at(bytes, 0) as usize;
-    let count = (n - 2) as usize;
+    let count = n - 2;
     if MEMORY < at {
         return bad(r);
     }
@@ -164,27 +157,25 @@ fn memory(r: Run, m: &mut [u8], bytes: &[u8], n: u16) -> Run {
         return bad(r);
     }
     parts::put_bytes(m, at, bytes, 2, count);
-    text::none();
-    r
+    nothing(r)
 }
 
 // A part of the tag.
-fn part(r: Run, kind: u8, bytes: &[u8], n: u16) -> Run {
+fn part(r: Run, kind: u8, bytes: &[u8], n: usize) -> Outcome {
     if !state::is_part(kind, bytes, n) {
         return bad(r);
     }
-    text::none();
     let t = r.tag;
-    with_tag(r, state::with_part(t, kind, bytes))
+    nothing(with_tag(r, state::with_part(t, kind, bytes)))
 }
 
 // A letter with bytes.
-fn given(r: Run, kind: u8, m: &mut [u8], out: &mut [u8], bytes: &[u8], n: u16) -> Run {
+fn given(r: Run, kind: u8, m: &mut [u8], out: &mut [u8], bytes: &[u8], n: usize) -> Outcome {
     if LINE < n {
         return bad(r);
     }
     match kind {
-        b'C' => call(r, m, out, bytes, n as usize),
+        b'C' => call(r, m, out, bytes, n),
         b'J' => lent(r, kind, bytes, n, MEMORY),
         b'O' => lent(r, kind, bytes, n, REPLY),
         b'M' => memory(r, m, bytes, n),
@@ -192,48 +183,79 @@ fn given(r: Run, kind: u8, m: &mut [u8], out: &mut [u8], bytes: &[u8], n: u16) -
     }
 }
 
-fn print_tag(r: Run) -> Run {
-    let t = r.tag;
-    show::print(t);
-    r
-}
-
-fn print_crcs(r: Run, m: &[u8], out: &[u8]) -> Run {
-    text::word(crc::crc(m));
-    text::word(crc::crc(out));
-    r
-}
-
 // A letter alone.
-fn alone(r: Run, kind: u8, m: &mut [u8], out: &[u8]) -> Run {
+fn alone(r: Run, kind: u8, m: &mut [u8]) -> Outcome {
     match kind {
         b'N' => fresh(r, m),
-        b'Z' => print_tag(r),
-        b'E' => print_crcs(r, m, out),
+        b'Z' => says(r, Said::Tag),
+        b'E' => says(r, Said::Crcs),
         _ => bad(r),
     }
 }
 
-// What a line does, and its answer printed.
-fn act(r: Run, s: &[u8], m: &mut [u8], out: &mut [u8], bytes: &mut [u8]) -> Run {
+// What a line does, and what it prints.
+fn act(r: Run, s: &[u8], m: &mut [u8], out: &mut [u8], bytes: &mut [u8]) -> Outcome {
     let kind = parts::byte_at(s, 0);
     if s.len() == 1 {
-        return alone(r, kind, m, out);
+        return alone(r, kind, m);
     }
-    if text::is_hex(s) {
-        // One more than a line may have, by which a longer one is told.
-        let n = text::decode(s, bytes, LINE + 1);
+    if text::has_bytes(s) {
+        let n = text::line_bytes(s, bytes);
         return given(r, kind, m, out, bytes, n);
     }
     bad(r)
 }
 
+fn put_refusal(text: &mut [u8], at: usize, why: Refusal) -> usize {
+    let number = text::put_mark(text, at, b'!');
+    text::put_decimal(text, number, why.number() as u64)
+}
+
+fn put_answer(text: &mut [u8], at: usize, a: Answer, out: &[u8]) -> usize {
+    match a {
+        Answer::Refused(why) => put_refusal(text, at, why),
+        Answer::Nothing => text::put_mark(text, at, b'-'),
+        Answer::Ack => text::put_mark(text, at, b'A'),
+        Answer::NoAck => text::put_mark(text, at, b'N'),
+        Answer::Byte(x) => text::put_byte(text, at, x),
+        Answer::Silence => text::put_mark(text, at, b'.'),
+        Answer::Reply(n) => text::put_hex(text, at, out, n),
+    }
+}
+
+fn put_crcs(text: &mut [u8], at: usize, m: &[u8], out: &[u8]) -> usize {
+    let second = text::put_word(text, at, crc::crc(m));
+    text::put_word(text, second, crc::crc(out))
+}
+
+fn put_said(text: &mut [u8], at: usize, said: Said, t: Tag, m: &[u8], out: &[u8]) -> usize {
+    match said {
+        Said::Bad => text::put_mark(text, at, b'?'),
+        Said::Answer(a) => put_answer(text, at, a, out),
+        Said::Tag => show::put_tag(text, at, t),
+        Said::Crcs => put_crcs(text, at, m, out),
+    }
+}
+
 // A line: its number, a tab, its answer.
+fn print(number: u64, said: Said, t: Tag, m: &[u8], out: &[u8]) {
+    let mut text = [0u8; 1500];
+    let tab = text::put_decimal(&mut text, 0, number);
+    let answer = text::put_mark(&mut text, tab, b'\t');
+    let feed = put_said(&mut text, answer, said, t, m, out);
+    let end = text::put_mark(&mut text, feed, b'\n');
+    if end <= 1500 {
+        io::write_all(1, &text[0..end]);
+    }
+}
+
 fn line(r: Run, s: &[u8], m: &mut [u8], out: &mut [u8], bytes: &mut [u8]) -> Run {
     let number = std::num::wrapping_add_u64(r.number, 1);
-    text::number(number);
-    let mut n = act(r, s, m, out, bytes);
-    text::end();
+    let o = act(r, s, m, out, bytes);
+    let said = o.said;
+    let mut n = o.run;
+    let t = n.tag;
+    print(number, said, t, m, out);
     n.number = number;
     n
 }
@@ -260,8 +282,13 @@ fn lines(s: &[u8], m: &mut [u8], out: &mut [u8], bytes: &mut [u8]) {
 fn main() {
     let mut input = io::large_buffer();
     let n = io::read_full(0, &mut input);
+    if n == 65536 {
+        // What lies behind these bytes would not be run.
+        io::write_all(2, b"the script has 65,536 bytes or more\n");
+        return;
+    }
     let mut m = [0u8; MEMORY];
     let mut out = [0u8; REPLY];
-    let mut bytes = [0u8; 1103];
+    let mut bytes = [0u8; LINE];
     lines(&input[0..n], &mut m, &mut out, &mut bytes);
 }

@@ -1,10 +1,11 @@
-// The tag printed: its parts as state sets them (A, U, K, X), then the I2C password and passwords 0 to 3.
+// The text of the tag: its parts as state sets them (A, U, K, X), then the I2C password and passwords 0 to 3.
 use registers::Registers;
 use tag::Air;
 use tag::Bus;
 use tag::Host;
 use tag::Mailbox;
 use tag::Password;
+use tag::Passwords;
 use tag::RadioState;
 use tag::Space;
 use tag::Tag;
@@ -16,8 +17,8 @@ fn flag_byte(b: bool) -> u8 {
     0
 }
 
-fn flag(b: bool) {
-    text::byte(flag_byte(b));
+fn put_flag(text: &mut [u8], at: usize, b: bool) -> usize {
+    text::put_byte(text, at, flag_byte(b))
 }
 
 fn radio_byte(r: RadioState) -> u8 {
@@ -28,11 +29,11 @@ fn radio_byte(r: RadioState) -> u8 {
     }
 }
 
-fn air(a: Air) {
-    flag(a.field);
+fn put_air(text: &mut [u8], at: usize, a: Air) -> usize {
+    let state = put_flag(text, at, a.field);
     let radio = a.radio;
-    text::byte(radio_byte(radio));
-    text::byte(a.session);
+    let session = text::put_byte(text, state, radio_byte(radio));
+    text::put_byte(text, session, a.session)
 }
 
 fn space_byte(s: Space) -> u8 {
@@ -65,57 +66,63 @@ fn bus_bytes(b: Bus) -> [u8; 5] {
     }
 }
 
-fn host(h: Host) {
-    flag(h.vcc);
-    flag(h.session);
-    flag(h.programming);
-    text::word(h.counter);
+fn put_host(text: &mut [u8], at: usize, h: Host) -> usize {
+    let session = put_flag(text, at, h.vcc);
+    let programming = put_flag(text, session, h.session);
+    let counter = put_flag(text, programming, h.programming);
+    let after = text::put_word(text, counter, h.counter);
     let bus = h.bus;
     let bytes = bus_bytes(bus);
-    text::bytes(&bytes, 5);
+    text::put_hex(text, after, &bytes, 5)
 }
 
-fn registers(r: Registers) {
-    text::byte(r.mngt.bits);
-    text::byte(r.dynamic.bits);
-    text::byte(r.security.area1.bits);
-    text::byte(r.ends.end1.bits);
-    text::byte(r.security.area2.bits);
-    text::byte(r.ends.end2.bits);
-    text::byte(r.security.area3.bits);
-    text::byte(r.ends.end3.bits);
-    text::byte(r.security.area4.bits);
-    text::byte(r.i2css.bits);
-    text::byte(r.ccfile.bits);
-    text::byte(r.mode.bits);
-    text::byte(r.config.bits);
+fn put_registers(text: &mut [u8], at: usize, r: Registers) -> usize {
+    let bytes = [
+        r.mngt.bits,
+        r.dynamic.bits,
+        r.security.area1.bits,
+        r.ends.end1.bits,
+        r.security.area2.bits,
+        r.ends.end2.bits,
+        r.security.area3.bits,
+        r.ends.end3.bits,
+        r.security.area4.bits,
+        r.i2css.bits,
+        r.ccfile.bits,
+        r.mode.bits,
+        r.config.bits,
+    ];
+    text::put_hex(text, at, &bytes, 13)
 }
 
-fn mailbox(m: Mailbox) {
-    flag(m.enabled);
-    flag(m.host.put);
-    flag(m.rf.put);
-    flag(m.host.current);
-    flag(m.rf.current);
-    text::word(m.length);
+fn put_mailbox(text: &mut [u8], at: usize, m: Mailbox) -> usize {
+    let host_put = put_flag(text, at, m.enabled);
+    let rf_put = put_flag(text, host_put, m.host.put);
+    let host_current = put_flag(text, rf_put, m.rf.put);
+    let rf_current = put_flag(text, host_current, m.host.current);
+    let length = put_flag(text, rf_current, m.rf.current);
+    text::put_word(text, length, m.length)
 }
 
-fn password(p: Password) {
+fn put_password(text: &mut [u8], at: usize, p: Password) -> usize {
     let bytes = p.bytes;
-    text::bytes(&bytes, 8);
+    text::put_hex(text, at, &bytes, 8)
 }
 
-pub fn print(t: Tag) {
+fn put_passwords(text: &mut [u8], at: usize, p: Passwords) -> usize {
+    let rf0 = put_password(text, at, p.i2c);
+    let rf1 = put_password(text, rf0, p.rf0);
+    let rf2 = put_password(text, rf1, p.rf1);
+    let rf3 = put_password(text, rf2, p.rf2);
+    put_password(text, rf3, p.rf3)
+}
+
+pub fn put_tag(text: &mut [u8], at: usize, t: Tag) -> usize {
     let a = t.air;
-    air(a);
+    let host = put_air(text, at, a);
     let h = t.host;
-    host(h);
-    registers(t.core.registers);
-    mailbox(t.core.mailbox);
-    let p = t.core.passwords;
-    password(p.i2c);
-    password(p.rf0);
-    password(p.rf1);
-    password(p.rf2);
-    password(p.rf3);
+    let registers = put_host(text, host, h);
+    let mailbox = put_registers(text, registers, t.core.registers);
+    let passwords = put_mailbox(text, mailbox, t.core.mailbox);
+    put_passwords(text, passwords, t.core.passwords)
 }

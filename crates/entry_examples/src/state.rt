@@ -37,7 +37,7 @@ fn is_flag(s: &[u8], i: usize) -> bool {
 }
 
 // ---- whether bytes are a part
-fn is_air(s: &[u8], n: u16) -> bool {
+fn is_air(s: &[u8], n: usize) -> bool {
     (n == 3) & is_flag(s, 0) & (parts::byte_at(s, 1) <= 2)
 }
 
@@ -54,16 +54,16 @@ fn is_bus(s: &[u8]) -> bool {
     }
 }
 
-fn is_host(s: &[u8], n: u16) -> bool {
+fn is_host(s: &[u8], n: usize) -> bool {
     (n == 10) & is_flag(s, 0) & is_flag(s, 1) & is_flag(s, 2) & is_bus(s)
 }
 
-fn is_mailbox(s: &[u8], n: u16) -> bool {
+fn is_mailbox(s: &[u8], n: usize) -> bool {
     let bits = is_flag(s, 1) & is_flag(s, 2) & is_flag(s, 3) & is_flag(s, 4);
     (n == 7) & is_flag(s, 0) & bits
 }
 
-pub fn is_part(kind: u8, s: &[u8], n: u16) -> bool {
+pub fn is_part(kind: u8, s: &[u8], n: usize) -> bool {
     match kind {
         b'A' => is_air(s, n),
         b'U' => is_host(s, n),

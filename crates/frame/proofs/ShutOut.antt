@@ -6,6 +6,7 @@ use mathlib.Core.Logic.{_⊎_, inl, inr}
 use Prim.Native.Nat.{ℕ}
 use Rattle.parts.specs.Pick.{pick}
 use Rattle.parts.proofs.Picks.{pick-case}
+use Rattle.errors.specs.declared.RadioError.the-variants.{ShutOut}
 use Rattle.frame.specs.declared.Verdict.{Verdict}
 use Rattle.frame.specs.declared.Verdict.the-variants.{Silence, Error}
 use Rattle.frame.specs.Claims.{ShutOutDecides, ShutOutAnswers}
@@ -16,10 +17,10 @@ unfolding judge shutOut pick
 shut-out-decides s a u d busy h = rw h
 
 quiet-or : Verdict → Type 0
-quiet-or v = (v ≡ Silence) ⊎ (v ≡ Error 0x0F)
+quiet-or v = (v ≡ Silence) ⊎ (v ≡ Error ShutOut)
 
 pub shut-out-answers : ShutOutAnswers
 unfolding shutOut errorOf quiet-or
 shut-out-answers s a u d =
     pick-case quiet-or (isSilent s a u d) Silence _ (λ h. inl refl)
-    (λ h. pick-case quiet-or (isMute s u) Silence (Error 0x0F) (λ k. inl refl) (λ k. inr refl))
+    (λ h. pick-case quiet-or (isMute s u) Silence (Error ShutOut) (λ k. inl refl) (λ k. inr refl))

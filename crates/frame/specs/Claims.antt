@@ -8,6 +8,7 @@ use Rattle.parts.specs.Bits.{isSet}
 use Rattle.registers.specs.declared.RfMngt.{RfMngt}
 use Rattle.tag.specs.declared.Air.{Air}
 use Rattle.tag.specs.declared.Uid.{Uid}
+use Rattle.errors.specs.declared.RadioError.the-variants.{ShutOut}
 use Rattle.frame.specs.declared.Verdict.the-variants.{Silence, Error}
 use Rattle.frame.specs.Judge.{shutOut, judge}
 
@@ -17,4 +18,4 @@ ShutOutDecides = (s : List ℕ) (a : Air) (u : Uid) (d : RfMngt) (busy : Bool) �
 
 -- and that is silence or error 0Fh
 abbrev pub ShutOutAnswers : Type 0
-ShutOutAnswers = (s : List ℕ) (a : Air) (u : Uid) (d : RfMngt) → (shutOut s a u d ≡ Silence) ⊎ (shutOut s a u d ≡ Error 0x0F)
+ShutOutAnswers = (s : List ℕ) (a : Air) (u : Uid) (d : RfMngt) → (shutOut s a u d ≡ Silence) ⊎ (shutOut s a u d ≡ Error ShutOut)

@@ -11,6 +11,8 @@ use Rattle.registers.specs.declared.RfMngt.{RfMngt}
 use Rattle.tag.specs.declared.Air.{Air}
 use Rattle.tag.specs.declared.Uid.{Uid}
 use Rattle.tag.specs.Radio.{isQuiet, isSelected}
+use Rattle.errors.specs.declared.RadioError.{RadioError}
+use Rattle.errors.specs.declared.RadioError.the-variants.{ShutOut, UnknownCommand, UnsupportedFlags, WrongLength}
 use Rattle.frame.specs.declared.Verdict.{Verdict}
 use Rattle.frame.specs.declared.Verdict.the-variants.{Silence, Error, Request}
 use Rattle.frame.specs.Fields.{command, inventoryFlag, extensionFlag, selectFlag, addressFlag, optionFlag, reservedFlag, isCustom, paramPlace, crcPlace, ownUid, param, isKnown, takesOption, paramBytes}
@@ -46,12 +48,12 @@ unfoldable pub isMute : List ℕ → Uid → Bool
 isMute s u = eqb (command s) 0x02 || (eqb (command s) 0x25 && not (ownUid s u))
 
 -- an error of the judge's own, or that silence
-unfoldable pub errorOf : List ℕ → Uid → ℕ → Verdict
-errorOf s u code = pick (isMute s u) Silence (Error code)
+unfoldable pub errorOf : List ℕ → Uid → RadioError → Verdict
+errorOf s u e = pick (isMute s u) Silence (Error e)
 
 -- the answer while shut out: from the frame, the air side, the UID and RF_MNGT_Dyn alone
 unfoldable pub shutOut : List ℕ → Air → Uid → RfMngt → Verdict
-shutOut s a u d = pick (isSilent s a u d) Silence (errorOf s u 0x0F)
+shutOut s a u d = pick (isSilent s a u d) Silence (errorOf s u ShutOut)
 
 -- "extension, reserved bit or unsupported option"
 unfoldable pub badFlags : List ℕ → Bool
@@ -66,11 +68,11 @@ unfoldable pub judge : List ℕ → Air → Uid → RfMngt → Bool → Verdict
 judge s a u d busy =
     pick (isSilent s a u d) Silence
     -- "Then, with RF_MNGT_Dyn b0, a transfer open or programming: 0Fh .., no change."
-    (pick (isSet 1 (d .bits) || busy) (errorOf s u 0x0F)
+    (pick (isSet 1 (d .bits) || busy) (errorOf s u ShutOut)
     -- "Then 01h unknown command"
-    (pick (not (isKnown (command s))) (errorOf s u 0x01)
+    (pick (not (isKnown (command s))) (errorOf s u UnknownCommand)
     -- "03h extension, reserved bit or unsupported option"
-    (pick (badFlags s) (errorOf s u 0x03)
+    (pick (badFlags s) (errorOf s u UnsupportedFlags)
     -- "02h wrong length"
-    (pick (wrongLength s) (errorOf s u 0x02)
+    (pick (wrongLength s) (errorOf s u WrongLength)
     Request))))

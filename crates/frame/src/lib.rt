@@ -3,13 +3,14 @@ ghost use mathlib.Core.Path.{_≡_};
 ghost use Prim.Native.Nat.{_≤_};
 ghost use Rattle.frame.specs.Fields.{command, optionFlag, uidPlace, paramPlace, crcPlace, ownUid, param, isKnown, takesOption, paramBytes};
 ghost use Rattle.frame.specs.Judge.{isSilent, isMute, errorOf, shutOut, badFlags, wrongLength, judge};
+use errors::RadioError;
 use registers::RfMngt;
 use tag::Air;
 use tag::Uid;
 
 pub enum Verdict {
     Silence,
-    Error(u8),
+    Error(RadioError),
     Request,
 }
 
@@ -167,13 +168,13 @@ fn is_mute(s: &[u8], u: Uid) -> bool
     (c == 0x02) | ((c == 0x25) & !own)
 }
 
-fn error_of(s: &[u8], u: Uid, code: u8) -> Verdict
-    ensures { λ r. ⌜ r ≡ errorOf (now (s .entry)) u code ⌝ }
+fn error_of(s: &[u8], u: Uid, e: RadioError) -> Verdict
+    ensures { λ r. ⌜ r ≡ errorOf (now (s .entry)) u e ⌝ }
 {
     if is_mute(s, u) {
         return Verdict::Silence;
     }
-    Verdict::Error(code)
+    Verdict::Error(e)
 }
 
 // The verdict while shut out.
@@ -183,7 +184,7 @@ pub fn shut_out(s: &[u8], a: Air, u: Uid, d: RfMngt) -> Verdict
     if is_silent(s, a, u, d) {
         return Verdict::Silence;
     }
-    error_of(s, u, 0x0F)
+    error_of(s, u, RadioError::ShutOut)
 }
 
 fn bad_flags(s: &[u8]) -> bool
@@ -211,16 +212,16 @@ pub fn judge(s: &[u8], a: Air, u: Uid, d: RfMngt, busy: bool) -> Verdict
         return Verdict::Silence;
     }
     if (d.bits / 1 % 2 == 1) | busy {
-        return error_of(s, u, 0x0F);
+        return error_of(s, u, RadioError::ShutOut);
     }
     if !is_known(command(s)) {
-        return error_of(s, u, 0x01);
+        return error_of(s, u, RadioError::UnknownCommand);
     }
     if bad_flags(s) {
-        return error_of(s, u, 0x03);
+        return error_of(s, u, RadioError::UnsupportedFlags);
     }
     if wrong_length(s) {
-        return error_of(s, u, 0x02);
+        return error_of(s, u, RadioError::WrongLength);
     }
     Verdict::Request
 }

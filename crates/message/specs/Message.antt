@@ -10,6 +10,7 @@ use Rattle.tag.specs.declared.Message.{Message}
 use Rattle.tag.specs.declared.Mailbox.{Mailbox}
 use Rattle.tag.specs.Layout.{mailboxAt}
 use Rattle.tag.specs.Mailbox.{lengthByte, radioPut, radioRead}
+use Rattle.errors.specs.declared.RadioError.the-variants.{MailboxUnavailable, MailboxDisabled, PastMessage}
 use Rattle.reply.specs.declared.RadioSide.{RadioSide}
 use Rattle.reply.specs.Reply.{good}
 use Rattle.reply.specs.Outcome.{Told, told, fails, sideMailbox}
@@ -21,13 +22,13 @@ takesMessage b = b .enabled && not (b .host .put) && not (b .rf .put)
 -- "AA Write Message: length-1, data; 0Fh unless MB_EN and no PUT"; more is length-1, the data stand at place `at` of the frame
 unfoldable pub writeMessageOf : RadioSide → List ℕ → ℕ → List ℕ → ℕ → Told
 writeMessageOf s m more frame at =
-    pick (not (takesMessage (s .core .mailbox))) (fails 0x0F s m)
+    pick (not (takesMessage (s .core .mailbox))) (fails MailboxUnavailable s m)
     (told (good []) (sideMailbox (radioPut (more + 1) (s .core .mailbox)) s) (sets m mailboxAt (bytesAt frame at (more + 1))))
 
 -- "AB Length: 0Fh if MB_EN is 0; MB_LEN_Dyn"
 unfoldable pub lengthOf : RadioSide → List ℕ → Told
 lengthOf s m =
-    pick (not (s .core .mailbox .enabled)) (fails 0x0F s m)
+    pick (not (s .core .mailbox .enabled)) (fails MailboxDisabled s m)
     (told (good (lengthByte (s .core .mailbox) ∷ [])) s m)
 
 -- "pointer p, n; 0,0 is the whole, else n+1 bytes"
@@ -42,6 +43,6 @@ mailboxAfter b p count = pick (b .host .current && eqb (p + count) (b .length)) 
 unfoldable pub readMessageOf : RadioSide → List ℕ → ℕ → ℕ → Told
 readMessageOf s m p n =
     let b = s .core .mailbox in
-    pick (not (b .enabled)) (fails 0x0F s m)
-    (pick (ltb (b .length) (p + asked b p n) || eqb (b .length) 0) (fails 0x0F s m)
+    pick (not (b .enabled)) (fails MailboxDisabled s m)
+    (pick (ltb (b .length) (p + asked b p n) || eqb (b .length) 0) (fails PastMessage s m)
     (told (good (bytesAt m (mailboxAt + p) (asked b p n))) (sideMailbox (mailboxAfter b p (asked b p n)) s) m))

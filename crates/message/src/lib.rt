@@ -2,6 +2,7 @@
 ghost use mathlib.Core.Path.{_≡_};
 ghost use Rattle.reply.specs.Outcome.{ended, finish};
 ghost use Rattle.message.specs.Message.{takesMessage, writeMessageOf, lengthOf, asked, mailboxAfter, readMessageOf};
+use errors::RadioError;
 use reply::Outcome;
 use reply::RadioSide;
 use tag::Mailbox;
@@ -26,7 +27,7 @@ pub fn write(
     let b = s.core.mailbox;
     if !takes_message(b) {
         return Outcome {
-            answer: reply::error(out, 0x0F),
+            answer: reply::error(out, RadioError::MailboxUnavailable),
             side: s,
         };
     }
@@ -46,7 +47,7 @@ pub fn length(s: RadioSide, m: &[u8], out: &mut [u8]) -> Outcome
     let b = s.core.mailbox;
     if !b.enabled {
         return Outcome {
-            answer: reply::error(out, 0x0F),
+            answer: reply::error(out, RadioError::MailboxDisabled),
             side: s,
         };
     }
@@ -82,14 +83,14 @@ pub fn read(s: RadioSide, m: &[u8], out: &mut [u8], p: u8, n: u8) -> Outcome
     let b = s.core.mailbox;
     if !b.enabled {
         return Outcome {
-            answer: reply::error(out, 0x0F),
+            answer: reply::error(out, RadioError::MailboxDisabled),
             side: s,
         };
     }
     let count = asked(b, p, n);
     if ((b.length as u32) < p as u32 + count as u32) | (b.length == 0) {
         return Outcome {
-            answer: reply::error(out, 0x0F),
+            answer: reply::error(out, RadioError::PastMessage),
             side: s,
         };
     }

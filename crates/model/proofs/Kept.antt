@@ -1,14 +1,14 @@
 -- Every call keeps the tag in range, and the fresh tag is. Assumes nothing.
 use mathlib.Core.Path.{_≡_, refl, ap, _∙_}
 use mathlib.Core.Bool.{Bool, true, false, not, _&&_, _||_, false≢true}
-use mathlib.Core.List.{List, [], _∷_}
+use mathlib.Core.List.{List}
 use mathlib.Core.Logic.{⊎-elim}
-use Prim.Native.Nat.{ℕ, zero, suc, _<_}
-use native.Mathlib.Omega.{arith}
-use lib.Dec.{leb, ltb}
+use Prim.Native.Nat.{ℕ, _<_}
+use lib.Dec.{leb}
 use lib.ListN.{length, getD}
-use borrow.Author.Tests.{ltb-true}
+use Rattle.parts.specs.Bytes.{areBytes}
 use Rattle.parts.specs.Bits.{isSet}
+use Rattle.parts.proofs.Below.{bytes-below}
 use Rattle.parts.proofs.Bools.{and-left, and-right, and-both, or-first, or-second}
 use Rattle.parts.proofs.Picks.{pick-case}
 use Rattle.tag.specs.declared.Air.{Air}
@@ -32,15 +32,7 @@ use Rattle.model.specs.declared.Signal.{Signal}
 use Rattle.model.specs.declared.Signal.the-variants.{Wire, Field, Frame}
 use Rattle.model.specs.Signals.{signalBy}
 use Rattle.model.specs.Step.{Ended, wireSide, radioSide, withRadio, withAir, transferOpen, tagInRange, actOf, stepOf}
-use Rattle.model.specs.Claims.{areBytes, Fit, Keeps, FreshFits}
-
--- the bytes of a list
-bytes-below : (s : List ℕ) → areBytes s ≡ true → (i : ℕ) → getD s i 0 < 256
-unfolding areBytes
-bytes-below [] h zero = omega arith
-bytes-below [] h (suc i) = omega arith
-bytes-below (x ∷ s) h zero = ltb-true x 256 (and-left (ltb x 256) (areBytes s) h)
-bytes-below (x ∷ s) h (suc i) = bytes-below s (and-right (ltb x 256) (areBytes s) h) i
+use Rattle.model.specs.Claims.{Fit, Keeps, FreshFits}
 
 -- ---- the test of supply: v is VCC, e MB_EN, s session, p programming, a bus activity
 supplied-first : (v e s p a : Bool) → (v || not (e || s || p || a)) ≡ true → (v || not e) ≡ true

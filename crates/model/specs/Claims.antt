@@ -1,22 +1,17 @@
 -- What is proved of the entry points, beside their contracts.
 use mathlib.Core.Path.{_≡_}
-use mathlib.Core.Bool.{Bool, true, _&&_}
-use mathlib.Core.List.{List, [], _∷_}
+use mathlib.Core.Bool.{true}
+use mathlib.Core.List.{List}
 use Prim.Native.Nat.{ℕ, _≤_}
-use lib.Dec.{ltb}
 use lib.ListN.{length, replicate}
+use Rattle.parts.specs.Bytes.{areBytes}
 use Rattle.tag.specs.declared.Uid.{Uid}
 use Rattle.tag.specs.declared.Tag.{Tag}
 use Rattle.tag.specs.Layout.{memoryBytes, replyBytes}
 use Rattle.tag.specs.Supply.{freshTag}
 use Rattle.reply.specs.Reply.{bufferOf, answerOf}
 use Rattle.radio.specs.Radio.{radioOf}
-use Rattle.model.specs.Step.{Ended, leaves, fromRadio, radioSide, withRadio, transferOpen, tagInRange, stepOf, freshOf}
-
--- a list of bytes
-unfoldable pub areBytes : List ℕ → Bool
-areBytes [] = true
-areBytes (x ∷ s) = ltb x 256 && areBytes s
+use Rattle.model.specs.Step.{leaves, fromRadio, radioSide, withRadio, transferOpen, tagInRange, stepOf}
 
 -- the tag is in range, with 1,024 bytes
 pub record Fit (t : Tag) (m : List ℕ) : Type 0 where

@@ -24,6 +24,8 @@ use Rattle.reply.specs.declared.Answer.{Answer as RadioAnswer}
 use Rattle.reply.specs.declared.Answer.the-variants.{Silence as RadioSilence, Reply as RadioReply}
 use Rattle.reply.specs.Reply.{answerOf}
 use Rattle.radio.specs.Radio.{radioOf}
+use Rattle.model.specs.declared.Refusal.{Refusal}
+use Rattle.model.specs.declared.Refusal.the-variants.{MemoryLength, ReplyShort, SignalUnknown, OutOfRange}
 use Rattle.model.specs.declared.Answer.{Answer}
 use Rattle.model.specs.declared.Answer.the-variants.{Refused, Nothing, Ack, NoAck, Byte, Silence, Reply}
 use Rattle.model.specs.declared.Outcome.{Outcome}
@@ -46,26 +48,20 @@ abbrev pub ended : Outcome → List ℕ → List ℕ → Ended
 ended r m o = leaves (r .answer) (r .tag) m o
 
 -- ---- the answers, case by case
--- 01's table of refusals
-pub data Refusal : Type 0 where
-  memoryLength : Refusal
-  replyShort : Refusal
-  signalUnknown : Refusal
-  outOfRange : Refusal
-
+-- 01's table of refusals, "given exactly when, in this order"
 unfoldable pub number : Refusal → ℕ
 -- "tag memory is not 1,024 bytes"
-number memoryLength = 1
+number MemoryLength = 1
 -- "reply buffer is shorter than 643"
-number replyShort = 2
+number ReplyShort = 2
 -- "signal code unknown, or its value out of range"
-number signalUnknown = 3
+number SignalUnknown = 3
 -- "state breaks a range below"
-number outOfRange = 4
+number OutOfRange = 4
 
 -- "A refusal returns the number and the state handed in; every lent byte stays."
 abbrev pub refused : Refusal → Tag → List ℕ → List ℕ → Ended
-refused r t m o = leaves (Refused (number r)) t m o
+refused r t m o = leaves (Refused r) t m o
 
 -- to a wire signal: none, Ack, NoAck or a byte
 unfoldable pub fromWire : WireAnswer → Answer
@@ -117,10 +113,10 @@ actOf Frame t m o s =
 -- one call: the refusals "in this order", then the signal
 unfoldable pub stepOf : Tag → List ℕ → List ℕ → ℕ → ℕ → List ℕ → Ended
 stepOf t m o code value s =
-    pick (not (eqb (length m) memoryBytes)) (refused memoryLength t m o)
-    (pick (ltb (length o) replyBytes) (refused replyShort t m o)
-    (pick (not (signalInRange code value)) (refused signalUnknown t m o)
-    (pick (not (tagInRange t m)) (refused outOfRange t m o)
+    pick (not (eqb (length m) memoryBytes)) (refused MemoryLength t m o)
+    (pick (ltb (length o) replyBytes) (refused ReplyShort t m o)
+    (pick (not (signalInRange code value)) (refused SignalUnknown t m o)
+    (pick (not (tagInRange t m)) (refused OutOfRange t m o)
     (actOf (signalBy code value) t m o s))))
 
 -- without a reply buffer
@@ -135,5 +131,5 @@ left a t m = record { answer = a; tag = t; memory = m }
 -- the fresh tag; "all bytes .. 0". Memory of another length is refusal 1 and stays.
 unfoldable pub freshOf : Uid → List ℕ → Left
 freshOf u m =
-    pick (not (eqb (length m) memoryBytes)) (left (Refused (number memoryLength)) (freshTag u) m)
+    pick (not (eqb (length m) memoryBytes)) (left (Refused MemoryLength) (freshTag u) m)
     (left Nothing (freshTag u) (replicate memoryBytes 0))

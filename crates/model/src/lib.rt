@@ -9,7 +9,7 @@ ghost use Rattle.signal.specs.Signal.{signalOf};
 ghost use Rattle.model.specs.declared.Signal.the-variants.{Field, Frame};
 ghost use Rattle.model.specs.declared.Answer.the-variants.{Refused, Nothing};
 ghost use Rattle.model.specs.Signals.{topValue, signalInRange, signalBy};
-ghost use Rattle.model.specs.Step.{ended, left, fromWire, fromRadio, wireSide, withWire, withAir, tagInRange, actOf, stepOf, freshOf};
+ghost use Rattle.model.specs.Step.{number, ended, left, fromWire, fromRadio, wireSide, withWire, withAir, tagInRange, actOf, stepOf, freshOf};
 use reply::RadioSide;
 use tag::Tag;
 use tag::Uid;
@@ -23,9 +23,30 @@ pub enum Signal {
     Frame,
 }
 
+// Document 01's table of refusals.
+pub enum Refusal {
+    MemoryLength,
+    ReplyShort,
+    SignalUnknown,
+    OutOfRange,
+}
+
+impl Refusal {
+    // Its number in that table.
+    pub fn number(self) -> u8
+        ensures { λ r. ⌜ r ≡ number self ⌝ }
+    {
+        match self {
+            Refusal::MemoryLength => 1,
+            Refusal::ReplyShort => 2,
+            Refusal::SignalUnknown => 3,
+            Refusal::OutOfRange => 4,
+        }
+    }
+}
+
 pub enum Answer {
-    // The number of document 01's table.
-    Refused(u8),
+    Refused(Refusal),
     Nothing,
     Ack,
     NoAck,
@@ -179,11 +200,11 @@ fn in_range(t: Tag, m: &[u8]) -> bool
     ranges::in_range(t) & page::bus_in_range(bus, t.host.counter, t.core, t.host.session, m)
 }
 
-fn refused(number: u8, t: Tag) -> Outcome
-    ensures { λ r. ⌜ r ≡ record { answer = Refused number; tag = t } ⌝ }
+fn refused(why: Refusal, t: Tag) -> Outcome
+    ensures { λ r. ⌜ r ≡ record { answer = Refused why; tag = t } ⌝ }
 {
     Outcome {
-        answer: Answer::Refused(number),
+        answer: Answer::Refused(why),
         tag: t,
     }
 }
@@ -200,16 +221,16 @@ pub fn step(t: Tag, m: &mut [u8], out: &mut [u8], code: u8, value: u16, frame: &
     ensures { λ r. ⌜ ended r (now (m .exit)) (now (out .exit)) ≡ stepOf t (now (m .entry)) (now (out .entry)) code value (now (frame .entry)) ⌝ }
 {
     if !is_memory(m) {
-        return refused(1, t);
+        return refused(Refusal::MemoryLength, t);
     }
     if out.len() < tag::REPLY_BYTES {
-        return refused(2, t);
+        return refused(Refusal::ReplyShort, t);
     }
     if !signal_in_range(code, value) {
-        return refused(3, t);
+        return refused(Refusal::SignalUnknown, t);
     }
     if !in_range(t, m) {
-        return refused(4, t);
+        return refused(Refusal::OutOfRange, t);
     }
     act(signal_by(code, value), t, m, out, frame)
 }
@@ -220,7 +241,7 @@ pub fn fresh(u: Uid, m: &mut [u8]) -> Outcome
 {
     let t = Tag::fresh(u);
     if !is_memory(m) {
-        return refused(1, t);
+        return refused(Refusal::MemoryLength, t);
     }
     let zeros = [0u8; 1024];
     parts::put_bytes(m, 0, &zeros, 0, tag::MEMORY_BYTES);

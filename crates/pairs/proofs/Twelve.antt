@@ -1,41 +1,147 @@
 -- The twelve pairs, by computation. Assumes nothing.
-use mathlib.Core.Path.{refl}
-use Rattle.parts.specs.Bytes.{bytesAt, copied, agree}
+use mathlib.Core.Path.{_≡_, refl, ap, subst, _∙_}
+use mathlib.Core.Bool.{Bool, true, false, not, _&&_, false≢true}
+use mathlib.Core.List.{List, [], _∷_}
+use Prim.Native.Nat.{ℕ}
+use lib.Dec.{eqb, ltb}
+use lib.ListN.{length}
+use borrow.Author.Tests.{eqb-true}
 use Rattle.parts.specs.Pick.{pick}
-use Rattle.crc.specs.Crc.{shifted, bit, bits, byte, run, crcOf, goodFrame, closedAt}
-use Rattle.registers.specs.Defined.{definedOnly, freshRegisters}
-use Rattle.registers.specs.Map.{registerAt, withArea, withEnd, writtenArea, written}
-use Rattle.areas.specs.Ends.{areaOfBlock, areaOfByte, endsInRange, laterLargest, exceedsBefore, endAccepted, endAllows}
-use Rattle.areas.specs.Rights.{securityOf, sessionOpens, radioWrites, radioReads, wireBits, wireWrites, wireReads, isLocked, readRight, writeRight, mayRead, mayWrite}
-use Rattle.tag.specs.Bus.{isOpen, isActive, pageBytes}
-use Rattle.tag.specs.Keys.{radioPassword, withRadioPassword, freshPasswords}
-use Rattle.tag.specs.Mailbox.{controlByte, lengthByte, enabled, controlled}
-use Rattle.tag.specs.Radio.{isQuiet, isSelected, deselected, fieldAt}
-use Rattle.tag.specs.Supply.{vccAt, freshTag}
-use Rattle.ranges.specs.Ranges.{registersInRange, airInRange, mailboxInRange, suppliedInRange, hostInRange, coreInRange, wireInRange, inRange}
-use Rattle.rule.specs.PageRange.{pageAcked, busInRange}
-use Rattle.rule.specs.Rule.{memoryAcked, mailboxAcked, userAcked, writtenAll, isWritable, registerAcked, passwordAcked, systemAcked, spaceAcked, acked}
-use Rattle.rule.specs.Select.{selectOf, choose, firstOf}
-use Rattle.leg.specs.Effect.{userWritten, passwordWritten, systemWritten, legWritten, settle}
-use Rattle.leg.specs.Fetch.{memoryByte, mailboxByte, userByte, systemByte, fetched, isLast}
-use Rattle.signal.specs.Claims.{sentByte}
-use Rattle.signal.specs.Signal.{dueOf, startAt, startOf, stopAt, selectBy, dataOf, sendAt, fetchAt, signalOf}
-use Rattle.reply.specs.Reply.{answerOf, bufferOf}
-use Rattle.frame.specs.Fields.{uidPlace, paramPlace, ownUid, param, isKnown, takesOption, paramBytes}
-use Rattle.frame.specs.Judge.{isSilent, isMute, errorOf, shutOut, badFlags, wrongLength, judge}
-use Rattle.blocks.specs.Blocks.{leaves, statusOf, blockOf, blocksOf, readOf, statusesOf, statusReply}
-use Rattle.block_writes.specs.Writes.{mayWriteAll, writeOf, lockOf}
-use Rattle.config.specs.Config.{isPointer, readConfigOf, mailboxAfter, writtenCore, writeConfigOf, readDynamicOf, writeDynamicOf}
-use Rattle.message.specs.Message.{takesMessage, writeMessageOf, lengthOf, asked, mailboxAfter as messageMailboxAfter, readMessageOf}
-use Rattle.password.specs.Password.{presentOf, writePasswordOf, quietOf, selectOf as passwordSelectOf, resetOf}
-use Rattle.radio.specs.Commands.{serveOf}
-use Rattle.radio.specs.Radio.{answered, radioOf}
-use Rattle.model.specs.Claims.{areBytes}
-use Rattle.model.specs.Signals.{topValue, signalInRange, signalBy}
-use Rattle.model.specs.Step.{number, fromWire, fromRadio, tagInRange, actOf, stepOf, freshOf}
-use Rattle.waiting.specs.Calls.{entry, runBy}
-use Rattle.pairs.specs.Pairs.{Twelve, sends, valueOf, values, powered, Holds, AllHold}
+use Rattle.parts.proofs.Bools.{and-left, and-right}
+use Rattle.tag.specs.declared.Tag.{Tag}
+use Rattle.tag.specs.Layout.{replyBytes}
+use Rattle.model.specs.Signals.{signalInRange}
+use Rattle.model.specs.declared.Refusal.the-variants.{ReplyShort, SignalUnknown}
+use Rattle.model.proofs.Kept.{keeps, fresh-fits}
+use Rattle.waiting.specs.Calls.{Call, Device, device, Done, Ran, ran, entry, runBy}
+use Rattle.waiting.specs.Examples.{uid}
+use Rattle.waiting.specs.Claim.{framesFit}
+use Rattle.waiting.proofs.OneCall.{Fits, acted, refusal, call-is}
+use Rattle.waiting.proofs.Struck.{first-fits, rest-fits, fits-next}
+use Rattle.waiting.proofs.Computes.{computes}
+use Rattle.pairs.specs.Pairs.{Value, valueOf, values, Result, resultOf, Part, Pair, crcIs, goes, HoldFrom, freshDevice, supplies, Holds, AllHold, pair1, pair2, pair3, pair4, pair4wire, pair5, pair6, pair7, pair8, pair9, pair9more, pair10, pair11, pair12, twelve, Twelve}
+
+-- ---- from a tag in range refusals 1 and 4 never come, so no call need judge them: that is what would take long
+unfoldable unranged : Device → Call → Done
+unranged d c =
+    pick (ltb (length (c .buffer)) replyBytes) (refusal ReplyShort d c)
+    (pick (not (signalInRange (c .code) (c .value))) (refusal SignalUnknown d c) (acted d c))
+
+record Runs (d : Device) (cs : List Call) : Type 0 where
+  same : runBy entry d cs ≡ runBy unranged d cs
+  fits : Fits (runBy entry d cs .device)
+
+abbrev then : Done → List Call → Ran
+then e cs = ran (e .says ∷ runBy unranged (e .device) cs .answers) (runBy unranged (e .device) cs .device)
+
+runs : (cs : List Call) (d : Device) → framesFit cs ≡ true → Fits d → Runs d cs
+unfolding runBy unranged
+runs [] d b f = record { same = refl; fits = f }
+runs (c ∷ cs) d b f =
+    let r = runs cs (entry d c .device) (rest-fits c cs b) (fits-next keeps d c (first-fits c cs b) f) in
+    record {
+      same = ap (λ (r : Ran). ran (entry d c .says ∷ r .answers) (r .device)) (r .same) ∙ ap (λ (e : Done). then e cs) (call-is d c f);
+      fits = r .fits;
+    }
+
+-- ---- two lists of bytes are the same: a test, which computes faster than the lists compare
+unfoldable sameBytes : List ℕ → List ℕ → Bool
+sameBytes [] [] = true
+sameBytes [] (y ∷ ys) = false
+sameBytes (x ∷ xs) [] = false
+sameBytes (x ∷ xs) (y ∷ ys) = eqb x y && sameBytes xs ys
+
+same-bytes : (xs ys : List ℕ) → sameBytes xs ys ≡ true → xs ≡ ys
+unfolding sameBytes
+same-bytes [] [] h = refl
+same-bytes [] (y ∷ ys) h = absurd (false≢true h)
+same-bytes (x ∷ xs) [] h = absurd (false≢true h)
+same-bytes (x ∷ xs) (y ∷ ys) h =
+    ap (λ (z : ℕ). z ∷ xs) (eqb-true x y (and-left (eqb x y) (sameBytes xs ys) h))
+    ∙ ap (λ (zs : List ℕ). y ∷ zs) (same-bytes xs ys (and-right (eqb x y) (sameBytes xs ys) h))
+
+-- ---- so a part holds if it holds by these
+record Seen : Type 0 where
+  frames : Bool
+  answers : List Value
+  tag : Tag
+  memory : Bool
+
+-- what a run shows of a part, and what it should
+abbrev seenIn : Ran → Part → Seen
+seenIn r p =
+    record { frames = framesFit (p .calls); answers = values (r .answers); tag = r .device .tag; memory = sameBytes (r .device .memory) (p .result .leaves .memory) }
+
+abbrev Computed : Device → Part → Type 0
+Computed d p =
+    seenIn (runBy unranged d (p .calls)) p ≡ record { frames = true; answers = p .result .answers; tag = p .result .leaves .tag; memory = true }
+
+abbrev result : List Value → Tag → List ℕ → Result
+result vs t m = record { answers = vs; leaves = device t m }
+
+frames-fit : (p : Part) (d : Device) → Computed d p → framesFit (p .calls) ≡ true
+frames-fit p d c = ap (λ (s : Seen). s .frames) c
+
+part-holds : (p : Part) (d : Device) → Fits d → Computed d p → resultOf (runBy entry d (p .calls)) ≡ p .result
+part-holds p d f c =
+    let r = runBy unranged d (p .calls) in
+    let x = p .result in
+    ap resultOf (runs (p .calls) d (frames-fit p d c) f .same)
+    ∙ ap (λ (s : Seen). result (s .answers) (s .tag) (r .device .memory)) c
+    ∙ ap (λ (m : List ℕ). result (x .answers) (x .leaves .tag) m) (same-bytes (r .device .memory) (x .leaves .memory) (ap (λ (s : Seen). s .memory) c))
+
+unfoldable ComputedFrom : Device → List Part → Type 0
+ComputedFrom d [] = Unit {0}
+ComputedFrom d (p ∷ ps) = Computed d p × ComputedFrom (p .result .leaves) ps
+
+hold-from : (ps : List Part) (d : Device) → Fits d → ComputedFrom d ps → HoldFrom d ps
+unfolding HoldFrom ComputedFrom
+hold-from [] d f c = tt
+hold-from (p ∷ ps) d f (c, cs) =
+    let e = part-holds p d f c in
+    (e, hold-from ps (p .result .leaves) (subst Fits (ap (λ (x : Result). x .leaves) e) (runs (p .calls) d (frames-fit p d c) f .fits)) cs)
+
+unfoldable PairComputed : Pair → Type 0
+PairComputed (crcIs s n) = Holds (crcIs s n)
+PairComputed (goes ps) = ComputedFrom freshDevice (supplies ∷ ps)
+
+pair-holds : (p : Pair) → PairComputed p → Holds p
+unfolding Holds PairComputed
+pair-holds (crcIs s n) c = c
+pair-holds (goes ps) c = hold-from (supplies ∷ ps) freshDevice (fresh-fits uid) c
+
+infixr 20 _also_
+data AllComputed : List Pair → Type 0 where
+  no-more : AllComputed []
+  _also_ : {p : Pair} {ps : List Pair} → PairComputed p → AllComputed ps → AllComputed (p ∷ ps)
+
+all-hold : {ps : List Pair} → AllComputed ps → AllHold ps
+unfolding AllHold
+all-hold no-more = tt
+all-hold (_also_ {p = p} c cs) = (pair-holds p c, all-hold cs)
+
+-- ---- the claim: a `refl` for each part, the supplies before the others
+abbrev by : (p : Pair) → PairComputed p → PairComputed p
+by p c = c
+
+all-computed : AllComputed twelve
+unfolding computes valueOf values unranged sameBytes Holds ComputedFrom PairComputed
+all-computed =
+    by pair1 refl
+    also by pair2 (refl, (refl, tt))
+    also by pair3 (refl, (refl, (refl, tt)))
+    also by pair4 (refl, (refl, (refl, (refl, tt))))
+    also by pair4wire (refl, (refl, (refl, (refl, (refl, tt)))))
+    also by pair5 (refl, (refl, (refl, (refl, (refl, tt)))))
+    also by pair6 (refl, (refl, tt))
+    also by pair7 (refl, (refl, tt))
+    also by pair8 (refl, (refl, tt))
+    also by pair9 (refl, (refl, (refl, tt)))
+    also by pair9more (refl, (refl, (refl, (refl, tt))))
+    also by pair10 (refl, (refl, (refl, (refl, (refl, tt)))))
+    also by pair11 (refl, (refl, (refl, tt)))
+    also by pair12 (refl, (refl, (refl, tt)))
+    also no-more
 
 pub twelve-hold : Twelve
-unfolding bytesAt copied agree pick shifted bit bits byte run crcOf goodFrame closedAt definedOnly freshRegisters registerAt withArea withEnd writtenArea written areaOfBlock areaOfByte endsInRange laterLargest exceedsBefore endAccepted endAllows securityOf sessionOpens radioWrites radioReads wireBits wireWrites wireReads isLocked readRight writeRight mayRead mayWrite isOpen isActive pageBytes radioPassword withRadioPassword freshPasswords controlByte lengthByte enabled controlled isQuiet isSelected deselected fieldAt vccAt freshTag registersInRange airInRange mailboxInRange suppliedInRange hostInRange coreInRange wireInRange inRange pageAcked busInRange memoryAcked mailboxAcked userAcked writtenAll isWritable registerAcked passwordAcked systemAcked spaceAcked acked selectOf choose firstOf userWritten passwordWritten systemWritten legWritten settle memoryByte mailboxByte userByte systemByte fetched isLast sentByte dueOf startAt startOf stopAt selectBy dataOf sendAt fetchAt signalOf answerOf bufferOf uidPlace paramPlace ownUid param isKnown takesOption paramBytes isSilent isMute errorOf shutOut badFlags wrongLength judge leaves statusOf blockOf blocksOf readOf mayWriteAll writeOf lockOf statusesOf statusReply isPointer readConfigOf mailboxAfter writtenCore writeConfigOf readDynamicOf writeDynamicOf takesMessage writeMessageOf lengthOf asked messageMailboxAfter readMessageOf presentOf writePasswordOf quietOf passwordSelectOf resetOf serveOf answered radioOf areBytes topValue signalInRange signalBy number fromWire fromRadio tagInRange actOf stepOf freshOf entry runBy sends valueOf values powered Holds AllHold
-twelve-hold = (refl, (refl, (refl, (refl, (refl, (refl, (refl, (refl, (refl, (refl, (refl, (refl, (refl, (refl, tt))))))))))))))
+twelve-hold = all-hold all-computed

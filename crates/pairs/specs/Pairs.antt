@@ -1,51 +1,24 @@
 -- "Pairs either side of an edge. Frames without CRC, from a fresh powered tag in the field."
 use mathlib.Core.Path.{_≡_}
+use mathlib.Core.Bool.{true, false}
 use mathlib.Core.List.{List, [], _∷_, _++_}
 use Prim.Native.Nat.{ℕ}
 use lib.ListN.{replicate, take}
-use Rattle.tag.specs.declared.Uid.{Uid}
-use Rattle.tag.specs.Layout.{memoryBytes, replyBytes}
+use Rattle.tag.specs.declared.RadioState.the-variants.{Ready}
+use Rattle.tag.specs.declared.Space.the-variants.{User}
+use Rattle.tag.specs.declared.Bus.the-variants.{WriteLeg, DataLeg}
+use Rattle.tag.specs.Layout.{memoryBytes}
 use Rattle.tag.specs.Supply.{freshTag}
 use Rattle.crc.specs.Crc.{crcOf, closed}
 use Rattle.model.specs.declared.Answer.{Answer}
+use Rattle.model.specs.declared.Refusal.{Refusal}
 use Rattle.model.specs.declared.Answer.the-variants.{Refused, Nothing, Ack, NoAck, Byte, Silence, Reply}
-use Rattle.waiting.specs.Calls.{Call, Said, Device, device, entry, runBy}
-
--- ---- calls, each with a reply buffer of 643 zeros
-abbrev pub call : ℕ → ℕ → List ℕ → Call
-call code value s = record { buffer = replicate replyBytes 0; code = code; value = value; frame = s }
-
-abbrev pub start : Call
-start = call 3 0 []
-
-abbrev pub send : ℕ → Call
-send x = call 4 x []
-
--- a fetch with the host's Ack, and without
-abbrev pub fetch : Call
-fetch = call 5 1 []
-
-abbrev pub fetchLast : Call
-fetchLast = call 5 0 []
-
-abbrev pub stop : Call
-stop = call 6 0 []
-
-abbrev pub programmed : Call
-programmed = call 7 0 []
-
--- a frame, with its CRC
-abbrev pub frame : List ℕ → Call
-frame s = call 8 0 (closed s)
-
--- bytes sent, one after the other
-unfoldable pub sends : List ℕ → List Call
-sends [] = []
-sends (x ∷ s) = send x ∷ sends s
+use Rattle.waiting.specs.Calls.{Call, Said, Device, device, Ran, entry, runBy}
+use Rattle.waiting.specs.Examples.{zeros, vccTo, fieldTo, start, send, sends, fetch, fetchLast, stop, programmingEnd, frame, uid, powered, _but_, radioState, radioSession, i2cSession, beingProgrammed, counterAt, onBus, areaEnds, areaRights, mailboxMode, hostMessage, bytes}
 
 -- ---- answers by value: a reply is its bytes, CRC included
 pub data Value : Type 0 where
-  refused : ℕ → Value
+  refused : Refusal → Value
   none : Value
   ack : Value
   noAck : Value
@@ -54,7 +27,7 @@ pub data Value : Type 0 where
   replied : List ℕ → Value
 
 unfoldable pub valueOf : Answer → List ℕ → Value
-valueOf (Refused n) o = refused n
+valueOf (Refused r) o = refused r
 valueOf Nothing o = none
 valueOf Ack o = ack
 valueOf NoAck o = noAck
@@ -70,30 +43,47 @@ values (a ∷ s) = valueOf (a .answer) (a .buffer) ∷ values s
 abbrev pub reply : List ℕ → Value
 reply s = replied (closed s)
 
--- ---- the fresh tag, then VCC 1 and field 1
-abbrev pub uid : Uid
-uid = record { bytes = 0x01 ∷ 0x02 ∷ 0x03 ∷ 0x04 ∷ 0x05 ∷ 0x24 ∷ 0x02 ∷ 0xE0 ∷ [] }
-
-unfoldable pub powered : Device
-powered = runBy entry (device (freshTag uid) (replicate memoryBytes 0)) (call 1 1 [] ∷ call 2 1 [] ∷ []) .device
-
 -- ---- what a pair says
+-- the answers to a list of calls, and the tag that it leaves: state and all 1,024 bytes
+pub record Result : Type 0 where
+  pub answers : List Value
+  pub leaves : Device
+
+abbrev pub resultOf : Ran → Result
+resultOf r = record { answers = values (r .answers); leaves = r .device }
+
+pub record Part : Type 0 where
+  pub calls : List Call
+  pub result : Result
+
+abbrev pub part : List Call → List Value → Device → Part
+part cs vs d = record { calls = cs; result = record { answers = vs; leaves = d } }
+
 pub data Pair : Type 0 where
   crcIs : List ℕ → ℕ → Pair
-  answersAre : List Call → List Value → Pair
+  goes : List Part → Pair
+
+-- the parts of a pair, each from the tag that the one before it leaves
+unfoldable pub HoldFrom : Device → List Part → Type 0
+HoldFrom d [] = Unit {0}
+HoldFrom d (p ∷ ps) = (resultOf (runBy entry d (p .calls)) ≡ p .result) × HoldFrom (p .result .leaves) ps
+
+-- the fresh tag gets VCC and field first
+abbrev pub freshDevice : Device
+freshDevice = device (freshTag uid) (zeros memoryBytes)
+
+abbrev pub supplies : Part
+supplies = part (vccTo 1 ∷ fieldTo 1 ∷ []) (none ∷ none ∷ []) powered
 
 unfoldable pub Holds : Pair → Type 0
 Holds (crcIs s n) = crcOf s ≡ n
-Holds (answersAre cs vs) = values (runBy entry powered cs .answers) ≡ vs
+Holds (goes ps) = HoldFrom freshDevice (supplies ∷ ps)
 
 unfoldable pub AllHold : List Pair → Type 0
 AllHold [] = Unit {0}
 AllHold (p ∷ ps) = Holds p × AllHold ps
 
 -- ---- parts that several pairs begin with
-abbrev pub zeros : ℕ → List ℕ
-zeros n = replicate n 0
-
 -- password n presented by radio, all zeros
 abbrev pub present : ℕ → Call
 present n = frame (0x02 ∷ 0xB3 ∷ 0x02 ∷ n ∷ zeros 8)
@@ -108,6 +98,9 @@ good = reply (0x00 ∷ [])
 abbrev pub error : ℕ → Value
 error code = reply (0x01 ∷ code ∷ [])
 
+abbrev pub readBlock : ℕ → Call
+readBlock b = frame (0x02 ∷ 0x20 ∷ b ∷ [])
+
 -- a block of zeros
 abbrev pub block : Value
 block = reply (0x00 ∷ zeros 4)
@@ -119,104 +112,130 @@ at select high low = start ∷ send select ∷ send high ∷ send low ∷ []
 abbrev pub acks : List Value
 acks = none ∷ ack ∷ ack ∷ ack ∷ []
 
--- the I2C password presented, all zeros
-abbrev pub presentI2c : List Call
-presentI2c = at 0xAE 0x09 0x00 ++ sends (zeros 8 ++ 0x09 ∷ zeros 8) ++ stop ∷ []
-
-abbrev pub presented : List Value
-presented = acks ++ replicate 17 ack ++ none ∷ []
-
--- a read from an address on
-abbrev pub readAt : ℕ → ℕ → List Call
-readAt high low = at 0xA6 high low ++ start ∷ send 0xA7 ∷ []
-
-abbrev pub readAcks : List Value
-readAcks = acks ++ none ∷ ack ∷ []
-
 -- ---- 1. "CRC of ASCII 123456789 is 906Eh."
 abbrev pub pair1 : Pair
 pair1 = crcIs (0x31 ∷ 0x32 ∷ 0x33 ∷ 0x34 ∷ 0x35 ∷ 0x36 ∷ 0x37 ∷ 0x38 ∷ 0x39 ∷ []) 0x906E
 
 -- 2. "02 20 7F: 00 and four zeros. 02 20 80: 01 10."
 abbrev pub pair2 : Pair
-pair2 = answersAre
-    (frame (0x02 ∷ 0x20 ∷ 0x7F ∷ []) ∷ frame (0x02 ∷ 0x20 ∷ 0x80 ∷ []) ∷ [])
-    (block ∷ error 0x10 ∷ [])
+pair2 = goes (part (readBlock 0x7F ∷ readBlock 0x80 ∷ []) (block ∷ error 0x10 ∷ []) powered ∷ [])
 
 -- 3. "ENDA1 0: 02 23 07 00 gives block 7; 02 23 07 01 gives 01 0F."
+abbrev pub firstEnd0 : Device
+firstEnd0 = powered but radioSession 1 but areaEnds 0 0x0F 0x0F
+
+abbrev pub setFirstEnd : Part
+setFirstEnd = part (present 0 ∷ config 0x05 0 ∷ []) (good ∷ good ∷ []) firstEnd0
+
 abbrev pub pair3 : Pair
-pair3 = answersAre
-    (present 0 ∷ config 0x05 0 ∷ frame (0x02 ∷ 0x23 ∷ 0x07 ∷ 0x00 ∷ []) ∷ frame (0x02 ∷ 0x23 ∷ 0x07 ∷ 0x01 ∷ []) ∷ [])
-    (good ∷ good ∷ block ∷ error 0x0F ∷ [])
+pair3 = goes (setFirstEnd
+    ∷ part (frame (0x02 ∷ 0x23 ∷ 0x07 ∷ 0x00 ∷ []) ∷ frame (0x02 ∷ 0x23 ∷ 0x07 ∷ 0x01 ∷ []) ∷ []) (block ∷ error 0x0F ∷ []) firstEnd0
+    ∷ [])
 
 -- 4. "Then ENDA2 0 refused; 1 accepted.": by radio, and by wire
 abbrev pub pair4 : Pair
-pair4 = answersAre
-    (present 0 ∷ config 0x05 0 ∷ config 0x07 0 ∷ config 0x07 1 ∷ [])
-    (good ∷ good ∷ error 0x0F ∷ good ∷ [])
+pair4 = goes (setFirstEnd
+    ∷ part (config 0x07 0 ∷ []) (error 0x0F ∷ []) firstEnd0
+    ∷ part (config 0x07 1 ∷ []) (good ∷ []) (firstEnd0 but areaEnds 0 1 0x0F)
+    ∷ [])
+
+-- the session opens; each byte sent stands in the page, the code 09h in place 8
+abbrev pub sessionOpen : Device
+sessionOpen = powered but i2cSession but counterAt 0x0911 but bytes [] [] (zeros 8 ++ 0x09 ∷ [])
+
+abbrev pub presentI2c : Part
+presentI2c = part (at 0xAE 0x09 0x00 ++ sends (zeros 8 ++ 0x09 ∷ zeros 8) ++ stop ∷ []) (acks ++ replicate 17 ack ++ none ∷ []) sessionOpen
+
+abbrev pub firstEnd0wire : Device
+firstEnd0wire = sessionOpen but areaEnds 0 0x0F 0x0F
 
 abbrev pub pair4wire : Pair
-pair4wire = answersAre
-    (presentI2c ++ at 0xAE 0x00 0x05 ++ send 0 ∷ stop ∷ programmed ∷ [] ++ at 0xAE 0x00 0x07 ++ send 0 ∷ stop ∷ [] ++ at 0xAE 0x00 0x07 ++ send 1 ∷ stop ∷ [])
-    (presented ++ acks ++ ack ∷ none ∷ none ∷ [] ++ acks ++ noAck ∷ none ∷ [] ++ acks ++ ack ∷ none ∷ [])
+pair4wire = goes (presentI2c
+    ∷ part (at 0xAE 0x00 0x05 ++ send 0 ∷ stop ∷ programmingEnd ∷ []) (acks ++ ack ∷ none ∷ none ∷ []) (firstEnd0wire but counterAt 0x0006)
+    ∷ part (at 0xAE 0x00 0x07 ++ send 0 ∷ stop ∷ []) (acks ++ noAck ∷ none ∷ []) (firstEnd0wire but counterAt 0x0007)
+    ∷ part (at 0xAE 0x00 0x07 ++ send 1 ∷ stop ∷ []) (acks ++ ack ∷ none ∷ [])
+    (firstEnd0wire but areaEnds 0 1 0x0F but beingProgrammed but counterAt 0x0008 but bytes [] [] (1 ∷ zeros 7 ++ 0x09 ∷ []))
+    ∷ [])
 
 -- 5. "RFA2SS 09h, ENDA1 0: block 8 gives 15h; after password 1, data; Present 4 changes nothing; after password 2, 15h."
-abbrev pub readBlock : ℕ → Call
-readBlock b = frame (0x02 ∷ 0x20 ∷ b ∷ [])
+abbrev pub protected : Device
+protected = powered but areaRights 0 0x09 0 0 but areaEnds 0 0x0F 0x0F
 
 abbrev pub pair5 : Pair
-pair5 = answersAre
-    (present 0 ∷ config 0x06 0x09 ∷ config 0x05 0 ∷ readBlock 8 ∷ present 1 ∷ readBlock 8 ∷ present 4 ∷ readBlock 8 ∷ present 2 ∷ readBlock 8 ∷ [])
-    (good ∷ good ∷ good ∷ error 0x15 ∷ good ∷ block ∷ error 0x10 ∷ block ∷ good ∷ error 0x15 ∷ [])
+pair5 = goes (part (present 0 ∷ config 0x06 0x09 ∷ config 0x05 0 ∷ readBlock 8 ∷ []) (good ∷ good ∷ good ∷ error 0x15 ∷ []) (protected but radioSession 1)
+    ∷ part (present 1 ∷ readBlock 8 ∷ []) (good ∷ block ∷ []) (protected but radioSession 2)
+    ∷ part (present 4 ∷ []) (error 0x10 ∷ []) (protected but radioSession 2)
+    ∷ part (readBlock 8 ∷ present 2 ∷ readBlock 8 ∷ []) (block ∷ good ∷ error 0x15 ∷ []) (protected but radioSession 3)
+    ∷ [])
 
 -- 6. "RFA1SS 09h: block 0 readable."
 abbrev pub pair6 : Pair
-pair6 = answersAre (present 0 ∷ config 0x04 0x09 ∷ readBlock 0 ∷ []) (good ∷ good ∷ block ∷ [])
+pair6 = goes (part (present 0 ∷ config 0x04 0x09 ∷ readBlock 0 ∷ []) (good ∷ good ∷ block ∷ []) (powered but radioSession 1 but areaRights 0x09 0 0 0) ∷ [])
 
 -- 7. "02 2C 7E 05: 00 00 00."
 abbrev pub pair7 : Pair
-pair7 = answersAre (frame (0x02 ∷ 0x2C ∷ 0x7E ∷ 0x05 ∷ []) ∷ []) (reply (0x00 ∷ 0x00 ∷ 0x00 ∷ []) ∷ [])
+pair7 = goes (part (frame (0x02 ∷ 0x2C ∷ 0x7E ∷ 0x05 ∷ []) ∷ []) (reply (0x00 ∷ 0x00 ∷ 0x00 ∷ []) ∷ []) powered ∷ [])
 
--- 8. "Two bytes at 01FFh: Ack, NoAck; nothing written."
+-- 8. "Two bytes at 01FFh: Ack, NoAck; nothing written.": the first one stands in the page
 abbrev pub pair8 : Pair
-pair8 = answersAre
-    (at 0xA6 0x01 0xFF ++ send 0x5A ∷ send 0xA5 ∷ stop ∷ [] ++ readAt 0x01 0xFF ++ fetchLast ∷ stop ∷ [])
-    (acks ++ ack ∷ noAck ∷ none ∷ [] ++ readAcks ++ byte 0x00 ∷ none ∷ [])
+pair8 = goes (part (at 0xA6 0x01 0xFF ++ send 0x5A ∷ send 0xA5 ∷ stop ∷ []) (acks ++ ack ∷ noAck ∷ none ∷ [])
+    (powered but counterAt 0x0200 but bytes [] [] (0x5A ∷ []))
+    ∷ [])
 
--- 9. "256 bytes at 0: all Acked; a 257th spoils the leg.": byte 255 is read afterwards
+-- 9. "256 bytes at 0: all Acked; a 257th spoils the leg.": with a Stop after each
+abbrev pub pageFull : Device
+pageFull = powered but counterAt 0x0100 but bytes [] [] (replicate 256 0x5A)
+
+abbrev pub fillPage : Part
+fillPage = part (at 0xA6 0x00 0x00 ++ sends (replicate 256 0x5A)) (acks ++ replicate 256 ack) (pageFull but onBus (DataLeg User 256 false))
+
 abbrev pub pair9 : Pair
-pair9 = answersAre
-    (at 0xA6 0x00 0x00 ++ sends (replicate 256 0x5A) ++ stop ∷ programmed ∷ [] ++ readAt 0x00 0xFF ++ fetchLast ∷ stop ∷ [])
-    (acks ++ replicate 256 ack ++ none ∷ none ∷ [] ++ readAcks ++ byte 0x5A ∷ none ∷ [])
+pair9 = goes (fillPage
+    ∷ part (stop ∷ []) (none ∷ []) (pageFull but beingProgrammed but bytes (replicate 256 0x5A) [] (replicate 256 0x5A))
+    ∷ [])
 
+-- spoiled: nothing written
 abbrev pub pair9more : Pair
-pair9more = answersAre
-    (at 0xA6 0x00 0x00 ++ sends (replicate 257 0x5A) ++ stop ∷ [] ++ readAt 0x00 0xFF ++ fetchLast ∷ stop ∷ [])
-    (acks ++ replicate 256 ack ++ noAck ∷ none ∷ [] ++ readAcks ++ byte 0x00 ∷ none ∷ [])
+pair9more = goes (fillPage
+    ∷ part (send 0x5A ∷ []) (noAck ∷ []) (pageFull but onBus (DataLeg User 256 true))
+    ∷ part (stop ∷ []) (none ∷ []) pageFull
+    ∷ [])
 
--- 10. "A 3-byte host message: AC 02 at 02,00 gives its last byte; at 03,00 and FF,00 01 0F."
+-- 10. "A 3-byte host message: AC 02 at 02,00 gives its last byte; at 03,00 and FF,00 01 0F.": reading the last byte clears HOST_PUT
 abbrev pub readMessage : ℕ → ℕ → Call
 readMessage p n = frame (0x02 ∷ 0xAC ∷ 0x02 ∷ p ∷ n ∷ [])
 
+abbrev pub message : List ℕ
+message = 0x11 ∷ 0x22 ∷ 0x33 ∷ []
+
+abbrev pub mailed : Device
+mailed = powered but radioSession 1 but mailboxMode 1 but counterAt 0x200B but bytes [] message message
+
 abbrev pub pair10 : Pair
-pair10 = answersAre
-    (present 0 ∷ config 0x0D 1 ∷ at 0xA6 0x20 0x06 ++ send 0x01 ∷ stop ∷ [] ++ at 0xA6 0x20 0x08 ++ sends (0x11 ∷ 0x22 ∷ 0x33 ∷ []) ++ stop ∷ readMessage 0x02 0x00 ∷ readMessage 0x03 0x00 ∷ readMessage 0xFF 0x00 ∷ [])
-    (good ∷ good ∷ acks ++ ack ∷ none ∷ [] ++ acks ++ replicate 3 ack ++ none ∷ reply (0x00 ∷ 0x33 ∷ []) ∷ error 0x0F ∷ error 0x0F ∷ [])
+pair10 = goes (part (present 0 ∷ config 0x0D 1 ∷ []) (good ∷ good ∷ []) (powered but radioSession 1 but mailboxMode 1)
+    ∷ part (at 0xA6 0x20 0x06 ++ send 0x01 ∷ stop ∷ [] ++ at 0xA6 0x20 0x08 ++ sends message ++ stop ∷ [])
+    (acks ++ ack ∷ none ∷ [] ++ acks ++ replicate 3 ack ++ none ∷ []) (mailed but hostMessage 3 true)
+    ∷ part (readMessage 0x02 0x00 ∷ []) (reply (0x00 ∷ 0x33 ∷ []) ∷ []) (mailed but hostMessage 3 false)
+    ∷ part (readMessage 0x03 0x00 ∷ readMessage 0xFF 0x00 ∷ []) (error 0x0F ∷ error 0x0F ∷ []) (mailed but hostMessage 3 false)
+    ∷ [])
 
 -- 11. "Fetch at FFFFh: FFh, then byte 0.": byte 0 is written first
-abbrev pub pair11 : Pair
-pair11 = answersAre
-    (at 0xA6 0x00 0x00 ++ send 0x5A ∷ stop ∷ programmed ∷ [] ++ readAt 0xFF 0xFF ++ fetch ∷ fetchLast ∷ stop ∷ [])
-    (acks ++ ack ∷ none ∷ none ∷ [] ++ readAcks ++ byte 0xFF ∷ byte 0x5A ∷ none ∷ [])
+abbrev pub byteWritten : Device
+byteWritten = powered but counterAt 0x0001 but bytes (0x5A ∷ []) [] (0x5A ∷ [])
 
--- 12. "Stay Quiet, addressed, in an open transfer: silence, still Ready.": a Quiet tag would not answer the last frame
+abbrev pub pair11 : Pair
+pair11 = goes (part (at 0xA6 0x00 0x00 ++ send 0x5A ∷ stop ∷ programmingEnd ∷ []) (acks ++ ack ∷ none ∷ none ∷ []) byteWritten
+    ∷ part (at 0xA6 0xFF 0xFF ++ start ∷ send 0xA7 ∷ fetch ∷ fetchLast ∷ stop ∷ []) (acks ++ none ∷ ack ∷ byte 0xFF ∷ byte 0x5A ∷ none ∷ []) byteWritten
+    ∷ [])
+
+-- 12. "Stay Quiet, addressed, in an open transfer: silence, still Ready."
 abbrev pub stayQuiet : Call
 stayQuiet = frame (0x22 ∷ 0x02 ∷ (uid .bytes))
 
 abbrev pub pair12 : Pair
-pair12 = answersAre
-    (start ∷ send 0xA6 ∷ stayQuiet ∷ stop ∷ readBlock 0 ∷ [])
-    (none ∷ ack ∷ silence ∷ none ∷ block ∷ [])
+pair12 = goes (part (start ∷ send 0xA6 ∷ stayQuiet ∷ []) (none ∷ ack ∷ silence ∷ []) (powered but radioState Ready but onBus (WriteLeg User))
+    ∷ part (stop ∷ readBlock 0 ∷ []) (none ∷ block ∷ []) powered
+    ∷ [])
 
 -- ---- all twelve
 abbrev pub twelve : List Pair

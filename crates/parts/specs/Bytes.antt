@@ -3,7 +3,7 @@
 use mathlib.Core.Bool.{Bool, true, _&&_}
 use mathlib.Core.List.{List, [], _∷_, _++_}
 use Prim.Native.Nat.{ℕ, zero, suc, _+_}
-use lib.Dec.{eqb}
+use lib.Dec.{ltb, eqb}
 use lib.ListN.{getD, set}
 
 -- the n bytes of s from place `at` on
@@ -20,3 +20,8 @@ copied m to from (suc n) = set (copied m to from n) (to + n) (getD (copied m to 
 unfoldable pub agree : ℕ → List ℕ → List ℕ → Bool
 agree zero x y = true
 agree (suc n) x y = agree n x y && eqb (getD x n 0) (getD y n 0)
+
+-- every number of a list is a byte
+unfoldable pub areBytes : List ℕ → Bool
+areBytes [] = true
+areBytes (x ∷ s) = ltb x 256 && areBytes s

@@ -6,6 +6,7 @@ use lib.Dec.{ltb, eqb}
 use Rattle.parts.specs.Pick.{pick}
 use Rattle.tag.specs.Radio.{withSession, selected, deselected, quieted, reset}
 use Rattle.tag.specs.Keys.{passwordAt, samePassword, radioPassword, withRadioPassword}
+use Rattle.errors.specs.declared.RadioError.the-variants.{NoSuchPassword, WrongPassword, PasswordSessionClosed}
 use Rattle.reply.specs.declared.RadioSide.{RadioSide}
 use Rattle.reply.specs.Reply.{nothing, good, fault}
 use Rattle.reply.specs.Outcome.{Told, told, fails, withAir, sidePasswords}
@@ -13,15 +14,15 @@ use Rattle.reply.specs.Outcome.{Told, told, fails, withAir, sidePasswords}
 -- "B3 Present (n, 8 bytes): 10h n above 3, session kept; wrong: session closed, 0Fh"; the password stands at place `at` of the frame
 unfoldable pub presentOf : RadioSide → List ℕ → ℕ → List ℕ → ℕ → Told
 presentOf s m n frame at =
-    pick (ltb 3 n) (fails 0x10 s m)
-    (pick (not (samePassword (radioPassword (s .core .passwords) n) (passwordAt frame at))) (told (fault 0x0F) (withAir (withSession 0 (s .air)) s) m)
+    pick (ltb 3 n) (fails NoSuchPassword s m)
+    (pick (not (samePassword (radioPassword (s .core .passwords) n) (passwordAt frame at))) (told (fault WrongPassword) (withAir (withSession 0 (s .air)) s) m)
     (told (good []) (withAir (withSession (n + 1) (s .air)) s) m))
 
 -- "B1 Write Password: 10h; 12h unless session n"
 unfoldable pub writePasswordOf : RadioSide → List ℕ → ℕ → List ℕ → ℕ → Told
 writePasswordOf s m n frame at =
-    pick (ltb 3 n) (fails 0x10 s m)
-    (pick (not (eqb (s .air .session) (n + 1))) (fails 0x12 s m)
+    pick (ltb 3 n) (fails NoSuchPassword s m)
+    (pick (not (eqb (s .air .session) (n + 1))) (fails PasswordSessionClosed s m)
     (told (good []) (sidePasswords (withRadioPassword n (passwordAt frame at) (s .core .passwords)) s) m))
 
 -- "02 Stay Quiet: Quiet; silent"

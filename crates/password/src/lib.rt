@@ -2,6 +2,7 @@
 ghost use mathlib.Core.Path.{_≡_};
 ghost use Rattle.reply.specs.Outcome.{ended, finish};
 ghost use Rattle.password.specs.Password.{presentOf, writePasswordOf, quietOf, selectOf, resetOf};
+use errors::RadioError;
 use reply::Answer;
 use reply::Outcome;
 use reply::RadioSide;
@@ -16,7 +17,7 @@ pub fn present(s: RadioSide, m: &[u8], out: &mut [u8], n: u8, frame: &[u8], at: 
 {
     if LAST < n {
         return Outcome {
-            answer: reply::error(out, 0x10),
+            answer: reply::error(out, RadioError::NoSuchPassword),
             side: s,
         };
     }
@@ -24,7 +25,7 @@ pub fn present(s: RadioSide, m: &[u8], out: &mut [u8], n: u8, frame: &[u8], at: 
     if !s.core.passwords.radio(n).equals(Password::at(frame, at)) {
         let closed = s.with_air(air.with_session(0));
         return Outcome {
-            answer: reply::error(out, 0x0F),
+            answer: reply::error(out, RadioError::WrongPassword),
             side: closed,
         };
     }
@@ -41,13 +42,13 @@ pub fn write(s: RadioSide, m: &[u8], out: &mut [u8], n: u8, frame: &[u8], at: us
 {
     if LAST < n {
         return Outcome {
-            answer: reply::error(out, 0x10),
+            answer: reply::error(out, RadioError::NoSuchPassword),
             side: s,
         };
     }
     if s.air.session != n + 1 {
         return Outcome {
-            answer: reply::error(out, 0x12),
+            answer: reply::error(out, RadioError::PasswordSessionClosed),
             side: s,
         };
     }

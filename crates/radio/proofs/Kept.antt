@@ -240,7 +240,7 @@ module _ (vcc : Bool) (t : RadioSide) (m : List ℕ) (f : Fits vcc t) where
   answer-kept : (v : Verdict) (u : Uid) (s : List ℕ) → ((i : ℕ) → getD s i 0 < 256) → K (answered v t u vcc m s)
   unfolding answered param
   answer-kept Silence u s b = same _
-  answer-kept (Error code) u s b = same _
+  answer-kept (Error e) u s b = same _
   answer-kept Request u s b = serve-kept (requestOf s u) s (b _)
 
 pub keeps : Keeps

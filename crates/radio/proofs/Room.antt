@@ -160,7 +160,7 @@ serve-small q t vcc m s r =
 answered-small : (v : Verdict) (t : RadioSide) (u : Uid) (vcc : Bool) (m s : List ℕ) → mailboxInRange (t .core .mailbox) ≡ true → Small (answered v t u vcc m s)
 unfolding answered replySize
 answered-small Silence t u vcc m s r = omega arith
-answered-small (Error code) t u vcc m s r = omega arith
+answered-small (Error e) t u vcc m s r = omega arith
 answered-small Request t u vcc m s r = serve-small (requestOf s u) t vcc m s r
 
 pub replies-fit : RepliesFit

@@ -8,10 +8,10 @@ use Rattle.tag.specs.declared.Uid.{Uid}
 use Rattle.reply.specs.declared.RadioSide.{RadioSide}
 use Rattle.frame.specs.declared.Verdict.{Verdict}
 use Rattle.frame.proofs.ShutOut.{shut-out-decides, shut-out-answers}
-use Rattle.radio.specs.Claims.{ShutOut}
+use Rattle.radio.specs.Claims.{ShutOutChangesNothing}
 use Rattle.radio.specs.Radio.{answered, radioOf}
 
-pub shut-out : ShutOut
+pub shut-out : ShutOutChangesNothing
 unfolding radioOf answered
 shut-out t u vcc transfer programming m s h =
     let d = t .core .registers .dynamic in

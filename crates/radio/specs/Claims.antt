@@ -9,16 +9,17 @@ use Rattle.parts.specs.Bits.{isSet}
 use Rattle.ranges.specs.Ranges.{airInRange, mailboxInRange, coreInRange}
 use Rattle.tag.specs.declared.Uid.{Uid}
 use Rattle.tag.specs.Layout.{replyBytes}
+use Rattle.errors.specs.declared.RadioError.the-variants.{ShutOut}
 use Rattle.reply.specs.declared.RadioSide.{RadioSide}
 use Rattle.reply.specs.Reply.{Said, nothing, body, fault}
 use Rattle.reply.specs.Outcome.{told}
 use Rattle.radio.specs.Radio.{radioOf}
 
 -- while shut out a frame changes nothing, and its answer is silence or 0Fh
-abbrev pub ShutOut : Type 0
-ShutOut = (t : RadioSide) (u : Uid) (vcc transfer programming : Bool) (m s : List ℕ)
+abbrev pub ShutOutChangesNothing : Type 0
+ShutOutChangesNothing = (t : RadioSide) (u : Uid) (vcc transfer programming : Bool) (m s : List ℕ)
     → (isSet 1 (t .core .registers .dynamic .bits) || (transfer || programming)) ≡ true
-    → (radioOf t u vcc transfer programming m s ≡ told nothing t m) ⊎ (radioOf t u vcc transfer programming m s ≡ told (fault 0x0F) t m)
+    → (radioOf t u vcc transfer programming m s ≡ told nothing t m) ⊎ (radioOf t u vcc transfer programming m s ≡ told (fault ShutOut) t m)
 
 -- the ranges of what a request may change; MB_EN only with VCC
 abbrev pub radioInRange : RadioSide → Bool → Bool

@@ -14,7 +14,7 @@ use Rattle.radio.specs.Commands.{requestOf, serveOf}
 -- what each verdict comes to: silence, 01h and the code, or the command
 unfoldable pub answered : Verdict → RadioSide → Uid → Bool → List ℕ → List ℕ → Told
 answered Silence t u vcc m s = told nothing t m
-answered (Error code) t u vcc m s = fails code t m
+answered (Error e) t u vcc m s = fails e t m
 answered Request t u vcc m s = serveOf (requestOf s u) t vcc m s
 
 -- the frame s, for the tag's radio side t with UID u, VCC, a transfer open, programming, and memory m.

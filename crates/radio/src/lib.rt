@@ -89,8 +89,8 @@ pub fn radio(
             answer: Answer::Silence,
             side: t,
         },
-        Verdict::Error(code) => Outcome {
-            answer: reply::error(out, code),
+        Verdict::Error(e) => Outcome {
+            answer: reply::error(out, e),
             side: t,
         },
         Verdict::Request => serve(fields(s, u), t, vcc, m, out, s),

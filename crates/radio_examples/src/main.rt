@@ -16,6 +16,23 @@ struct Run {
     number: u64,
 }
 
+// What a line prints: none, a reply of this length, a CRC, or that the line is none of these.
+enum Said {
+    Nothing,
+    Reply(usize),
+    Crc(u16),
+    Bad,
+}
+
+// What a line leaves.
+struct Outcome {
+    run: Run,
+    said: Said,
+}
+
+// A frame of this length at most fits the buffer with its CRC.
+const FRAME: usize = 698;
+
 fn uid() -> Uid {
     Uid {
         bytes: [0x01, 0x02, 0x03, 0x04, 0x05, 0x24, 0x02, 0xE0],
@@ -45,7 +62,6 @@ fn with_side(r: Run, side: RadioSide) -> Run {
 // A line that sets a level or a flag.
 fn level(r: Run, kind: u8, on: bool) -> Run {
     let mut n = r;
-    text::none();
     match kind {
         b'V' => {
             n.vcc = on;
@@ -70,22 +86,39 @@ fn level(r: Run, kind: u8, on: bool) -> Run {
 fn start_again(r: Run, m: &mut [u8]) -> Run {
     let zeros = [0u8; 1024];
     parts::put_bytes(m, 0, &zeros, 0, 1024);
-    text::none();
     fresh(r.number)
 }
 
-// The host puts a message, as a transfer would.
-fn host_message(r: Run, s: &[u8], m: &mut [u8], frame: &mut [u8]) -> Run {
-    let n = text::decode(s, frame, 698);
-    parts::put_bytes(m, tag::MAILBOX_AT, frame, 0, n as usize);
-    text::none();
-    let mailbox = r.side.core.mailbox.host_put(n);
-    with_side(r, r.side.with_mailbox(mailbox))
+fn nothing(run: Run) -> Outcome {
+    Outcome {
+        run,
+        said: Said::Nothing,
+    }
 }
 
-// The bytes of a line's hex, with the CRC behind them if it is asked for. Answers how many there are.
-fn decode_frame(s: &[u8], frame: &mut [u8], close: bool) -> usize {
-    let n = text::decode(s, frame, 698) as usize;
+fn bad(run: Run) -> Outcome {
+    Outcome {
+        run,
+        said: Said::Bad,
+    }
+}
+
+// The host puts a message, as a transfer would.
+fn host_message(r: Run, s: &[u8], m: &mut [u8], frame: &mut [u8]) -> Outcome {
+    let n = text::line_bytes(s, frame);
+    if FRAME < n {
+        return bad(r);
+    }
+    parts::put_bytes(m, tag::MAILBOX_AT, frame, 0, n);
+    let mailbox = r.side.core.mailbox.host_put(n as u16);
+    nothing(with_side(r, r.side.with_mailbox(mailbox)))
+}
+
+// Stores the CRC behind the n bytes of a frame if it is asked for, and gives how many there are then.
+fn close_frame(frame: &mut [u8], n: usize, close: bool) -> usize {
+    if FRAME < n {
+        return n;
+    }
     if close {
         crc::close(frame, n);
         return n + 2;
@@ -94,10 +127,14 @@ fn decode_frame(s: &[u8], frame: &mut [u8], close: bool) -> usize {
 }
 
 // A frame and its answer.
-fn ask(r: Run, s: &[u8], m: &mut [u8], frame: &mut [u8], out: &mut [u8], close: bool) -> Run {
-    let n = decode_frame(s, frame, close);
+fn ask(r: Run, s: &[u8], m: &mut [u8], frame: &mut [u8], out: &mut [u8], close: bool) -> Outcome {
+    let sent = text::line_bytes(s, frame);
+    if FRAME < sent {
+        return bad(r);
+    }
+    let n = close_frame(frame, sent, close);
     if frame.len() < n {
-        return r;
+        return bad(r);
     }
     let side = r.side;
     let o = radio::radio(
@@ -111,38 +148,64 @@ fn ask(r: Run, s: &[u8], m: &mut [u8], frame: &mut [u8], out: &mut [u8], close: 
         &frame[0..n],
     );
     let a = o.answer;
-    match a {
-        Answer::Silence => text::none(),
-        Answer::Reply(k) => text::bytes(out, k),
-    }
     let after = o.side;
-    with_side(r, after)
+    let run = with_side(r, after);
+    match a {
+        Answer::Silence => nothing(run),
+        Answer::Reply(k) => Outcome {
+            run,
+            said: Said::Reply(k),
+        },
+    }
 }
 
-fn memory_crc(r: Run, m: &[u8]) -> Run {
-    text::word(crc::crc(m));
-    r
+fn memory_crc(run: Run, m: &[u8]) -> Outcome {
+    Outcome {
+        run,
+        said: Said::Crc(crc::crc(m)),
+    }
 }
 
-// What a line does, and its answer printed.
-fn signal(r: Run, s: &[u8], m: &mut [u8], frame: &mut [u8], out: &mut [u8]) -> Run {
+// What a line does, and what it prints.
+fn signal(r: Run, s: &[u8], m: &mut [u8], frame: &mut [u8], out: &mut [u8]) -> Outcome {
     let kind = parts::byte_at(s, 0);
     match kind {
-        b'N' => start_again(r, m),
+        b'N' => nothing(start_again(r, m)),
         b'H' => host_message(r, s, m, frame),
         b'R' => ask(r, s, m, frame, out, true),
         b'X' => ask(r, s, m, frame, out, false),
         b'E' => memory_crc(r, m),
-        _ => level(r, kind, parts::byte_at(s, 2) == b'1'),
+        _ => nothing(level(r, kind, parts::byte_at(s, 2) == b'1')),
+    }
+}
+
+fn put_said(text: &mut [u8], at: usize, said: Said, out: &[u8]) -> usize {
+    match said {
+        Said::Nothing => text::put_mark(text, at, b'-'),
+        Said::Reply(n) => text::put_hex(text, at, out, n),
+        Said::Crc(w) => text::put_word(text, at, w),
+        Said::Bad => text::put_mark(text, at, b'?'),
     }
 }
 
 // A line: its number, a tab, its answer.
+fn print(number: u64, said: Said, out: &[u8]) {
+    let mut text = [0u8; 1400];
+    let tab = text::put_decimal(&mut text, 0, number);
+    let answer = text::put_mark(&mut text, tab, b'\t');
+    let feed = put_said(&mut text, answer, said, out);
+    let end = text::put_mark(&mut text, feed, b'\n');
+    if end <= 1400 {
+        io::write_all(1, &text[0..end]);
+    }
+}
+
 fn line(r: Run, s: &[u8], m: &mut [u8], frame: &mut [u8], out: &mut [u8]) -> Run {
     let number = std::num::wrapping_add_u64(r.number, 1);
-    text::number(number);
-    let mut n = signal(r, s, m, frame, out);
-    text::end();
+    let o = signal(r, s, m, frame, out);
+    let said = o.said;
+    print(number, said, out);
+    let mut n = o.run;
     n.number = number;
     n
 }
@@ -169,6 +232,11 @@ fn lines(s: &[u8], m: &mut [u8], frame: &mut [u8], out: &mut [u8]) {
 fn main() {
     let mut input = io::large_buffer();
     let n = io::read_full(0, &mut input);
+    if n == 65536 {
+        // What lies behind these bytes would not be run.
+        io::write_all(2, b"the script has 65,536 bytes or more\n");
+        return;
+    }
     let mut m = [0u8; 1024];
     let mut frame = [0u8; 700];
     let mut out = [0u8; 643];

@@ -7,6 +7,7 @@ use Rattle.tag.specs.declared.Mailbox.{Mailbox}
 use Rattle.tag.specs.declared.Passwords.{Passwords}
 use Rattle.tag.specs.declared.Core.{Core}
 use Rattle.tag.specs.Supply.{withRegisters, withMailbox, withPasswords}
+use Rattle.errors.specs.declared.RadioError.{RadioError}
 use Rattle.reply.specs.declared.Answer.{Answer}
 use Rattle.reply.specs.declared.RadioSide.{RadioSide}
 use Rattle.reply.specs.declared.Outcome.{Outcome}
@@ -22,8 +23,8 @@ abbrev pub told : Said → RadioSide → List ℕ → Told
 told r s m = record { reply = r; side = s; memory = m }
 
 -- "01h and the code (nothing changed ..)"
-abbrev pub fails : ℕ → RadioSide → List ℕ → Told
-fails code s m = told (fault code) s m
+abbrev pub fails : RadioError → RadioSide → List ℕ → Told
+fails e s m = told (fault e) s m
 
 -- what a function over both lent buffers leaves
 pub record Ended : Type 0 where

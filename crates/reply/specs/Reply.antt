@@ -4,6 +4,8 @@ use Prim.Native.Nat.{ℕ, _+_}
 use lib.ListN.{length}
 use lib.Seq.{sets}
 use Rattle.crc.specs.Crc.{closedAt}
+use Rattle.errors.specs.declared.RadioError.{RadioError}
+use Rattle.errors.specs.Errors.{errorCode}
 use Rattle.reply.specs.declared.Answer.{Answer}
 use Rattle.reply.specs.declared.Answer.the-variants.{Silence, Reply}
 
@@ -16,8 +18,8 @@ pub data Said : Type 0 where
 abbrev pub good : List ℕ → Said
 good data- = body (0x00 ∷ data-)
 
-abbrev pub fault : ℕ → Said
-fault code = body (0x01 ∷ code ∷ [])
+abbrev pub fault : RadioError → Said
+fault e = body (0x01 ∷ errorCode e ∷ [])
 
 -- the answer: silence, or a reply with its length, CRC included
 unfoldable pub answerOf : Said → Answer

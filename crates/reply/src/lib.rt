@@ -6,6 +6,7 @@ ghost use Rattle.crc.specs.Crc.{closedAt};
 ghost use Rattle.reply.specs.Reply.{good, fault, spoken, speak};
 ghost use Rattle.reply.specs.Outcome.{withAir, sideRegisters, sideMailbox, sidePasswords};
 ghost use Rattle.reply.specs.declared.Answer.the-variants.{Reply};
+use errors::RadioError;
 use registers::Registers;
 use tag::Air;
 use tag::Core;
@@ -79,11 +80,11 @@ pub fn close(out: &mut [u8], n: u32) -> Answer
 }
 
 // An error reply.
-pub fn error(out: &mut [u8], code: u8) -> Answer
-    ensures { λ r. ⌜ spoken r (now (out .exit)) ≡ speak (fault code) (now (out .entry)) ⌝ }
+pub fn error(out: &mut [u8], e: RadioError) -> Answer
+    ensures { λ r. ⌜ spoken r (now (out .exit)) ≡ speak (fault e) (now (out .entry)) ⌝ }
 {
     parts::put(out, 0, 0x01);
-    parts::put(out, 1, code);
+    parts::put(out, 1, e.code());
     close(out, 2)
 }
 

@@ -27,14 +27,16 @@ use Rattle.model.specs.declared.Signal.{Signal}
 use Rattle.model.specs.declared.Signal.the-variants.{Wire, Field, Frame}
 use Rattle.model.specs.Signals.{signalBy}
 use Rattle.model.specs.Step.{Ended, fromWire, fromRadio, radioSide, wireSide, transferOpen, tagInRange, actOf, stepOf}
+use Rattle.text.specs.Hex.{hexText}
+use Rattle.text.specs.Decimal.{decimal}
+use Rattle.text.proofs.HexLaws.{length-hex-text}
+use Rattle.text.proofs.DecimalLaws.{digits-most}
 use Rattle.script.specs.declared.Bench.{Bench}
-use Rattle.script.specs.Hex.{hexText}
 use Rattle.script.specs.Line.{Said, bad, signal, frame, longest, lineOf}
-use Rattle.script.specs.Text.{digitsOf, decimal, badText, answerText, lineText}
+use Rattle.script.specs.Text.{badText, answerText, lineText}
 use Rattle.script.specs.Bench.{Printed, calls, saidOf, benchOf, nextLine, longestText}
 use Rattle.script.specs.Lines.{Carried, printed}
 use Rattle.script.specs.Claims.{TextFits, LineCut}
-use Rattle.script.proofs.DigitLaws.{length-hex-text}
 use Rattle.script.proofs.TextLaws.{length-line}
 
 -- ---- a reply has at most 643 bytes
@@ -89,14 +91,6 @@ step-replied t m o code value f =
     (λ h. pick-case Short (not (tagInRange t m)) _ _ (λ h. omega arith) (λ h. act-replied (signalBy code value) t m o f (not-false _ h)))))
 
 -- ---- a text
-digits-most : (k n : ℕ) → length (digitsOf k n) ≤ k
-unfolding digitsOf
-digits-most zero n = omega arith
-digits-most (suc k) n =
-    pick-case (λ (l : List ℕ). length l ≤ suc k) (ltb n 10) _ _
-    (λ h. omega arith)
-    (λ h. omega (arith, length-append (digitsOf k (n / 10)) ((0x30 + n % 10) ∷ []), digits-most k (n / 10)))
-
 answer-fits : (a : Answer) (o : List ℕ) → replied a ≤ 643 → length (answerText a o) ≤ 1282
 unfolding answerText replied hexText
 answer-fits (Refused n) o h = omega arith

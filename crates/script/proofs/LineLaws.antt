@@ -10,13 +10,13 @@ use lib.ListN.{length, take, drop, getD, length-drop, length-append}
 use lib.Seq.{sets, sets-eq, take-at}
 use Rattle.parts.specs.Pick.{pick}
 use Rattle.parts.proofs.Picks.{pick-case}
-use Rattle.parts.proofs.Bools.{and-left, and-right}
+use Rattle.parts.proofs.Bools.{and-left}
 use Rattle.crc.specs.Crc.{closed, crcBytes, closedAt}
 use Rattle.crc.proofs.Frames.{closed-at}
 use Rattle.model.specs.Signals.{signalInRange, topValue}
 use Rattle.model.specs.Step.{Ended, stepOf}
 use Rattle.script.specs.declared.Bench.{Bench}
-use Rattle.script.specs.Hex.{allHex, hexBytes}
+use Rattle.text.specs.Hex.{allHex}
 use Rattle.script.specs.Text.{badText, answerText}
 use Rattle.script.specs.Bench.{prints, calls}
 use Rattle.script.specs.Line.{Said, bad, signal, frame, alone, level, byteSent, frameSent, tabbed, lineOf}
@@ -25,10 +25,6 @@ isFrame : Said → Bool
 isFrame bad = false
 isFrame (signal code value) = false
 isFrame (frame s) = true
-
--- what holds of the digits of a frame
-abbrev Digits : List ℕ → Type 0
-Digits s = (2 ≤ length s) × (allHex s ≡ true)
 
 never : {A : Type 0} → false ≡ true → A
 never h = let z : _≡_ {A = ℕ} 0 1 = cc in absurd (omega arith)
@@ -54,14 +50,16 @@ module _ (G : Type 0) where
   unfolding byteSent isFrame
   in-byte s = pick-case (Says G) _ _ _ (λ _ e. never e) (λ _ e. never e)
 
+-- two digits or more
+abbrev Digits : List ℕ → Type 0
+Digits s = 2 ≤ length s
+
 in-frame : (s : List ℕ) → Says (Digits s) (frameSent s)
 unfolding frameSent isFrame
 in-frame s =
     let a = leb 2 (length s) in
     let b = eqb (length s % 2) 0 in
-    pick-case (Says (Digits s)) _ _ _
-    (λ h _. (leb-true 2 (length s) (and-left a b (and-left (a && b) (allHex s) h)), and-right (a && b) (allHex s) h))
-    (λ _ e. never e)
+    pick-case (Says (Digits s)) _ _ _ (λ h _. leb-true 2 (length s) (and-left a b (and-left (a && b) (allHex s) h))) (λ _ e. never e)
 
 in-tabbed : (x : ℕ) (s : List ℕ) → Says (Digits s) (tabbed x s)
 unfolding tabbed isFrame
@@ -75,7 +73,7 @@ in-tabbed x s =
     (λ _ e. never e)))))
 
 abbrev pub Framed : List ℕ → Type 0
-Framed s = (length s ≤ 1200) × ((2 ≤ length s) × (allHex (drop 2 s) ≡ true))
+Framed s = (length s ≤ 1200) × (2 ≤ length s)
 
 in-line : (s : List ℕ) → Says (Framed s) (lineOf s)
 unfolding lineOf isFrame
@@ -84,9 +82,7 @@ in-line s =
     pick-case P _ _ _ (λ _ e. never e)
     (λ h. pick-case P _ _ _ (λ _. in-alone (Framed s) (getD s 0 0))
     (λ _. pick-case P _ _ _
-    (λ _ e.
-    let d = in-tabbed (getD s 0 0) (drop 2 s) e in
-    (ltb-false 1200 (length s) h, (omega (arith, length-drop 2 s), d .1)))
+    (λ _ e. (ltb-false 1200 (length s) h, omega (arith, length-drop 2 s, in-tabbed (getD s 0 0) (drop 2 s) e)))
     (λ _ e. never e)))
 
 -- a line that says a frame
@@ -95,12 +91,6 @@ unfolding isFrame
 framed s f e = in-line s (ap isFrame e)
 
 -- ---- the frame's bytes with their CRC
-pub length-hex-bytes : (s : List ℕ) → length (hexBytes s) ≡ length s / 2
-unfolding hexBytes
-length-hex-bytes [] = refl
-length-hex-bytes (x ∷ []) = refl
-length-hex-bytes (x ∷ y ∷ s) = omega (arith, length-hex-bytes s)
-
 pub frame-closed : (p o : List ℕ) (n : ℕ) → length p ≡ n → n + 2 ≤ length o
     → take (n + 2) (closedAt (sets o 0 p) n) ≡ closed p
 frame-closed p o n l h =

@@ -11,6 +11,7 @@ use lib.ListN.{length, take, drop, getD, replicate, length-append}
 use lib.Seq.{sets, length-sets, take-at, drop-at}
 use borrow.Author.Tests.{eq-eqb, eqb-true, le-ltb, le-leb, lt-ltb}
 use Rattle.parts.specs.Pick.{pick}
+use Rattle.parts.specs.Bytes.{areBytes}
 use Rattle.parts.proofs.Bools.{and-left, and-right, and-both, or-cases}
 use Rattle.parts.proofs.Picks.{pick-case, pick-false}
 use Rattle.crc.specs.Crc.{crcOf, crcBytes, closed, closedAt}
@@ -29,16 +30,17 @@ use Rattle.model.specs.declared.Signal.{Signal}
 use Rattle.model.specs.declared.Signal.the-variants.{Wire, Field, Frame}
 use Rattle.model.specs.Signals.{topValue, signalInRange, signalBy}
 use Rattle.model.specs.Step.{Ended, Left, left, fromWire, fromRadio, radioSide, wireSide, transferOpen, tagInRange, actOf, stepOf, freshOf}
-use Rattle.model.specs.Claims.{areBytes, Fit}
+use Rattle.model.specs.Claims.{Fit}
 use Rattle.model.proofs.Kept.{keeps, fresh-fits}
+use Rattle.text.specs.Hex.{hexValue, allHex, hexByte, hexBytes, hexText}
+use Rattle.text.specs.Decimal.{decimal}
+use Rattle.text.proofs.HexLaws.{value-small, length-hex-text}
 use Rattle.script.specs.declared.Bench.{Bench}
-use Rattle.script.specs.Hex.{isHex, hexValue, allHex, hexByte, hexBytes, hexText}
 use Rattle.script.specs.Line.{Said, bad, signal, frame, longest, alone, level, byteSent, frameSent, tabbed, lineOf}
-use Rattle.script.specs.Text.{decimal, badText, answerText, lineText}
+use Rattle.script.specs.Text.{badText, answerText, lineText}
 use Rattle.script.specs.Bench.{Printed, nextLine, prints, calls, saidOf, benchOf, benchUid, startOf}
 use Rattle.script.specs.Lines.{Carried, carried, printed, handedOn, afterLines, beforeLines}
 use Rattle.script.specs.Claims.{BenchFit, StartFits, LineKeepsFit, OnlyBadRefused}
-use Rattle.script.proofs.DigitLaws.{all-hex-at, hex-small, length-hex-text}
 use Rattle.script.proofs.TextLaws.{length-line}
 
 -- ---- what a line says has its value in range, and a frame's bytes are bytes
@@ -69,35 +71,27 @@ level-sane code s z o =
     (or-cases (eqb x 0x30) (eqb x 0x31) (and-right (eqb (length s) 1) (eqb x 0x30 || eqb x 0x31) h)))
     (λ _. refl)
 
-byte-below : (x y : ℕ) → isHex x ≡ true → isHex y ≡ true → hexByte x y < 256
-byte-below x y p q = omega (arith, hex-small x p, hex-small y q)
+byte-below : (x y : ℕ) → hexByte x y < 256
+byte-below x y = omega (arith, value-small x, value-small y)
 
 byte-sane : (s : List ℕ) → Sane (byteSent s)
 unfolding byteSent sane signalInRange topValue pick
 byte-sane s =
     pick-case Sane (eqb (length s) 2 && allHex s) (signal 4 (hexByte (getD s 0 0) (getD s 1 0))) bad
-    (λ h.
-    let n = eqb-true (length s) 2 (and-left (eqb (length s) 2) (allHex s) h) in
-    let a = and-right (eqb (length s) 2) (allHex s) h in
-    le-leb (hexByte (getD s 0 0) (getD s 1 0)) 255
-    (omega (arith, byte-below (getD s 0 0) (getD s 1 0) (all-hex-at s 0 a (omega (arith, n))) (all-hex-at s 1 a (omega (arith, n))))))
+    (λ h. le-leb (hexByte (getD s 0 0) (getD s 1 0)) 255 (omega (arith, byte-below (getD s 0 0) (getD s 1 0))))
     (λ _. refl)
 
-bytes-read : (s : List ℕ) → allHex s ≡ true → areBytes (hexBytes s) ≡ true
-unfolding allHex hexBytes areBytes
-bytes-read [] h = refl
-bytes-read (x ∷ []) h = refl
-bytes-read (x ∷ y ∷ s) h =
-    let r = and-right (isHex x) (isHex y && allHex s) h in
-    and-both (ltb (hexByte x y) 256) (areBytes (hexBytes s))
-    (lt-ltb (hexByte x y) 256 (byte-below x y (and-left (isHex x) (isHex y && allHex s) h) (and-left (isHex y) (allHex s) r)))
-    (bytes-read s (and-right (isHex y) (allHex s) r))
+bytes-read : (s : List ℕ) → areBytes (hexBytes s) ≡ true
+unfolding hexBytes areBytes
+bytes-read [] = refl
+bytes-read (x ∷ []) = refl
+bytes-read (x ∷ y ∷ s) = and-both (ltb (hexByte x y) 256) (areBytes (hexBytes s)) (lt-ltb (hexByte x y) 256 (byte-below x y)) (bytes-read s)
 
 frame-sane : (s : List ℕ) → Sane (frameSent s)
 unfolding frameSent sane
 frame-sane s =
     pick-case Sane (leb 2 (length s) && eqb (length s % 2) 0 && allHex s) (frame (hexBytes s)) bad
-    (λ h. bytes-read s (and-right (leb 2 (length s) && eqb (length s % 2) 0) (allHex s) h))
+    (λ h. bytes-read s)
     (λ _. refl)
 
 tabbed-sane : (x : ℕ) (s : List ℕ) → Sane (tabbed x s)

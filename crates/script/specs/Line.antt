@@ -7,7 +7,7 @@ use lib.ListN.{length, getD, drop}
 use Rattle.parts.specs.Pick.{pick}
 use Rattle.script.specs.declared.reading.Reading.{Reading}
 use Rattle.script.specs.declared.reading.Reading.the-variants.{Bad, Signal, Frame}
-use Rattle.script.specs.Hex.{allHex, hexByte, hexBytes}
+use Rattle.text.specs.Hex.{allHex, hexByte, hexBytes}
 
 -- a bad line, a signal's code and value, or a frame without CRC
 pub data Said : Type 0 where

@@ -1,21 +1,11 @@
 -- "prints line number, tab, answer: A, N, hex (no CRC for R), - for none, ? for a bad line"
 use mathlib.Core.List.{List, [], _∷_, _++_}
-use Prim.Native.Nat.{ℕ, zero, suc, _+_, _-_, _/_, _%_}
-use lib.Dec.{ltb}
+use Prim.Native.Nat.{ℕ, _-_}
 use lib.ListN.{take}
-use Rattle.parts.specs.Pick.{pick}
 use Rattle.model.specs.declared.Answer.{Answer}
 use Rattle.model.specs.declared.Answer.the-variants.{Refused, Nothing, Ack, NoAck, Byte, Silence, Reply}
-use Rattle.script.specs.Hex.{hexText}
-
--- the last k decimal digits of n, without zeros in front
-unfoldable pub digitsOf : ℕ → ℕ → List ℕ
-digitsOf zero n = []
-digitsOf (suc k) n = pick (ltb n 10) ((0x30 + n) ∷ []) (digitsOf k (n / 10) ++ (0x30 + n % 10) ∷ [])
-
--- a number of 64 bits has at most 20 digits
-abbrev pub decimal : ℕ → List ℕ
-decimal n = digitsOf 20 n
+use Rattle.text.specs.Hex.{hexText}
+use Rattle.text.specs.Decimal.{decimal}
 
 -- "?"
 abbrev pub badText : List ℕ

@@ -1,15 +1,13 @@
 // Bench scripts: a line to a call or a bad line, an answer to its text, and the step from line to line.
-mod digits;
+mod printing;
 mod reading;
-mod text;
 
 ghost use mathlib.Core.Path.{_≡_};
-ghost use mathlib.Core.Bool.{true};
 ghost use mathlib.Core.List.{List};
 ghost use Prim.Native.Nat.{ℕ, _≤_};
 ghost use lib.ListN.{length, take};
 ghost use Rattle.crc.specs.Crc.{closed};
-ghost use Rattle.script.specs.Hex.{allHex, hexBytes};
+ghost use Rattle.text.specs.Hex.{hexBytes};
 ghost use Rattle.script.specs.declared.Bench.{Bench};
 ghost use Rattle.script.specs.Bench.{begun, startOf, nextLine, longestText, shown, show, calls, benchOf};
 use reading::Reading;
@@ -65,7 +63,7 @@ fn call(
     let answer = o.answer;
     let tag = o.tag;
     let number = next_line(b);
-    let length = text::put_line(text, number, answer, reply);
+    let length = printing::put_line(text, number, answer, reply);
     Outcome {
         bench: Bench { tag, number },
         length,
@@ -75,12 +73,11 @@ fn call(
 // Stores a frame with its CRC, from its digits, and gives its length. A line of 1,200 characters has 599 bytes of
 // frame, and the CRC two.
 fn put_frame(s: &[u8], frame: &mut [u8; 602]) -> usize
-    requires { ⌜ (allHex (now s) ≡ true) × (length (now s) ≤ 1198) ⌝ }
+    requires { ⌜ length (now s) ≤ 1198 ⌝ }
     ensures { λ r. ⌜ take r (now (frame .exit)) ≡ closed (hexBytes (now (s .entry))) ⌝ }
     ensures { λ r. ⌜ r ≤ length (now (frame .exit)) ⌝ }
 {
-    let n = s.len() / 2;
-    digits::decode(s, frame);
+    let n = text::decode(s, frame);
     crc::close(frame, n);
     n + 2
 }

@@ -2,7 +2,6 @@
 ghost use mathlib.Core.Path.{_≡_};
 ghost use lib.ListN.{getD, drop};
 ghost use Rattle.script.specs.Line.{saidBy, alone, level, byteSent, frameSent, tabbed, lineOf};
-use crate::digits;
 
 pub enum Reading {
     Bad,
@@ -42,10 +41,13 @@ fn level(code: u8, s: &[u8]) -> Reading
 fn byte_sent(s: &[u8]) -> Reading
     ensures { λ r. ⌜ saidBy r (now (s .entry)) ≡ byteSent (now (s .entry)) ⌝ }
 {
-    let hex = digits::all_hex(s);
+    let hex = text::all_hex(s);
     if (s.len() == 2) & hex {
-        let x = digits::hex_byte(parts::byte_at(s, 0), parts::byte_at(s, 1));
-        return Reading::Signal { code: 4, value: x };
+        let x = text::hex_byte(parts::byte_at(s, 0), parts::byte_at(s, 1));
+        return Reading::Signal {
+            code: 4,
+            value: x as u16,
+        };
     }
     Reading::Bad
 }
@@ -54,7 +56,7 @@ fn byte_sent(s: &[u8]) -> Reading
 fn frame_sent(s: &[u8]) -> Reading
     ensures { λ r. ⌜ saidBy r (now (s .entry)) ≡ frameSent (now (s .entry)) ⌝ }
 {
-    let hex = digits::all_hex(s);
+    let hex = text::all_hex(s);
     if (2 <= s.len()) & (s.len() % 2 == 0) & hex {
         return Reading::Frame;
     }

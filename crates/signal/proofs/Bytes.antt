@@ -1,16 +1,11 @@
 -- Every signal keeps the memory's bytes below 256. Assumes nothing.
-use mathlib.Core.Path.{_≡_, refl, sym, subst}
-use mathlib.Core.Bool.{Bool, true, false}
-use mathlib.Core.List.{List, [], _∷_}
-use Prim.Native.Nat.{ℕ, zero, suc, _+_, _<_}
-use native.Mathlib.Omega.{arith}
+use mathlib.Core.Bool.{Bool}
+use mathlib.Core.List.{List}
+use Prim.Native.Nat.{ℕ, _+_, _<_}
 use lib.Dec.{ltb, eqb}
-use borrow.Author.Tests.{ltb-true, ltb-false}
-use lib.ListN.{length, getD, set}
-use lib.Seq.{sets}
-use Rattle.parts.specs.Bytes.{bytesAt}
+use lib.ListN.{length, getD}
 use Rattle.parts.proofs.Picks.{pick-case}
-use Rattle.parts.proofs.Lists.{bytesAt-getD, bytesAt-past}
+use Rattle.parts.proofs.Below.{Below, run-below, set-below, sets-below}
 use Rattle.tag.specs.declared.Space.{Space}
 use Rattle.tag.specs.declared.Space.the-variants.{User, System}
 use Rattle.tag.specs.declared.Bus.{Bus}
@@ -27,38 +22,16 @@ use Rattle.signal.specs.declared.Signal.the-variants.{Start, Send, Fetch
 use Rattle.signal.specs.Signal.{Ended, sideBus, dueOf, startAt, startOf, stopAt, selectBy, dataOf, sendAt, fetchAt, signalOf}
 use Rattle.signal.specs.Claims.{sentByte, KeepsBytes}
 
--- ---- lists
-abbrev Small : List ℕ → Type 0
-Small l = (i : ℕ) → getD l i 0 < 256
-
-set-small : (l : List ℕ) (i x : ℕ) → x < 256 → Small l → Small (set l i x)
-set-small [] i x p h j = h j
-set-small (y ∷ l) zero x p h zero = p
-set-small (y ∷ l) zero x p h (suc j) = h (suc j)
-set-small (y ∷ l) (suc i) x p h zero = h zero
-set-small (y ∷ l) (suc i) x p h (suc j) = set-small l i x p (λ n. h (suc n)) j
-
-sets-small : (xs l : List ℕ) (at : ℕ) → Small xs → Small l → Small (sets l at xs)
-sets-small [] l at p h = h
-sets-small (x ∷ xs) l at p h = sets-small xs (set l at x) (suc at) (λ n. p (suc n)) (set-small l at x (p zero) h)
-
-bytes-small : (m : List ℕ) (at n i : ℕ) → Small m → (b : Bool) → ltb i n ≡ b → getD (bytesAt m at n) i 0 < 256
-bytes-small m at n i h true q = subst (λ (x : ℕ). x < 256) (sym (bytesAt-getD m at n i 0 (ltb-true i n q))) (h (at + i))
-bytes-small m at n i h false q = subst (λ (x : ℕ). x < 256) (sym (bytesAt-past m at n i 0 (ltb-false i n q))) (omega arith)
-
-page-small : (m : List ℕ) (k : ℕ) → Small m → Small (page k m)
-page-small m k h i = bytes-small m 768 k i h (ltb i k) refl
-
 -- ---- the end of a leg
 abbrev S : Left → Type 0
-S d = Small (d .memory)
+S d = Below (d .memory)
 
-module _ (w : WireSide) (m : List ℕ) (h : Small m) where
-  user-small : (f : ℕ) (bs : List ℕ) → Small bs → S (userWritten w m f bs)
+module _ (w : WireSide) (m : List ℕ) (h : Below m) where
+  user-small : (f : ℕ) (bs : List ℕ) → Below bs → S (userWritten w m f bs)
   unfolding userWritten
   user-small f bs p =
-      pick-case S (ltb f 512) _ _ (λ t. sets-small bs m f p h)
-      (λ t. pick-case S (eqb f 0x2003) _ _ (λ t. h) (λ t. pick-case S (eqb f 0x2006) _ _ (λ t. h) (λ t. sets-small bs m 512 p h)))
+      pick-case S (ltb f 512) _ _ (λ t. sets-below bs m f p h)
+      (λ t. pick-case S (eqb f 0x2003) _ _ (λ t. h) (λ t. pick-case S (eqb f 0x2006) _ _ (λ t. h) (λ t. sets-below bs m 512 p h)))
 
   password-small : (bs : List ℕ) → S (passwordWritten w m bs)
   unfolding passwordWritten
@@ -66,7 +39,7 @@ module _ (w : WireSide) (m : List ℕ) (h : Small m) where
       pick-case S (ltb (length bs) 17) _ _ (λ t. h)
       (λ t. pick-case S (eqb (getD bs 8 0) 0x09) _ _ (λ t. h) (λ t. pick-case S (samePassword (passwordAt bs 0) (passwordAt bs 9)) _ _ (λ t. h) (λ t. h)))
 
-  leg-small : (s : Space) (f : ℕ) (bs : List ℕ) → Small bs → S (legWritten s w m f bs)
+  leg-small : (s : Space) (f : ℕ) (bs : List ℕ) → Below bs → S (legWritten s w m f bs)
   unfolding legWritten systemWritten
   leg-small User f bs p = user-small f bs p
   leg-small System f bs p = pick-case S (eqb f 0x0900) _ _ (λ t. password-small bs) (λ t. h)
@@ -85,13 +58,13 @@ module _ (w : WireSide) (m : List ℕ) (h : Small m) where
   due-small (WriteLeg s) c = h
   due-small (LowAddress s y) c = h
   due-small (DataLeg s n spoiled) c =
-      pick-case (λ (d : Due). S (settle stopped d w m)) _ none _ (λ t. h) (λ t. leg-small s _ (page n m) (page-small m n h))
+      pick-case (λ (d : Due). S (settle stopped d w m)) _ none _ (λ t. h) (λ t. leg-small s _ (page n m) (run-below m 768 n h))
 
 -- ---- a signal
 abbrev E : Ended → Type 0
-E e = Small (e .memory)
+E e = Below (e .memory)
 
-module _ (w : WireSide) (m : List ℕ) (h : Small m) where
+module _ (w : WireSide) (m : List ℕ) (h : Below m) where
   select-small : (c : Choice) → E (selectBy c w m)
   unfolding selectBy
   select-small Refused = h
@@ -100,7 +73,7 @@ module _ (w : WireSide) (m : List ℕ) (h : Small m) where
 
   data-small : (s : Space) (n x : ℕ) → x < 256 → E (dataOf s n w m x)
   unfolding dataOf
-  data-small s n x p = pick-case E _ _ _ (λ t. set-small m (768 + n) x p h) (λ t. h)
+  data-small s n x p = pick-case E _ _ _ (λ t. set-below m (768 + n) x p h) (λ t. h)
 
   send-small : (b : Bus) (x : ℕ) → x < 256 → E (sendAt b w m x)
   unfolding sendAt

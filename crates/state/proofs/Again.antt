@@ -4,23 +4,17 @@ use mathlib.Core.Bool.{true, _&&_, _||_}
 use mathlib.Core.List.{List, [], _∷_}
 use Prim.Native.Nat.{ℕ, zero, suc, _<_}
 use native.Mathlib.Omega.{arith}
-use lib.Dec.{eqb, leb, ltb}
+use lib.Dec.{eqb, leb}
 use lib.ListN.{length, getD}
-use borrow.Author.Tests.{eqb-true, leb-true, ltb-true}
+use borrow.Author.Tests.{eqb-true, leb-true}
 use Rattle.parts.specs.Pick.{pick}
-use Rattle.parts.specs.Bytes.{bytesAt}
+use Rattle.parts.specs.Bytes.{bytesAt, areBytes}
+use Rattle.parts.proofs.Below.{bytes-below}
 use Rattle.parts.proofs.Bools.{and-left, and-right}
 use Rattle.state.specs.Layout.{isFlag, flagOf, wordOf, spaceOf, usedOr0, airBytes, airDecodes, airAt, busBytes, isBus, busOf, busDecodes, busAt, hostBytes, hostDecodes, hostAt, registerBytes, registersAt, mailboxBytes, mailboxDecodes, mailboxAt, passwordBytes, passwordsAt, bytesOf, decodes, tagOf}
-use Rattle.state.specs.Claims.{areBytes, EncodesDecoded}
+use Rattle.state.specs.Claims.{EncodesDecoded}
 use Rattle.state.proofs.Places.{bytesAt-whole, bytesAt-join}
 use Rattle.state.proofs.Numbers.{flag-again, radio-again, space-again, low-again, high-again}
-
--- every byte of a list of bytes, and 0 past it
-pub byte-below : (s : List ℕ) (i : ℕ) → areBytes s ≡ true → getD s i 0 < 256
-unfolding areBytes
-byte-below [] i h = omega arith
-byte-below (x ∷ s) zero h = ltb-true x 256 (and-left (ltb x 256) (areBytes s) h)
-byte-below (x ∷ s) (suc i) h = byte-below s i (and-right (ltb x 256) (areBytes s) h)
 
 -- ---- the bus
 record Bused (kind space flag last high low top : ℕ) : Type 0 where
@@ -123,7 +117,7 @@ module _ (s : List ℕ) where
     bus-again : busDecodes s 8 ≡ true → busBytes (busAt s 8) ≡ bytesAt s 8 7
     unfolding busDecodes busAt bytesAt
     bus-again d =
-        again (getD s 9 0) (getD s 10 0) (getD s 11 0) (getD s 12 0) (getD s 13 0) (getD s 14 0) (byte-below s 13 are) (getD s 8 0) (bused (getD s 8 0) (getD s 9 0) (getD s 10 0) (getD s 11 0) (getD s 12 0) (getD s 13 0) (getD s 14 0) d)
+        again (getD s 9 0) (getD s 10 0) (getD s 11 0) (getD s 12 0) (getD s 13 0) (getD s 14 0) (bytes-below s are 13) (getD s 8 0) (bused (getD s 8 0) (getD s 9 0) (getD s 10 0) (getD s 11 0) (getD s 12 0) (getD s 13 0) (getD s 14 0) d)
 
     host-again : hostDecodes s 3 ≡ true → hostBytes (hostAt s 3) ≡ bytesAt s 3 12
     unfolding hostDecodes hostBytes hostAt bytesAt
@@ -133,7 +127,7 @@ module _ (s : List ℕ) where
         let p = isFlag (getD s 5 0) in
         let d2 = and-left (v && i && p) (busDecodes s 8) d in
         let d1 = and-left (v && i) p d2 in
-        rw (flag-again (getD s 3 0) (and-left v i d1), flag-again (getD s 4 0) (and-right v i d1), flag-again (getD s 5 0) (and-right (v && i) p d2), low-again (getD s 6 0) (getD s 7 0) (byte-below s 6 are), high-again (getD s 6 0) (getD s 7 0) (byte-below s 6 are), bus-again (and-right (v && i && p) (busDecodes s 8) d))
+        rw (flag-again (getD s 3 0) (and-left v i d1), flag-again (getD s 4 0) (and-right v i d1), flag-again (getD s 5 0) (and-right (v && i) p d2), low-again (getD s 6 0) (getD s 7 0) (bytes-below s are 6), high-again (getD s 6 0) (getD s 7 0) (bytes-below s are 6), bus-again (and-right (v && i && p) (busDecodes s 8) d))
 
     mailbox-again : mailboxDecodes s 28 ≡ true → mailboxBytes (mailboxAt s 28) ≡ bytesAt s 28 7
     unfolding mailboxDecodes mailboxBytes mailboxAt bytesAt
@@ -146,7 +140,7 @@ module _ (s : List ℕ) where
         let d3 = and-left (e && hp && rp && hc) rc d in
         let d2 = and-left (e && hp && rp) hc d3 in
         let d1 = and-left (e && hp) rp d2 in
-        rw (flag-again (getD s 28 0) (and-left e hp d1), flag-again (getD s 29 0) (and-right e hp d1), flag-again (getD s 30 0) (and-right (e && hp) rp d2), flag-again (getD s 31 0) (and-right (e && hp && rp) hc d3), flag-again (getD s 32 0) (and-right (e && hp && rp && hc) rc d), low-again (getD s 33 0) (getD s 34 0) (byte-below s 33 are), high-again (getD s 33 0) (getD s 34 0) (byte-below s 33 are))
+        rw (flag-again (getD s 28 0) (and-left e hp d1), flag-again (getD s 29 0) (and-right e hp d1), flag-again (getD s 30 0) (and-right (e && hp) rp d2), flag-again (getD s 31 0) (and-right (e && hp && rp) hc d3), flag-again (getD s 32 0) (and-right (e && hp && rp && hc) rc d), low-again (getD s 33 0) (getD s 34 0) (bytes-below s are 33), high-again (getD s 33 0) (getD s 34 0) (bytes-below s are 33))
 
     all-again : decodes s ≡ true → bytesOf (tagOf s) ≡ s
     unfolding decodes bytesOf tagOf

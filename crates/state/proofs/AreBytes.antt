@@ -1,14 +1,16 @@
 -- A tag's bytes are bytes. Assumes nothing.
 use mathlib.Core.Path.{_≡_, refl}
 use mathlib.Core.Bool.{Bool, true, false}
-use mathlib.Core.List.{List, [], _∷_, _++_}
-use Prim.Native.Nat.{ℕ, _+_, _/_, _%_}
+use mathlib.Core.List.{List}
+use Prim.Native.Nat.{ℕ, _/_, _%_}
 use native.Mathlib.Omega.{arith}
-use lib.Dec.{ltb, eqb}
+use lib.Dec.{eqb}
 use lib.ListN.{length}
 use borrow.Author.Tests.{lt-ltb, ltb-true}
 use Rattle.parts.specs.Pick.{pick}
-use Rattle.parts.proofs.Bools.{and-left, and-right, and-both}
+use Rattle.parts.specs.Bytes.{areBytes}
+use Rattle.parts.proofs.Below.{are-append}
+use Rattle.parts.proofs.Bools.{and-right}
 use Rattle.tag.specs.declared.RadioState.{RadioState}
 use Rattle.tag.specs.declared.RadioState.the-variants.{Ready, Quiet, Selected}
 use Rattle.tag.specs.declared.Space.{Space}
@@ -20,14 +22,7 @@ use Rattle.tag.specs.declared.Bus.{Bus}
 use Rattle.tag.specs.declared.Bus.the-variants.{Idle, Started, ReadLeg, WriteLeg, LowAddress, DataLeg}
 use Rattle.tag.specs.declared.Host.{Host}
 use Rattle.state.specs.Layout.{flagByte, lowByte, highByte, radioNumber, spaceNumber, airBytes, busBytes, hostBytes, registerBytes, mailboxBytes, passwordBytes, bytesOf}
-use Rattle.state.specs.Claims.{areBytes, isByte, isWord, areEight, busFits, PasswordsFit, EncodesBytes}
-
-are-append : (p q : List ℕ) → areBytes p ≡ true → areBytes q ≡ true → areBytes (p ++ q) ≡ true
-unfolding areBytes
-are-append [] q h k = k
-are-append (x ∷ p) q h k =
-    and-both (ltb x 256) (areBytes (p ++ q)) (and-left (ltb x 256) (areBytes p) h)
-    (are-append p q (and-right (ltb x 256) (areBytes p) h) k)
+use Rattle.state.specs.Claims.{isByte, isWord, areEight, busFits, PasswordsFit, EncodesBytes}
 
 flag-byte : (b : Bool) → isByte (flagByte b) ≡ true
 unfolding flagByte pick

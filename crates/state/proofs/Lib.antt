@@ -3,4 +3,5 @@ pub mod Numbers
 pub mod There
 pub mod Again
 pub mod AreBytes
+pub mod Decoded
 pub mod Stored

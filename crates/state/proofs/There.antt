@@ -7,7 +7,7 @@ use native.Mathlib.Omega.{arith}
 use lib.Dec.{eqb}
 use lib.ListN.{length, length-append}
 use borrow.Author.Tests.{eqb-true}
-use Rattle.parts.specs.Bytes.{bytesAt}
+use Rattle.parts.specs.Bytes.{bytesAt, areBytes}
 use Rattle.parts.proofs.Bools.{and-left}
 use Rattle.registers.specs.declared.Registers.{Registers}
 use Rattle.tag.specs.declared.Air.{Air}
@@ -18,7 +18,7 @@ use Rattle.tag.specs.declared.Bus.the-variants.{Idle, Started, ReadLeg, WriteLe
 use Rattle.tag.specs.declared.Host.{Host}
 use Rattle.tag.specs.declared.Tag.{Tag}
 use Rattle.state.specs.Layout.{airBytes, airDecodes, airAt, busBytes, isBus, busOf, busDecodes, busAt, hostBytes, hostDecodes, hostAt, registerBytes, registersAt, mailboxBytes, mailboxDecodes, mailboxAt, passwordBytes, passwordsAt, bytesOf, decodes, tagOf}
-use Rattle.state.specs.Claims.{areBytes, areEight, PasswordsFit, Fits, DecodesEncoded}
+use Rattle.state.specs.Claims.{areEight, PasswordsFit, Fits, DecodesEncoded}
 use Rattle.parts.specs.Pick.{pick}
 use Rattle.state.proofs.Places.{bytesAt-skip, bytesAt-head, bytesAt-whole, bytesAt-within}
 use Rattle.state.proofs.Numbers.{flag-fits, flag-back, radio-fits, radio-back, space-fits, space-back, word-back}

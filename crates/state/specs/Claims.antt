@@ -1,20 +1,16 @@
 -- The bytes and the state say the same.
 use mathlib.Core.Path.{_≡_}
 use mathlib.Core.Bool.{Bool, true, _&&_}
-use mathlib.Core.List.{List, [], _∷_}
+use mathlib.Core.List.{List}
 use Prim.Native.Nat.{ℕ}
 use lib.Dec.{ltb, eqb}
 use lib.ListN.{length}
+use Rattle.parts.specs.Bytes.{areBytes}
 use Rattle.tag.specs.declared.Bus.{Bus}
 use Rattle.tag.specs.declared.Bus.the-variants.{Idle, Started, ReadLeg, WriteLeg, LowAddress, DataLeg}
 use Rattle.tag.specs.declared.Passwords.{Passwords}
 use Rattle.tag.specs.declared.Tag.{Tag}
 use Rattle.state.specs.Layout.{registerBytes, bytesOf, decodes, tagOf}
-
--- a list of bytes
-unfoldable pub areBytes : List ℕ → Bool
-areBytes [] = true
-areBytes (x ∷ s) = ltb x 256 && areBytes s
 
 -- ---- each number of a tag fits its type
 abbrev pub isByte : ℕ → Bool
@@ -65,3 +61,7 @@ EncodesDecoded = (s : List ℕ) → areBytes s ≡ true → decodes s ≡ true �
 -- a tag's bytes are bytes
 abbrev pub EncodesBytes : Type 0
 EncodesBytes = (t : Tag) → Fits t → areBytes (bytesOf t) ≡ true
+
+-- the tag of bytes fits
+abbrev pub DecodedFits : Type 0
+DecodedFits = (s : List ℕ) → areBytes s ≡ true → Fits (tagOf s)

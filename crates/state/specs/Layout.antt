@@ -194,7 +194,7 @@ bytesOf t =
     ++ (passwordBytes (t .core .passwords)
     ++ t .uid .bytes))))
 
--- "Bytes decode to a state exactly when there are 83 of them, the flags are 0 or 1, places 1 and 8 and 9 hold one of their numbers, and every byte of 9 to 14 that the bus does not use is 0."
+-- Bytes decode to a state exactly when there are 83 of them, the flags are 0 or 1, places 1 and 8 and 9 hold one of their numbers, and every byte of 9 to 14 that the bus does not use is 0.
 unfoldable pub decodes : List ℕ → Bool
 decodes s = eqb (length s) stateBytes && airDecodes s 0 && hostDecodes s 3 && mailboxDecodes s 28
 

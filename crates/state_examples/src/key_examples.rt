@@ -64,7 +64,7 @@ fn i2c_replaced() {
     print::end();
 }
 
-pub fn uid() -> Uid {
+fn uid() -> Uid {
     Uid::at(b"\x01\x02\x03\x04\x05\x24\x02\xE0", 0)
 }
 

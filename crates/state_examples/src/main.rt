@@ -5,7 +5,6 @@ mod key_examples;
 mod mailbox_examples;
 mod print;
 mod radio_examples;
-mod range_examples;
 mod register_examples;
 mod right_examples;
 mod supply_examples;
@@ -19,5 +18,4 @@ fn main() {
     mailbox_examples::run();
     key_examples::run();
     supply_examples::run();
-    range_examples::run();
 }

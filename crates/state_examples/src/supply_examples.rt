@@ -16,30 +16,15 @@ pub fn run() {
     levels(true, true, 1);
 }
 
-// 0 idle, 1 started, 2 started with a transfer open, 3 a read leg, 4 a write leg, 5 after its high byte,
-// 6 past its address, 7 the same and spoiled.
-pub fn bus(kind: u8, count: u16) -> Bus {
-    let space = Space::User;
+// 0 idle, 1 started, 6 a write leg past its address.
+fn bus(kind: u8, count: u16) -> Bus {
     match kind {
         0 => Bus::Idle,
         1 => Bus::Started(false),
-        2 => Bus::Started(true),
-        3 => Bus::ReadLeg {
-            space,
-            over: false,
-            last: false,
-        },
-        4 => Bus::WriteLeg(space),
-        5 => Bus::LowAddress { space, high: 9 },
-        6 => Bus::DataLeg {
-            space,
+        _ => Bus::DataLeg {
+            space: Space::User,
             count,
             spoiled: false,
-        },
-        _ => Bus::DataLeg {
-            space,
-            count,
-            spoiled: true,
         },
     }
 }

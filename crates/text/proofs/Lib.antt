@@ -1,1 +1,4 @@
+pub mod PlaceLaws
+pub mod HexLaws
+pub mod DecimalLaws
 pub mod Scan

@@ -1,4 +1,4 @@
--- The rest of a line, one byte on, and at its end; and bytes in hex. Assumes nothing.
+-- The rest of a line, one byte on, and at its end. Assumes nothing.
 use mathlib.Core.Path.{_≡_, refl, ap, sym, _∙_}
 use mathlib.Core.Bool.{Bool, true, false}
 use mathlib.Core.List.{List, [], _∷_}
@@ -9,7 +9,7 @@ use lib.ListN.{length, drop, getD, drop-of-length-le, length-append}
 use lib.Seq.{drop-cons}
 use borrow.Author.Tests.{eq-eqb, ne-eqb}
 use Rattle.parts.specs.Pick.{pick}
-use Rattle.text.specs.Line.{lineLength, isDigit, allDigits, hexByte, hexBytes}
+use Rattle.text.specs.Line.{lineLength}
 
 -- at a line feed, before another byte, and past the end
 pub line-here : (s : List ℕ) (i : ℕ) → i < length s → getD s i 0 ≡ 10 → lineLength (drop i s) ≡ 0
@@ -23,21 +23,3 @@ line-on s i h e = rw (add-one, drop-cons s i 0 h, ne-eqb (getD s i 0) 10 e)
 pub line-past : (s : List ℕ) (i : ℕ) → length s ≤ i → lineLength (drop i s) ≡ 0
 unfolding lineLength
 line-past s i h = ap lineLength (drop-of-length-le s h)
-
--- the same of digits
-pub digit-no : (s : List ℕ) (i : ℕ) → i < length s → isDigit (getD s i 0) ≡ false → allDigits (drop i s) ≡ false
-unfolding allDigits
-digit-no s i h e = rw (drop-cons s i 0 h, e)
-
-pub digit-on : (s : List ℕ) (i : ℕ) → i < length s → isDigit (getD s i 0) ≡ true → allDigits (drop i s) ≡ allDigits (drop (i + 1) s)
-unfolding allDigits
-digit-on s i h e = rw (add-one, drop-cons s i 0 h, e)
-
-pub digits-past : (s : List ℕ) (i : ℕ) → length s ≤ i → allDigits (drop i s) ≡ true
-unfolding allDigits
-digits-past s i h = ap allDigits (drop-of-length-le s h)
-
-pub length-hexBytes : (s : List ℕ) (n : ℕ) → length (hexBytes s n) ≡ n
-unfolding hexBytes
-length-hexBytes s zero = refl
-length-hexBytes s (suc n) = omega (arith, length-hexBytes s n, length-append (hexBytes s n) (hexByte s (2 + 2 * n) ∷ []))

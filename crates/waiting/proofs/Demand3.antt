@@ -7,7 +7,7 @@ use Rattle.model.specs.Claims.{Keeps}
 use Rattle.model.proofs.Kept.{keeps}
 use Rattle.waiting.specs.Calls.{Call, Said, Device, Ran, entry, runBy}
 use Rattle.waiting.specs.Waiting.{Waiting, closed, inside, waitStep, waitRun}
-use Rattle.waiting.specs.Claim.{framesFit, isClosed, Demand3, EndsAlike}
+use Rattle.waiting.specs.Claim.{framesFit, isClosed, Agrees, EveryList, Demand3, EndsAlike}
 use Rattle.waiting.proofs.OneCall.{Fits}
 use Rattle.waiting.proofs.Struck.{first-fits, rest-fits, fits-next, judged, striking, all-shut}
 use Rattle.waiting.proofs.Follow.{now, answers, Good, stepped}
@@ -43,9 +43,9 @@ unfolding now answers isClosed
 all-answered (closed out k) r d a h = ap (λ (k : Device). closed out k) d ∙ ap (λ (out : List Said). closed out (r .device)) a
 all-answered (inside out k n sl) r d a h = absurd (false≢true h)
 
-demand-3-from : Keeps → Demand3 entry
+agreed-from : Keeps → EveryList (Agrees entry)
 unfolding now answers
-demand-3-from kept d cs range size frames shut end =
+agreed-from kept d cs range size frames shut end =
     let f : Fits d = record { range = range; size = size } in
     let p = follows kept cs (closed [] d) frames shut f in
     record {
@@ -56,10 +56,19 @@ demand-3-from kept d cs range size frames shut end =
     }
 
 -- the theorem
+pub agreed : EveryList (Agrees entry)
+agreed = agreed-from keeps
+
 pub demand-3 : Demand3 entry
-demand-3 = demand-3-from keeps
+demand-3 = agreed
 
 -- ---- the end of the list
+pub ends-shut : EveryList (λ (d : Device) (cs : List Call). transferOpen (runBy entry d cs .device .tag) ≡ false)
+unfolding now
+ends-shut d cs range size frames shut end =
+    let p = follows keeps cs (closed [] d) frames shut (record { range = range; size = size }) in
+    subst Good (agreed d cs range size frames shut end .same) (p .good)
+
 is-closed : (w : Waiting) (d : Device) → Good w → now w ≡ d → transferOpen (d .tag) ≡ false → isClosed w ≡ true
 unfolding now isClosed
 is-closed (closed out k) d g e h = refl

@@ -27,11 +27,12 @@ use Rattle.transfer.specs.Legs.{Noted, Start, Send, Fetch, Stop, VccOff, wireSi
 use Rattle.transfer.specs.Whole.{Ran, ran, transferOf}
 use Rattle.transfer.specs.Claim.{runOf, Ready}
 use Rattle.transfer.proofs.Transfer.{demand-2}
+use Rattle.model.specs.declared.Refusal.the-variants.{ReplyShort, SignalUnknown}
 use Rattle.model.specs.declared.Answer.the-variants.{Refused, Nothing}
 use Rattle.model.specs.declared.Signal.{Signal}
 use Rattle.model.specs.declared.Signal.the-variants.{Wire, Field, Frame}
 use Rattle.model.specs.Signals.{signalInRange, signalBy}
-use Rattle.model.specs.Step.{number, replyShort, signalUnknown, fromWire, wireSide, withWire, withAir, transferOpen, actOf}
+use Rattle.model.specs.Step.{fromWire, wireSide, withWire, withAir, transferOpen, actOf}
 use Rattle.waiting.specs.Calls.{Call, Said, said, Device, device, Done, done, entry}
 use Rattle.waiting.specs.Waiting.{Slot, given, waits, fill, Waiting, closed, inside, answered, isStarted, ackedSelect, atOnce, acts, whenClosed, note, frameAnswer, notes, whenOpen, waitAct, waitStep}
 use Rattle.waiting.specs.Claim.{spoken}
@@ -296,6 +297,6 @@ pub stepped : (w : Waiting) (c : Call) → Good w → Fits (now w) → Stepped w
 unfolding waitStep
 stepped w c g f =
     subst (Stepped w (waitStep w c)) (sym (call-is (now w) c f))
-    (both w (ltb (length (c .buffer)) replyBytes) _ _ _ _ (at-refusal w (said (Refused (number replyShort)) (c .buffer)) g)
-    (both w (not (signalInRange (c .code) (c .value))) _ _ _ _ (at-refusal w (said (Refused (number signalUnknown)) (c .buffer)) g)
+    (both w (ltb (length (c .buffer)) replyBytes) _ _ _ _ (at-refusal w (said (Refused ReplyShort) (c .buffer)) g)
+    (both w (not (signalInRange (c .code) (c .value))) _ _ _ _ (at-refusal w (said (Refused SignalUnknown) (c .buffer)) g)
     (at-signal w (signalBy (c .code) (c .value)) c g f)))

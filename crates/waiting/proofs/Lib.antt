@@ -4,5 +4,8 @@ pub mod OneCall
 pub mod Struck
 pub mod Follow
 pub mod Demand3
+pub mod Follows
 pub mod Entry
+pub mod Behind
 pub mod Wrong
+pub mod Computes

@@ -23,6 +23,7 @@ use Rattle.signal.proofs.Line.{registers-stay}
 use Rattle.reply.specs.declared.RadioSide.{RadioSide}
 use Rattle.reply.specs.declared.Answer.{Answer as RadioAnswer}
 use Rattle.reply.specs.declared.Answer.the-variants.{Silence as RadioSilence, Reply as RadioReply}
+use Rattle.errors.specs.declared.RadioError.the-variants.{ShutOut}
 use Rattle.reply.specs.Reply.{Said as Reply, nothing, fault}
 use Rattle.reply.specs.Outcome.{Told, told}
 use Rattle.frame.specs.declared.Verdict.{Verdict}
@@ -30,16 +31,18 @@ use Rattle.frame.specs.declared.Verdict.the-variants.{Silence, Error}
 use Rattle.frame.specs.Judge.{isSilent, isMute, errorOf, shutOut}
 use Rattle.frame.proofs.ShutOut.{shut-out-decides}
 use Rattle.radio.specs.Radio.{answered, radioOf}
+use Rattle.model.specs.declared.Refusal.{Refusal}
+use Rattle.model.specs.declared.Refusal.the-variants.{ReplyShort, SignalUnknown}
 use Rattle.model.specs.declared.Answer.{Answer}
 use Rattle.model.specs.declared.Answer.the-variants.{Refused}
 use Rattle.model.specs.declared.Signal.{Signal}
 use Rattle.model.specs.declared.Signal.the-variants.{Wire, Field, Frame}
 use Rattle.model.specs.Signals.{signalInRange, signalBy}
-use Rattle.model.specs.Step.{Ended, number, memoryLength, replyShort, signalUnknown, outOfRange, refused, fromWire, fromRadio, wireSide, radioSide, transferOpen, tagInRange, actOf, stepOf}
+use Rattle.model.specs.Step.{Ended, refused, fromWire, fromRadio, wireSide, radioSide, transferOpen, tagInRange, actOf, stepOf}
 use Rattle.model.specs.Claims.{Fit}
 use Rattle.waiting.specs.Calls.{Call, said, Device, device, Done, done, doneBy, entry}
 use Rattle.waiting.specs.Waiting.{frameAnswer}
-use Rattle.waiting.specs.Claim.{refusedBy, isRefusal, isFrame, struck, shutReply, spoken}
+use Rattle.waiting.specs.Claim.{refusedByState, isRefusal, isFrame, struck, shutReply, spoken}
 
 -- ---- refusals 1 and 4 do not come
 abbrev pub Fits : Device → Type 0
@@ -52,47 +55,47 @@ actedBy x d c = doneBy (actOf x (d .tag) (d .memory) (c .buffer) (c .frame))
 abbrev pub acted : Device → Call → Done
 acted d c = actedBy (signalBy (c .code) (c .value)) d c
 
-abbrev pub refusal : ℕ → Device → Call → Done
-refusal n d c = done (said (Refused n) (c .buffer)) d
+abbrev pub refusal : Refusal → Device → Call → Done
+refusal r d c = done (said (Refused r) (c .buffer)) d
 
 in-range : (t : Tag) (m o : List ℕ) (code value : ℕ) (s : List ℕ) → Fit t m
     → stepOf t m o code value s
-    ≡ pick (ltb (length o) replyBytes) (refused replyShort t m o)
-    (pick (not (signalInRange code value)) (refused signalUnknown t m o) (actOf (signalBy code value) t m o s))
+    ≡ pick (ltb (length o) replyBytes) (refused ReplyShort t m o)
+    (pick (not (signalInRange code value)) (refused SignalUnknown t m o) (actOf (signalBy code value) t m o s))
 unfolding stepOf
 in-range t m o code value s f =
     sym (pick-false _ _ _ (not (eqb (length m) memoryBytes)) (rw (eq-eqb (length m) memoryBytes (f .size)))
-    (ap (λ (e : Ended). pick (ltb (length o) replyBytes) (refused replyShort t m o) (pick (not (signalInRange code value)) (refused signalUnknown t m o) e))
+    (ap (λ (e : Ended). pick (ltb (length o) replyBytes) (refused ReplyShort t m o) (pick (not (signalInRange code value)) (refused SignalUnknown t m o) e))
     (pick-false _ _ _ (not (tagInRange t m)) (rw (f .range)) refl)))
 
 pub call-is : (d : Device) (c : Call) → Fits d
     → entry d c
-    ≡ pick (ltb (length (c .buffer)) replyBytes) (refusal (number replyShort) d c)
-    (pick (not (signalInRange (c .code) (c .value))) (refusal (number signalUnknown) d c) (acted d c))
+    ≡ pick (ltb (length (c .buffer)) replyBytes) (refusal ReplyShort d c)
+    (pick (not (signalInRange (c .code) (c .value))) (refusal SignalUnknown d c) (acted d c))
 unfolding entry
 call-is d c f =
     let short = ltb (length (c .buffer)) replyBytes in
     let unknown = not (signalInRange (c .code) (c .value)) in
     ap doneBy (in-range (d .tag) (d .memory) (c .buffer) (c .code) (c .value) (c .frame) f)
     ∙ pick-map doneBy short _ _
-    ∙ ap (pick short (refusal (number replyShort) d c)) (pick-map doneBy unknown _ _)
+    ∙ ap (pick short (refusal ReplyShort d c)) (pick-map doneBy unknown _ _)
 
 -- a property of a call, from each refusal and from the signal
 pub call-case : (P : Done → Type 0) (d : Device) (c : Call) → Fits d
-    → P (refusal (number replyShort) d c) → P (refusal (number signalUnknown) d c) → P (acted d c) → P (entry d c)
+    → P (refusal ReplyShort d c) → P (refusal SignalUnknown d c) → P (acted d c) → P (entry d c)
 call-case P d c f p q r =
     subst P (sym (call-is d c f)) (pick-case P _ _ _ (λ h. p) (λ h. pick-case P _ _ _ (λ h. q) (λ h. r)))
 
 -- ---- a frame while a transfer is open
 two-tests : (a b : Bool) (t : RadioSide) (u : Uid) (vcc : Bool) (m s : List ℕ)
-    → answered (pick a Silence (pick b Silence (Error 0x0F))) t u vcc m s ≡ told (pick (a || b) nothing (fault 0x0F)) t m
+    → answered (pick a Silence (pick b Silence (Error ShutOut))) t u vcc m s ≡ told (pick (a || b) nothing (fault ShutOut)) t m
 unfolding answered pick
 two-tests true b t u vcc m s = refl
 two-tests false true t u vcc m s = refl
 two-tests false false t u vcc m s = refl
 
 abbrev pub shutBy : List ℕ → Air → Uid → RfMngt → Reply
-shutBy s a u d = pick (isSilent s a u d || isMute s u) nothing (fault 0x0F)
+shutBy s a u d = pick (isSilent s a u d || isMute s u) nothing (fault ShutOut)
 
 pub shut-told : (t : RadioSide) (u : Uid) (vcc transfer programming : Bool) (m s : List ℕ) → transfer ≡ true
     → radioOf t u vcc transfer programming m s ≡ told (shutBy s (t .air) u (t .core .registers .dynamic)) t m
@@ -162,29 +165,29 @@ call-stays d c f =
     (act-stays (signalBy (c .code) (c .value)) d c f)
 
 -- ---- its answer is not refusal 1 or 4
-abbrev Judged : Answer → Type 0
-Judged a = (refusedBy (number memoryLength) a || refusedBy (number outOfRange) a) ≡ false
+abbrev NotByState : Answer → Type 0
+NotByState a = refusedByState a ≡ false
 
-wire-judged : (a : WireAnswer) → Judged (fromWire a)
-unfolding refusedBy fromWire
+wire-judged : (a : WireAnswer) → NotByState (fromWire a)
+unfolding refusedByState fromWire
 wire-judged WireNothing = refl
 wire-judged WireAck = refl
 wire-judged WireNoAck = refl
 wire-judged (WireByte x) = refl
 
-radio-judged : (a : RadioAnswer) → Judged (fromRadio a)
-unfolding refusedBy fromRadio
+radio-judged : (a : RadioAnswer) → NotByState (fromRadio a)
+unfolding refusedByState fromRadio
 radio-judged RadioSilence = refl
 radio-judged (RadioReply n) = refl
 
-act-judged : (x : Signal) (d : Device) (c : Call) → Judged (actedBy x d c .says .answer)
-unfolding actOf refusedBy
+act-judged : (x : Signal) (d : Device) (c : Call) → NotByState (actedBy x d c .says .answer)
+unfolding actOf refusedByState
 act-judged (Wire x) d c = wire-judged _
 act-judged (Field on) d c = refl
 act-judged Frame d c = radio-judged _
 
 pub call-judged : (d : Device) (c : Call) → Fits d
-    → (refusedBy (number memoryLength) (entry d c .says .answer) || refusedBy (number outOfRange) (entry d c .says .answer)) ≡ false
-unfolding refusedBy number
+    → refusedByState (entry d c .says .answer) ≡ false
+unfolding refusedByState
 call-judged d c f =
-    call-case (λ (e : Done). Judged (e .says .answer)) d c f refl refl (act-judged (signalBy (c .code) (c .value)) d c)
+    call-case (λ (e : Done). NotByState (e .says .answer)) d c f refl refl (act-judged (signalBy (c .code) (c .value)) d c)

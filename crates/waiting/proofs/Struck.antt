@@ -4,15 +4,17 @@ use mathlib.Core.Path.{_≡_, refl, sym, ap, subst, _∙_}
 use mathlib.Core.Bool.{Bool, true, false, _||_}
 use mathlib.Core.List.{List, [], _∷_}
 use Rattle.parts.specs.Pick.{pick}
+use Rattle.parts.specs.Bytes.{areBytes}
 use Rattle.parts.proofs.Picks.{pick-case}
 use Rattle.parts.proofs.Bools.{and-left, and-right}
 use Rattle.registers.specs.declared.Registers.{Registers}
 use Rattle.tag.specs.declared.Uid.{Uid}
 use Rattle.tag.specs.declared.Tag.{Tag}
 use Rattle.model.specs.Step.{transferOpen}
-use Rattle.model.specs.Claims.{areBytes, Keeps}
+use Rattle.model.specs.Claims.{Keeps}
 use Rattle.waiting.specs.Calls.{Call, Said, Device, Done, Ran, ran, entry, runBy}
-use Rattle.waiting.specs.Claim.{framesFit, stateRefused, struck, others, otherAnswers, spoken, Shut, startAfter, AllShut}
+use Rattle.waiting.specs.Claim.{framesFit, stateRefused, struck, others, otherAnswers, spoken, Shut, startAfter, EachStruck, AllShut}
+use Rattle.waiting.specs.Follows.{RepliesShut}
 use Rattle.waiting.proofs.OneCall.{Fits, shutBy, struck-is, Stays, call-stays, call-judged}
 
 -- ---- one call
@@ -21,16 +23,14 @@ pub record Since (start t : Tag) : Type 0 where
   pub uid : start .uid ≡ t .uid
   pub registers : start .core .registers ≡ t .core .registers
 
+shut-reply : (start : Tag) (d : Device) (c : Call) → Fits d → Since start (d .tag) → struck entry d c ≡ true → RepliesShut entry start d c
+shut-reply start d c f s h =
+    ap (λ (e : Done). e .says) (struck-is d c f h)
+    ∙ ap (λ (u : Uid). spoken (shutBy (c .frame) (d .tag .air) u (d .tag .core .registers .dynamic)) (c .buffer)) (sym (s .uid))
+    ∙ ap (λ (g : Registers). spoken (shutBy (c .frame) (d .tag .air) (start .uid) (g .dynamic)) (c .buffer)) (sym (s .registers))
+
 shut-call : (start : Tag) (d : Device) (c : Call) → Fits d → Since start (d .tag) → struck entry d c ≡ true → Shut entry start d c
-shut-call start d c f s h =
-    let e = struck-is d c f h in
-    record {
-      unchanged = ap (λ (e : Done). e .device) e;
-      reply =
-          ap (λ (e : Done). e .says) e
-          ∙ ap (λ (u : Uid). spoken (shutBy (c .frame) (d .tag .air) u (d .tag .core .registers .dynamic)) (c .buffer)) (sym (s .uid))
-          ∙ ap (λ (g : Registers). spoken (shutBy (c .frame) (d .tag .air) (start .uid) (g .dynamic)) (c .buffer)) (sym (s .registers));
-    }
+shut-call start d c f s h = record { unchanged = ap (λ (e : Done). e .device) (struck-is d c f h); reply = shut-reply start d c f s h }
 
 -- with none open the tag itself is the start
 since-after : (start t : Tag) → (transferOpen t ≡ true → Since start t) → Since (startAfter start t) t
@@ -40,7 +40,7 @@ since-next : (start : Tag) (d : Device) (e : Done) → Stays d e → Since start
 since-next start d e k s h = record { uid = s .uid ∙ sym (k .uid); registers = s .registers ∙ sym (k .registers h) }
 
 -- `rest` are the calls left of the others, `said` their answers
-abbrev RunsTo : Device → List Call → List Said → Device → Type 0
+abbrev pub RunsTo : Device → List Call → List Said → Device → Type 0
 RunsTo d rest said end = runBy entry d rest ≡ ran said end
 
 strike : (d : Device) (c : Call) (rest : List Call) (said : List Said) (end : Device) → entry d c .device ≡ d
@@ -53,7 +53,7 @@ unfolding runBy
 leave d c rest said end r = ap (λ (x : Ran). ran (entry d c .says ∷ x .answers) (x .device)) r
 
 -- struck out or not
-by-test : (b : Bool) (d : Device) (c : Call) (rest : List Call) (said : List Said) (end : Device) → (b ≡ true → entry d c .device ≡ d)
+pub by-test : (b : Bool) (d : Device) (c : Call) (rest : List Call) (said : List Said) (end : Device) → (b ≡ true → entry d c .device ≡ d)
     → RunsTo (entry d c .device) rest said end → RunsTo d (pick b rest (c ∷ rest)) (pick b said (entry d c .says ∷ said)) end
 unfolding pick
 by-test true d c rest said end h r = strike d c rest said end (h refl) r
@@ -90,13 +90,23 @@ module _ (kept : Keeps) where
       (λ h. ap (λ (e : Done). e .device) (struck-is d c f h))
       (striking cs e (rest-fits c cs b) (fits-next d c (first-fits c cs b) f))
 
+  -- every struck frame, with what holds of each one
+  each-struck : (P : Tag → Device → Call → Type 0) → ((start : Tag) (d : Device) (c : Call) → Fits d → Since start (d .tag) → struck entry d c ≡ true → P start d c)
+      → (cs : List Call) (start : Tag) (d : Device) → framesFit cs ≡ true → Fits d → (transferOpen (d .tag) ≡ true → Since start (d .tag)) → EachStruck entry P start d cs
+  unfolding EachStruck
+  each-struck P p [] start d b f s = tt
+  each-struck P p (c ∷ cs) start d b f s =
+      let now = startAfter start (d .tag) in
+      let since = since-after start (d .tag) s in (
+        p now d c f since,
+        each-struck P p cs now (entry d c .device) (rest-fits c cs b) (fits-next d c (first-fits c cs b) f) (since-next now d (entry d c) (call-stays d c f) since),
+      )
+
   pub all-shut : (cs : List Call) (start : Tag) (d : Device) → framesFit cs ≡ true → Fits d → (transferOpen (d .tag) ≡ true → Since start (d .tag))
       → AllShut entry start d cs
   unfolding AllShut
-  all-shut [] start d b f s = tt
-  all-shut (c ∷ cs) start d b f s =
-      let now = startAfter start (d .tag) in
-      let since = since-after start (d .tag) s in (
-        shut-call now d c f since,
-        all-shut cs now (entry d c .device) (rest-fits c cs b) (fits-next d c (first-fits c cs b) f) (since-next now d (entry d c) (call-stays d c f) since),
-      )
+  all-shut = each-struck (Shut entry) shut-call
+
+  pub all-reply : (cs : List Call) (start : Tag) (d : Device) → framesFit cs ≡ true → Fits d → (transferOpen (d .tag) ≡ true → Since start (d .tag))
+      → EachStruck entry (RepliesShut entry) start d cs
+  all-reply = each-struck (RepliesShut entry) shut-reply

@@ -1,156 +1,243 @@
 -- Tags that demand 3 shuts out, each by one list. Assumes nothing.
-use mathlib.Core.Path.{_≡_, refl, ap}
-use mathlib.Core.Bool.{Bool, true, false, false≢true}
+use mathlib.Core.Path.{_≡_, refl, sym, ap}
+use mathlib.Core.Bool.{true, false, false≢true}
 use mathlib.Core.List.{List, [], _∷_, _++_}
-use Prim.Native.Nat.{ℕ}
+use Prim.Native.Nat.{ℕ, _+_}
 use native.Mathlib.Omega.{arith}
 use lib.ListN.{getD, replicate}
-use Rattle.parts.specs.Pick.{pick}
-use Rattle.parts.specs.Bytes.{bytesAt, agree}
-use Rattle.crc.specs.Crc.{shifted, bit, bits, byte, run, crcOf, goodFrame}
-use Rattle.registers.specs.Defined.{definedOnly, freshRegisters}
-use Rattle.areas.specs.Ends.{areaOfBlock, areaOfByte, endsInRange}
-use Rattle.areas.specs.Rights.{radioReads, wireBits, wireWrites, isLocked, readRight, writeRight, mayRead, mayWrite}
-use Rattle.tag.specs.declared.RadioState.the-variants.{Ready, Selected}
+use Rattle.tag.specs.declared.RadioState.the-variants.{Selected}
 use Rattle.tag.specs.declared.Bus.the-variants.{Started}
-use Rattle.tag.specs.declared.RadioState.{RadioState}
-use Rattle.tag.specs.declared.Uid.{Uid}
-use Rattle.tag.specs.Layout.{memoryBytes, replyBytes}
 use Rattle.tag.specs.Bus.{isOpen, pageBytes}
-use Rattle.tag.specs.Radio.{isQuiet, isSelected, deselected}
-use Rattle.tag.specs.Supply.{vccAt, freshTag}
-use Rattle.ranges.specs.Ranges.{registersInRange, airInRange, mailboxInRange, suppliedInRange, hostInRange, coreInRange, wireInRange, inRange}
-use Rattle.rule.specs.Select.{selectOf, choose, firstOf}
-use Rattle.rule.specs.Rule.{memoryAcked, userAcked, spaceAcked, acked}
-use Rattle.rule.specs.PageRange.{pageAcked, busInRange}
-use Rattle.leg.specs.Effect.{userWritten, legWritten, settle}
-use Rattle.signal.specs.Signal.{dueOf, startAt, startOf, stopAt, selectBy, dataOf, sendAt, signalOf}
-use Rattle.transfer.specs.Legs.{isRefused, ends, fresher, isEmpty, finished, push, parse}
-use Rattle.transfer.specs.Whole.{bytesSent, accepted, writeLeg, selected, legOf, lastLeg, legsOf, transferOf}
-use Rattle.reply.specs.Reply.{answerOf}
-use Rattle.frame.specs.Fields.{uidPlace, paramPlace, ownUid, param, isKnown, paramBytes}
-use Rattle.frame.specs.Judge.{isSilent, isMute, errorOf, badFlags, wrongLength, judge}
-use Rattle.blocks.specs.Blocks.{leaves, blockOf, blocksOf, readOf}
-use Rattle.radio.specs.Commands.{serveOf}
-use Rattle.radio.specs.Radio.{answered as verdictAnswered, radioOf}
+use Rattle.tag.specs.Radio.{isSelected}
 use Rattle.model.specs.declared.Answer.{Answer}
 use Rattle.model.specs.declared.Answer.the-variants.{Refused, Nothing, Ack, NoAck, Byte, Silence, Reply}
-use Rattle.model.specs.Signals.{topValue, signalInRange, signalBy}
-use Rattle.model.specs.Step.{fromRadio, tagInRange, actOf, stepOf}
-use Rattle.model.specs.Claims.{areBytes}
-use Rattle.waiting.specs.Calls.{Call, Said, Device, device, entry, runBy}
-use Rattle.waiting.specs.Waiting.{Waiting, closed, inside, isStarted, ackedSelect, whenClosed, note, whenOpen, waitAct, waitStep, waitRun, answered}
-use Rattle.waiting.specs.Claim.{framesFit, isRefusal, isFrame, struck, AllShut, isClosed}
+use Rattle.model.specs.Step.{number}
+use Rattle.waiting.specs.Calls.{Call, Said, said, Device, Step, Ran}
+use Rattle.waiting.specs.Examples.{vccTo, start, send, stop, programmingEnd, frame, zeros, powered, _but_, radioState, radioSession, fieldIs, vccIs, i2cSession, beingProgrammed, counterAt, onBus, mailboxMode, hostMessage, bytes}
+use Rattle.waiting.specs.Waiting.{Waiting, closed, inside}
 use Rattle.waiting.specs.Wrong.{Refuted, isBlank, feigning, readsHalf, otherSelect, deselects, commitsAtOff, answersFromLeg, neverCloses}
-
--- ---- a fresh tag in a radio state, both supplies on, the bus started
-abbrev own : Uid
-own = record { bytes = 0x01 ∷ 0x02 ∷ 0x03 ∷ 0x04 ∷ 0x05 ∷ 0x24 ∷ 0x02 ∷ 0xE0 ∷ [] }
-
-abbrev ready : RadioState → Device
-ready r = device (record {
-  air = record { field = true; radio = r; session = 0 };
-  host = record { vcc = true; session = false; programming = false; counter = 0; bus = Started false };
-  core = freshTag own .core;
-  uid = own;
-}) (replicate memoryBytes 0)
+use Rattle.waiting.specs.Pinned.{misanswering, touching, isReply, stopAcked, refusedByThree, replyByteWrong, pastReply, refusalTouches, struckTouches, behind, sessionPastRange, clearsPage, stopOutOfRange, isUserWriteLeg, marksFrames, hidesField, AllRefuted, wrongTags, WrongTagsRefuted}
+use Rattle.waiting.proofs.Computes.{agrees}
 
 -- ---- calls
-abbrev call : ℕ → ℕ → List ℕ → Call
-call code value s = record { buffer = replicate replyBytes 0; code = code; value = value; frame = s }
-
-abbrev vccOff : Call
-vccOff = call 1 0 []
-
-abbrev start : Call
-start = call 3 0 []
-
-abbrev send : ℕ → Call
-send x = call 4 x []
-
-abbrev stop : Call
-stop = call 6 0 []
-
-abbrev programmingEnd : Call
-programmingEnd = call 7 0 []
+-- a select for writing, and an address
+abbrev at : ℕ → ℕ → List Call
+at high low = start ∷ send 0xA6 ∷ send high ∷ send low ∷ []
 
 -- 02 20 7F: block 127 is read
 abbrev read : Call
-read = call 8 0 (0x02 ∷ 0x20 ∷ 0x7F ∷ 0x37 ∷ 0xDB ∷ [])
+read = frame (0x02 ∷ 0x20 ∷ 0x7F ∷ [])
 
 -- 22 25 and a UID of zeros: a Select with another UID
 abbrev selectOther : Call
-selectOther = call 8 0 (0x22 ∷ 0x25 ∷ 0 ∷ 0 ∷ 0 ∷ 0 ∷ 0 ∷ 0 ∷ 0 ∷ 0 ∷ 0xA2 ∷ 0x12 ∷ [])
+selectOther = frame (0x22 ∷ 0x25 ∷ zeros 8)
 
--- ---- what is compared
--- byte i of the kept tag's memory
-unfoldable keptByte : ℕ → Waiting → ℕ
-keptByte i (closed out k) = getD (k .memory) i 0
-keptByte i (inside out k n sl) = getD (k .memory) i 0
+-- password 0 presented, all zeros
+abbrev present : Call
+present = frame (0x02 ∷ 0xB3 ∷ 0x02 ∷ 0 ∷ zeros 8)
 
--- its transfer is open
-unfoldable keptOpen : Waiting → Bool
-keptOpen (closed out k) = isOpen (k .tag .host .bus)
-keptOpen (inside out k n sl) = isOpen (k .tag .host .bus)
+-- a Stop with a reply buffer of ten zeros
+abbrev shortStop : Call
+shortStop = record { buffer = zeros 10; code = 6; value = 0; frame = [] }
 
--- the length of a reply, 0 in silence
-unfoldable replyLength : Answer → ℕ
-replyLength (Refused n) = 0
-replyLength Nothing = 0
-replyLength Ack = 0
-replyLength NoAck = 0
-replyLength (Byte x) = 0
-replyLength Silence = 0
-replyLength (Reply n) = n
+-- ---- what is compared: of the waiting tag, then of a run
+unfoldable kept : Waiting → Device
+kept (closed out k) = k
+kept (inside out k n sl) = k
 
-abbrev saidLength : Said → ℕ
-saidLength a = replyLength (a .answer)
+unfoldable said-by : Waiting → List Said
+said-by (closed out k) = out
+said-by (inside out k n sl) = out
 
-abbrev selectedIn : Device → Bool
-selectedIn d = isSelected (d .tag .air .radio)
+unfoldable code : Answer → ℕ
+code (Refused why) = number why
+code Nothing = 5
+code Ack = 6
+code NoAck = 7
+code (Byte x) = 8
+code Silence = 9
+code (Reply n) = 10 + n
 
--- ---- one list for each; the hypotheses of the claim compute, and so do both sides of what it says
+abbrev saidAt : ℕ → List Said → Said
+saidAt i l = getD l i (said Nothing [])
+
+-- the answer to call i, and byte j of its reply buffer
+abbrev answerTo : ℕ → Waiting → ℕ
+answerTo i w = code (saidAt i (said-by w) .answer)
+
+abbrev byteTo : ℕ → ℕ → Waiting → ℕ
+byteTo i j w = getD (saidAt i (said-by w) .buffer) j 0
+
+-- byte i of the memory that is left
+abbrev byteLeft : ℕ → Waiting → ℕ
+byteLeft i w = getD (kept w .memory) i 0
+
+-- ---- `same`, the final tag and its bytes
 -- two transfers write 1 to byte 0 and 2 to byte 1; the second is feigned
-pub feigning-refuted : Refuted feigning
-unfolding feigning isBlank keptByte entry runBy stepOf actOf tagInRange inRange airInRange wireInRange coreInRange hostInRange suppliedInRange mailboxInRange registersInRange definedOnly endsInRange freshTag freshRegisters isOpen pageBytes busInRange pageAcked pick signalInRange signalBy topValue framesFit areBytes signalOf sendAt stopAt selectBy choose selectOf dueOf settle bytesAt areaOfBlock waitRun waitStep waitAct whenClosed whenOpen ackedSelect isStarted isRefused note finished ends fresher isEmpty transferOf parse push legsOf legOf lastLeg writeLeg selected bytesSent accepted acked spaceAcked userAcked memoryAcked areaOfByte mayWrite isLocked writeRight wireWrites wireBits dataOf startOf startAt firstOf legWritten userWritten isClosed answered
+feigning-refuted : Refuted feigning
+unfolding agrees feigning isBlank kept
 feigning-refuted h =
-    let first = send 0xA6 ∷ send 0 ∷ send 0 ∷ send 1 ∷ stop ∷ [] in
-    let second = send 0xA6 ∷ send 0 ∷ send 1 ∷ send 2 ∷ stop ∷ [] in
-    let f : _≡_ {A = ℕ} 2 0 = ap (keptByte 1) (h (ready Ready) (first ++ programmingEnd ∷ start ∷ second) refl refl refl refl refl .same) in
+    let calls = at 0 0 ++ send 1 ∷ stop ∷ programmingEnd ∷ [] ++ at 0 1 ++ send 2 ∷ stop ∷ [] in
+    let f : _≡_ {A = ℕ} 2 0 = ap (byteLeft 1) (h powered calls refl refl refl refl refl .same) in
     omega arith
-
--- a block is read between the select and the Stop: its reply is 7 bytes long, and not error 0Fh
-pub reads-half-refuted : Refuted readsHalf
-unfolding readsHalf replyLength entry runBy stepOf actOf tagInRange inRange airInRange wireInRange coreInRange hostInRange suppliedInRange mailboxInRange registersInRange definedOnly endsInRange freshTag freshRegisters isOpen pageBytes busInRange pick signalInRange signalBy topValue framesFit areBytes signalOf sendAt stopAt selectBy choose selectOf dueOf settle struck isFrame isRefusal fromRadio answerOf radioOf verdictAnswered judge isSilent isMute goodFrame crcOf run byte bits bit shifted isQuiet paramPlace uidPlace bytesAt isKnown badFlags wrongLength paramBytes param serveOf readOf leaves areaOfBlock mayRead readRight radioReads blocksOf blockOf errorOf AllShut isClosed waitRun waitStep waitAct whenClosed whenOpen ackedSelect isStarted isRefused note finished ends fresher isEmpty answered
-reads-half-refuted h =
-    let f : _≡_ {A = ℕ} 7 4 = ap saidLength (h (ready Ready) (send 0xA6 ∷ read ∷ stop ∷ []) refl refl refl refl refl .shut .1 .0 refl .reply) in
-    omega arith
-
--- the tag was Selected
-pub deselects-refuted : Refuted deselects
-unfolding deselects otherSelect deselected entry runBy stepOf actOf tagInRange inRange airInRange wireInRange coreInRange hostInRange suppliedInRange mailboxInRange registersInRange definedOnly endsInRange freshTag freshRegisters isOpen pageBytes busInRange pick signalInRange signalBy topValue framesFit areBytes signalOf sendAt stopAt selectBy choose selectOf dueOf settle struck isFrame isRefusal fromRadio answerOf radioOf verdictAnswered judge isSilent isMute goodFrame crcOf run byte bits bit shifted isSelected paramPlace uidPlace ownUid agree bytesAt errorOf AllShut isClosed waitRun waitStep waitAct whenClosed whenOpen ackedSelect isStarted isRefused note finished ends fresher isEmpty answered
-deselects-refuted h =
-    let f : false ≡ true = ap selectedIn (h (ready Selected) (send 0xA6 ∷ selectOther ∷ stop ∷ []) refl refl refl refl refl .shut .1 .0 refl .unchanged) in
-    false≢true f
 
 -- byte 0 is sent and VCC fails
-pub commits-at-off-refuted : Refuted commitsAtOff
-unfolding commitsAtOff keptByte entry runBy stepOf actOf tagInRange inRange airInRange wireInRange coreInRange hostInRange suppliedInRange mailboxInRange registersInRange definedOnly endsInRange freshTag freshRegisters isOpen pageBytes busInRange pageAcked pick signalInRange signalBy topValue framesFit areBytes signalOf sendAt stopAt selectBy choose selectOf dueOf settle bytesAt areaOfBlock waitRun waitStep waitAct whenClosed whenOpen ackedSelect isStarted isRefused note finished ends fresher isEmpty transferOf parse push legsOf legOf lastLeg writeLeg selected bytesSent accepted acked spaceAcked userAcked memoryAcked areaOfByte mayWrite isLocked writeRight wireWrites wireBits dataOf startOf startAt firstOf legWritten userWritten vccAt isClosed answered
+commits-at-off-refuted : Refuted commitsAtOff
+unfolding agrees commitsAtOff kept
 commits-at-off-refuted h =
-    let f : _≡_ {A = ℕ} 0 1 = ap (keptByte 0) (h (ready Ready) (send 0xA6 ∷ send 0 ∷ send 0 ∷ send 1 ∷ vccOff ∷ []) refl refl refl refl refl .same) in
+    let f : _≡_ {A = ℕ} 0 1 = ap (byteLeft 0) (h powered (at 0 0 ++ send 1 ∷ vccTo 0 ∷ []) refl refl refl refl refl .same) in
     omega arith
 
--- RF_MNGT_Dyn gets its b1 at the Stop; before it a frame is not silent
-pub answers-from-leg-refuted : Refuted answersFromLeg
-unfolding answersFromLeg replyLength entry runBy stepOf actOf tagInRange inRange airInRange wireInRange coreInRange hostInRange suppliedInRange mailboxInRange registersInRange definedOnly endsInRange freshTag freshRegisters isOpen pageBytes busInRange pageAcked pick signalInRange signalBy topValue framesFit areBytes signalOf sendAt stopAt selectBy choose selectOf dueOf settle struck isFrame isRefusal fromRadio answerOf radioOf verdictAnswered judge isSilent isMute goodFrame crcOf run byte bits bit shifted isQuiet bytesAt errorOf AllShut acked spaceAcked userAcked dataOf startOf startAt firstOf legWritten userWritten isClosed waitRun waitStep waitAct whenClosed whenOpen ackedSelect isStarted isRefused note finished ends fresher isEmpty answered
-answers-from-leg-refuted h =
-    let leg = send 0xA6 ∷ send 0x20 ∷ send 0x03 ∷ send 2 ∷ [] in
-    let f : _≡_ {A = ℕ} 0 4 = ap saidLength (h (ready Ready) (leg ++ read ∷ stop ∷ []) refl refl refl refl refl .shut .1 .1 .1 .1 .0 refl .reply) in
+clears-page-refuted : Refuted clearsPage
+unfolding agrees clearsPage kept
+clears-page-refuted h =
+    let f : _≡_ {A = ℕ} 1 0 = ap (byteLeft 768) (h powered (at 0 0 ++ send 1 ∷ stop ∷ []) refl refl refl refl refl .same) in
+    omega arith
+
+session-past-range-refuted : Refuted sessionPastRange
+unfolding agrees behind kept
+session-past-range-refuted h =
+    let f : _≡_ {A = ℕ} 0 5 = ap (λ (w : Waiting). kept w .tag .air .session) (h powered (stop ∷ []) refl refl refl refl refl .same) in
     omega arith
 
 -- a Stop leaves no transfer open
-pub never-closes-refuted : Refuted neverCloses
-unfolding neverCloses keptOpen tagInRange inRange airInRange wireInRange coreInRange hostInRange suppliedInRange mailboxInRange registersInRange definedOnly endsInRange freshTag freshRegisters isOpen pageBytes busInRange runBy pick signalInRange signalBy topValue framesFit areBytes actOf signalOf stopAt dueOf settle isClosed waitRun waitStep waitAct whenClosed
+never-closes-refuted : Refuted neverCloses
+unfolding agrees neverCloses kept
 never-closes-refuted h =
-    let f : false ≡ true = ap keptOpen (h (ready Ready) (stop ∷ []) refl refl refl refl refl .same) in
+    let f : false ≡ true = ap (λ (w : Waiting). isOpen (kept w .tag .host .bus)) (h powered (stop ∷ []) refl refl refl refl refl .same) in
     false≢true f
+
+-- ---- `same`, the answers
+stop-acked-refuted : Refuted stopAcked
+unfolding agrees misanswering said-by code
+stop-acked-refuted h =
+    let f : _≡_ {A = ℕ} 5 6 = ap (answerTo 0) (h powered (stop ∷ []) refl refl refl refl refl .same) in
+    omega arith
+
+refused-by-three-refuted : Refuted refusedByThree
+unfolding agrees misanswering said-by code
+refused-by-three-refuted h =
+    let f : _≡_ {A = ℕ} 2 3 = ap (answerTo 0) (h powered (shortStop ∷ []) refl refl refl refl refl .same) in
+    omega arith
+
+reply-byte-wrong-refuted : Refuted replyByteWrong
+unfolding agrees touching isReply said-by
+reply-byte-wrong-refuted h =
+    let f : _≡_ {A = ℕ} 0 1 = ap (byteTo 0 1) (h powered (read ∷ []) refl refl refl refl refl .same) in
+    omega arith
+
+past-reply-refuted : Refuted pastReply
+unfolding agrees touching isReply said-by
+past-reply-refuted h =
+    let f : _≡_ {A = ℕ} 0 1 = ap (byteTo 0 642) (h powered (read ∷ []) refl refl refl refl refl .same) in
+    omega arith
+
+refusal-touches-refuted : Refuted refusalTouches
+unfolding agrees touching said-by
+refusal-touches-refuted h =
+    let f : _≡_ {A = ℕ} 0 1 = ap (byteTo 0 0) (h powered (shortStop ∷ []) refl refl refl refl refl .same) in
+    omega arith
+
+-- ---- `judged`
+stop-out-of-range-refuted : Refuted stopOutOfRange
+unfolding agrees misanswering
+stop-out-of-range-refuted h =
+    let f : true ≡ false = h powered (stop ∷ []) refl refl refl refl refl .judged in
+    false≢true (sym f)
+
+-- ---- `striking`: without the frame no radio session is open at the end
+reads-half-refuted : Refuted readsHalf
+unfolding agrees readsHalf
+reads-half-refuted h =
+    let f : _≡_ {A = ℕ} 0 1 = ap (λ (r : Ran). r .device .tag .air .session) (h powered (start ∷ send 0xA6 ∷ present ∷ stop ∷ []) refl refl refl refl refl .striking) in
+    omega arith
+
+-- ---- `shut`, of the third call
+-- the tag was Selected
+deselects-refuted : Refuted deselects
+unfolding agrees deselects otherSelect
+deselects-refuted h =
+    let calls = start ∷ send 0xA6 ∷ selectOther ∷ stop ∷ [] in
+    let f : false ≡ true =
+    ap (λ (d : Device). isSelected (d .tag .air .radio)) (h (powered but radioState Selected) calls refl refl refl refl refl .shut .1 .1 .0 refl .unchanged) in
+    false≢true f
+
+marks-frames-refuted : Refuted marksFrames
+unfolding agrees behind isUserWriteLeg
+marks-frames-refuted h =
+    let f : _≡_ {A = ℕ} 300 0 =
+    ap (λ (d : Device). pageBytes (d .tag .host .bus)) (h powered (start ∷ send 0xA6 ∷ read ∷ stop ∷ []) refl refl refl refl refl .shut .1 .1 .0 refl .unchanged) in
+    omega arith
+
+hides-field-refuted : Refuted hidesField
+unfolding agrees behind isUserWriteLeg code
+hides-field-refuted h =
+    let f : _≡_ {A = ℕ} 14 9 =
+    ap (λ (a : Said). code (a .answer)) (h powered (start ∷ send 0xA6 ∷ read ∷ stop ∷ []) refl refl refl refl refl .shut .1 .1 .0 refl .reply) in
+    omega arith
+
+struck-touches-refuted : Refuted struckTouches
+unfolding agrees touching
+struck-touches-refuted h =
+    let f : _≡_ {A = ℕ} 1 0 =
+    ap (λ (a : Said). getD (a .buffer) 642 0) (h powered (start ∷ send 0xA6 ∷ read ∷ stop ∷ []) refl refl refl refl refl .shut .1 .1 .0 refl .reply) in
+    omega arith
+
+-- RF_MNGT_Dyn gets its b1 at the Stop; before it a frame is not silent
+answers-from-leg-refuted : Refuted answersFromLeg
+unfolding agrees answersFromLeg code
+answers-from-leg-refuted h =
+    let f : _≡_ {A = ℕ} 9 14 =
+    ap (λ (a : Said). code (a .answer)) (h powered (at 0x20 0x03 ++ send 2 ∷ read ∷ stop ∷ []) refl refl refl refl refl .shut .1 .1 .1 .1 .1 .0 refl .reply) in
+    omega arith
+
+-- ---- the starting tag: a programming end is answered
+waitingMail : Device
+waitingMail = powered but mailboxMode 1 but hostMessage 9 true but bytes [] (replicate 9 0x11) []
+
+ends-in-ack : {o : List ℕ} {d e : Device} → closed (said Nothing o ∷ []) d ≡ closed (said Ack o ∷ []) e → ⊥
+unfolding said-by code
+ends-in-ack h = let f : _≡_ {A = ℕ} 5 6 = ap (answerTo 0) h in omega arith
+
+-- ---- the claim
+infixr 20 _also_
+data Refutations : List Step → Type 0 where
+  no-more : Refutations []
+  _also_ : {s : Step} {ss : List Step} → Refuted s → Refutations ss → Refutations (s ∷ ss)
+
+all-refuted : {ss : List Step} → Refutations ss → AllRefuted ss
+unfolding AllRefuted
+all-refuted no-more = tt
+all-refuted (r also rs) = (r, all-refuted rs)
+
+refutations : Refutations wrongTags
+unfolding agrees misanswering said-by code waitingMail
+refutations =
+    feigning-refuted
+    also reads-half-refuted
+    also deselects-refuted
+    also commits-at-off-refuted
+    also answers-from-leg-refuted
+    also never-closes-refuted
+    also stop-acked-refuted
+    also refused-by-three-refuted
+    also reply-byte-wrong-refuted
+    also past-reply-refuted
+    also refusal-touches-refuted
+    also struck-touches-refuted
+    also session-past-range-refuted
+    also clears-page-refuted
+    also stop-out-of-range-refuted
+    also marks-frames-refuted
+    also hides-field-refuted
+    also (λ h. ends-in-ack (h (waitingMail but i2cSession) (programmingEnd ∷ []) refl refl refl refl refl .same))
+    also (λ h. ends-in-ack (h (powered but beingProgrammed) (programmingEnd ∷ []) refl refl refl refl refl .same))
+    also (λ h. ends-in-ack (h (powered but fieldIs false but radioState Selected) (programmingEnd ∷ []) refl refl refl refl refl .same))
+    also (λ h. ends-in-ack (h (powered but fieldIs false but radioSession 1) (programmingEnd ∷ []) refl refl refl refl refl .same))
+    also (λ h. ends-in-ack (h (powered but onBus (Started false)) (programmingEnd ∷ []) refl refl refl refl refl .same))
+    also (λ h. ends-in-ack (h waitingMail (programmingEnd ∷ []) refl refl refl refl refl .same))
+    also (λ h. ends-in-ack (h (powered but vccIs false but counterAt 5) (programmingEnd ∷ []) refl refl refl refl refl .same))
+    also no-more
+
+pub wrong-tags-refuted : WrongTagsRefuted
+wrong-tags-refuted = all-refuted refutations

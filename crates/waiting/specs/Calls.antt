@@ -1,4 +1,4 @@
--- Lists of calls, "each [of which] gets the state and memory that the last one left".
+-- Lists of calls, each of which gets the state and memory that the last one left.
 use mathlib.Core.List.{List, [], _∷_}
 use Prim.Native.Nat.{ℕ}
 use Rattle.tag.specs.declared.Tag.{Tag}

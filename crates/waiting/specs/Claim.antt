@@ -3,47 +3,51 @@ use mathlib.Core.Path.{_≡_}
 use mathlib.Core.Bool.{Bool, true, false, not, _&&_, _||_}
 use mathlib.Core.List.{List, [], _∷_}
 use Prim.Native.Nat.{ℕ}
-use lib.Dec.{eqb}
 use lib.ListN.{length}
 use Rattle.parts.specs.Pick.{pick}
+use Rattle.parts.specs.Bytes.{areBytes}
 use Rattle.tag.specs.declared.Air.{Air}
 use Rattle.tag.specs.declared.Tag.{Tag}
 use Rattle.tag.specs.Layout.{memoryBytes}
+use Rattle.errors.specs.declared.RadioError.the-variants.{ShutOut}
 use Rattle.reply.specs.Reply.{Said as Reply, nothing, fault, answerOf, bufferOf}
 use Rattle.frame.specs.Judge.{isSilent, isMute}
+use Rattle.model.specs.declared.Refusal.the-variants.{MemoryLength, ReplyShort, SignalUnknown, OutOfRange}
 use Rattle.model.specs.declared.Answer.{Answer}
 use Rattle.model.specs.declared.Answer.the-variants.{Refused, Nothing, Ack, NoAck, Byte, Silence, Reply as ReplyOf}
 use Rattle.model.specs.declared.Signal.{Signal}
 use Rattle.model.specs.declared.Signal.the-variants.{Wire, Field, Frame}
 use Rattle.model.specs.Signals.{signalBy}
-use Rattle.model.specs.Step.{number, memoryLength, outOfRange, fromRadio, transferOpen, tagInRange}
-use Rattle.model.specs.Claims.{areBytes}
+use Rattle.model.specs.Step.{fromRadio, transferOpen, tagInRange}
 use Rattle.waiting.specs.Calls.{Call, Said, said, Device, Done, Step, Ran, ran, runBy, entry}
 use Rattle.waiting.specs.Waiting.{Waiting, closed, inside, waitRun}
 
--- ---- "each number fits its type": a frame's bytes are bytes; no other number needs it
+-- ---- each number fits its type: a frame's bytes are bytes; no other number needs it
 unfoldable pub framesFit : List Call → Bool
 framesFit [] = true
 framesFit (c ∷ cs) = areBytes (c .frame) && framesFit cs
 
--- ---- "refusal[s] 1 and 4 never occur"
-unfoldable pub refusedBy : ℕ → Answer → Bool
-refusedBy n (Refused k) = eqb k n
-refusedBy n Nothing = false
-refusedBy n Ack = false
-refusedBy n NoAck = false
-refusedBy n (Byte x) = false
-refusedBy n Silence = false
-refusedBy n (ReplyOf k) = false
+-- ---- refusals 1 and 4 never occur
+unfoldable pub refusedByState : Answer → Bool
+refusedByState (Refused MemoryLength) = true
+refusedByState (Refused ReplyShort) = false
+refusedByState (Refused SignalUnknown) = false
+refusedByState (Refused OutOfRange) = true
+refusedByState Nothing = false
+refusedByState Ack = false
+refusedByState NoAck = false
+refusedByState (Byte x) = false
+refusedByState Silence = false
+refusedByState (ReplyOf k) = false
 
 -- an answer of the list is refusal 1 or 4
 unfoldable pub stateRefused : List Said → Bool
 stateRefused [] = false
-stateRefused (a ∷ s) = refusedBy (number memoryLength) (a .answer) || refusedBy (number outOfRange) (a .answer) || stateRefused s
+stateRefused (a ∷ s) = refusedByState (a .answer) || stateRefused s
 
--- ---- "Strike out the unrefused frames that arrived while a transfer was open"
+-- ---- the unrefused frames that came inside a transfer are struck out
 unfoldable pub isRefusal : Answer → Bool
-isRefusal (Refused k) = true
+isRefusal (Refused why) = true
 isRefusal Nothing = false
 isRefusal Ack = false
 isRefusal NoAck = false
@@ -73,17 +77,17 @@ otherAnswers step d (c ∷ cs) =
     let rest = otherAnswers step (step d c .device) cs in
     pick (struck step d c) rest (step d c .says ∷ rest)
 
--- ---- "its reply was silence or error 0Fh, as 01 fixes from the frame, the tag at the start of the transfer,
--- and the field and radio state when the frame came"
+-- ---- a struck frame's reply: silence or 0Fh, as 01 fixes from the frame, the tag at the transfer's start,
+-- and the field and radio state when it came
 abbrev pub shutReply : Tag → Air → List ℕ → Reply
 shutReply start air s =
     pick (isSilent s air (start .uid) (start .core .registers .dynamic) || isMute s (start .uid)) nothing
-    (fault 0x0F)
+    (fault ShutOut)
 
 abbrev pub spoken : Reply → List ℕ → Said
 spoken r o = said (fromRadio (answerOf r)) (bufferOf r o)
 
--- a struck frame "changed nothing", and its reply is that
+-- a struck frame changed nothing, and its reply is that
 pub record Shut (step : Step) (start : Tag) (d : Device) (c : Call) : Type 0 where
   pub unchanged : step d c .device ≡ d
   pub reply : step d c .says ≡ spoken (shutReply start (d .tag .air) (c .frame)) (c .buffer)
@@ -92,23 +96,35 @@ pub record Shut (step : Step) (start : Tag) (d : Device) (c : Call) : Type 0 whe
 abbrev pub startAfter : Tag → Tag → Tag
 startAfter start t = pick (transferOpen t) start t
 
--- every struck frame of a list; `start` is the tag at the start of the transfer that is open
-unfoldable pub AllShut : Step → Tag → Device → List Call → Type 0
-AllShut step start d [] = Unit {0}
-AllShut step start d (c ∷ cs) =
-    (struck step d c ≡ true → Shut step (startAfter start (d .tag)) d c)
-    × AllShut step (startAfter start (d .tag)) (step d c .device) cs
+-- every struck frame of a list has P; `start` is the tag at the start of the transfer that is open
+unfoldable pub EachStruck : Step → (Tag → Device → Call → Type 0) → Tag → Device → List Call → Type 0
+EachStruck step P start d [] = Unit {0}
+EachStruck step P start d (c ∷ cs) =
+    (struck step d c ≡ true → P (startAfter start (d .tag)) d c)
+    × EachStruck step P (startAfter start (d .tag)) (step d c .device) cs
 
--- ---- the claim
--- from device d, the calls cs
+unfoldable pub AllShut : Step → Tag → Device → List Call → Type 0
+unfolding EachStruck
+AllShut step start d cs = EachStruck step (Shut step) start d cs
+
+-- ---- the claim: from device d, the calls cs
+-- the same answer to every call, reply bytes and refusal numbers included, and the same final tag, state and every byte
+abbrev pub Same : Step → Device → List Call → Type 0
+Same step d cs = waitRun (closed [] d) cs ≡ closed (runBy step d cs .answers) (runBy step d cs .device)
+
+-- refusals 1 and 4 never occur
+abbrev pub Judged : Step → Device → List Call → Type 0
+Judged step d cs = stateRefused (runBy step d cs .answers) ≡ false
+
+-- without the struck frames all else stays the same
+abbrev pub Striking : Step → Device → List Call → Type 0
+Striking step d cs = runBy step d (others step d cs) ≡ ran (otherAnswers step d cs) (runBy step d cs .device)
+
 pub record Agrees (step : Step) (d : Device) (cs : List Call) : Type 0 where
-  -- "Every call has the same answer from both, reply bytes and refusal numbers included, and the final tag is the same, state and every byte."
-  pub same : waitRun (closed [] d) cs ≡ closed (runBy step d cs .answers) (runBy step d cs .device)
-  -- refusals 1 and 4 never occur
-  pub judged : stateRefused (runBy step d cs .answers) ≡ false
-  -- "Strike out the unrefused frames .., and the other answers and the final tag stay the same."
-  pub striking : runBy step d (others step d cs) ≡ ran (otherAnswers step d cs) (runBy step d cs .device)
-  -- "Every struck frame changed nothing, and its reply was silence or error 0Fh"
+  pub same : Same step d cs
+  pub judged : Judged step d cs
+  pub striking : Striking step d cs
+  -- every struck frame changed nothing, and its reply was silence or 0Fh
   pub shut : AllShut step (d .tag) d cs
 
 -- the list finishes with no transfer open: the waiting tag says so, since a wrong tag might never close its own
@@ -116,12 +132,15 @@ unfoldable pub isClosed : Waiting → Bool
 isClosed (closed out k) = true
 isClosed (inside out k n sl) = false
 
--- "Start from any well-formed tag .., with no transfer open. Take every list of calls that finishes with no transfer open"
-abbrev pub Demand3 : Step → Type 0
-Demand3 step = (d : Device) (cs : List Call)
+-- from any tag within 01's ranges with no transfer open, for every list of calls that finishes with none open
+abbrev pub EveryList : (Device → List Call → Type 0) → Type 0
+EveryList P = (d : Device) (cs : List Call)
     → tagInRange (d .tag) (d .memory) ≡ true → length (d .memory) ≡ memoryBytes → framesFit cs ≡ true
     → transferOpen (d .tag) ≡ false → isClosed (waitRun (closed [] d) cs) ≡ true
-    → Agrees step d cs
+    → P d cs
+
+abbrev pub Demand3 : Step → Type 0
+Demand3 step = EveryList (Agrees step)
 
 -- for the entry point that is what its own tag shows: a list that it finishes with no transfer open is such a list
 abbrev pub EndsAlike : Type 0

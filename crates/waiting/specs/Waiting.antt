@@ -19,11 +19,12 @@ use Rattle.transfer.specs.Legs.{Noted, Start, Send, Fetch, Stop, VccOff, isRefu
 use Rattle.transfer.specs.Whole.{transferOf}
 use Rattle.reply.specs.Reply.{answerOf, bufferOf}
 use Rattle.radio.specs.Radio.{radioOf}
+use Rattle.model.specs.declared.Refusal.the-variants.{ReplyShort, SignalUnknown}
 use Rattle.model.specs.declared.Answer.the-variants.{Refused, Nothing}
 use Rattle.model.specs.declared.Signal.{Signal}
 use Rattle.model.specs.declared.Signal.the-variants.{Wire, Field, Frame}
 use Rattle.model.specs.Signals.{signalInRange, signalBy}
-use Rattle.model.specs.Step.{number, replyShort, signalUnknown, fromWire, fromRadio, wireSide, withWire, radioSide, withAir, actOf}
+use Rattle.model.specs.Step.{fromWire, fromRadio, wireSide, withWire, radioSide, withAir, actOf}
 use Rattle.waiting.specs.Calls.{Call, Said, said, Device, device, Done, doneBy}
 
 -- the place of an answer: given, or waiting for the transfer's end with the reply buffer of its call
@@ -120,8 +121,8 @@ waitAct (inside out k n sl) x c = whenOpen out k n sl x c
 -- it judges refusals 2 and 3
 unfoldable pub waitStep : Waiting → Call → Waiting
 waitStep w c =
-    pick (ltb (length (c .buffer)) replyBytes) (answered w (said (Refused (number replyShort)) (c .buffer)))
-    (pick (not (signalInRange (c .code) (c .value))) (answered w (said (Refused (number signalUnknown)) (c .buffer)))
+    pick (ltb (length (c .buffer)) replyBytes) (answered w (said (Refused ReplyShort) (c .buffer)))
+    (pick (not (signalInRange (c .code) (c .value))) (answered w (said (Refused SignalUnknown) (c .buffer)))
     (waitAct w (signalBy (c .code) (c .value)) c))
 
 unfoldable pub waitRun : Waiting → List Call → Waiting

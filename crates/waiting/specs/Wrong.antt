@@ -5,19 +5,18 @@ use Prim.Native.Nat.{ℕ}
 use lib.Dec.{eqb}
 use lib.ListN.{take}
 use Rattle.parts.specs.Pick.{pick}
-use Rattle.tag.specs.declared.Bus.{Bus}
 use Rattle.tag.specs.declared.Bus.the-variants.{Idle, Started}
 use Rattle.tag.specs.declared.Core.{Core}
 use Rattle.tag.specs.declared.Tag.{Tag}
 use Rattle.tag.specs.Layout.{userBytes}
 use Rattle.tag.specs.Radio.{deselected}
-use Rattle.signal.specs.Signal.{sideBus}
 use Rattle.frame.specs.Fields.{command, ownUid}
 use Rattle.frame.specs.Judge.{isSilent}
 use Rattle.model.specs.declared.Answer.the-variants.{NoAck}
 use Rattle.model.specs.declared.Signal.the-variants.{Frame}
-use Rattle.model.specs.Step.{wireSide, withWire, withAir, actOf}
+use Rattle.model.specs.Step.{withAir, actOf}
 use Rattle.waiting.specs.Calls.{Call, said, Device, device, Done, done, Step, doneBy, entry}
+use Rattle.waiting.specs.Examples.{onCore, onBus}
 use Rattle.waiting.specs.Claim.{struck, Demand3}
 
 abbrev pub Refuted : Step → Type 0
@@ -37,9 +36,6 @@ feigning d c =
     done (e .says) (device (e .device .tag) (pick (later && eqb (c .code) 6) (d .memory) (e .device .memory)))
 
 -- ---- one that serves a frame in a transfer as if none were open
-abbrev pub onBus : Bus → Device → Device
-onBus b d = device (withWire (sideBus b (wireSide (d .tag))) (d .tag)) (d .memory)
-
 unfoldable pub readsHalf : Device → Call → Done
 readsHalf d c =
     let e = entry (onBus Idle d) c in
@@ -69,12 +65,9 @@ commitsAtOff d c =
     (entry d c)
 
 -- ---- one that answers a frame in a transfer by the registers as the leg's bytes so far would leave them
-abbrev pub withCore : Core → Tag → Tag
-withCore x t = record { air = t .air; host = t .host; core = x; uid = t .uid }
-
 unfoldable pub answersFromLeg : Device → Call → Done
 answersFromLeg d c =
-    let t = withCore (entry d (stopping c) .device .tag .core) (d .tag) in
+    let t = onCore (λ (x : Core). entry d (stopping c) .device .tag .core) d .tag in
     pick (struck entry d c) (done (doneBy (actOf Frame t (d .memory) (c .buffer) (c .frame)) .says) d)
     (entry d c)
 

@@ -17,6 +17,21 @@ struct Run {
     number: u64,
 }
 
+// What a line prints: that it is none of these, a signal's answer, a flag, a CRC, or the wire side.
+enum Said {
+    Bad,
+    Answer(Answer),
+    Flag(bool),
+    Crc(u16),
+    Side,
+}
+
+// What a line leaves.
+struct Outcome {
+    run: Run,
+    said: Said,
+}
+
 fn uid() -> Uid {
     Uid {
         bytes: [0x01, 0x02, 0x03, 0x04, 0x05, 0x24, 0x02, 0xE0],
@@ -40,61 +55,45 @@ fn with_side(r: Run, side: WireSide) -> Run {
     n
 }
 
-// A line that is none of these.
-fn bad(r: Run) -> Run {
-    io::write_all(1, b"?");
-    r
+fn says(run: Run, said: Said) -> Outcome {
+    Outcome { run, said }
 }
 
-fn print_answer(a: Answer) {
-    match a {
-        Answer::Nothing => text::none(),
-        Answer::Ack => {
-            io::write_all(1, b"A");
-        }
-        Answer::NoAck => {
-            io::write_all(1, b"N");
-        }
-        Answer::Byte(x) => text::byte(x),
-    }
+// A line that is none of these.
+fn bad(r: Run) -> Outcome {
+    says(r, Said::Bad)
+}
+
+fn nothing(r: Run) -> Outcome {
+    says(r, Said::Answer(Answer::Nothing))
 }
 
 // A signal and its answer.
-fn step(r: Run, m: &mut [u8], s: Signal) -> Run {
+fn step(r: Run, m: &mut [u8], s: Signal) -> Outcome {
     let side = r.side;
     let o = wire::step(side, uid(), m, s);
     let a = o.answer;
-    print_answer(a);
     let after = o.side;
-    with_side(r, after)
+    says(with_side(r, after), Said::Answer(a))
 }
 
-fn start_again(r: Run, m: &mut [u8]) -> Run {
+fn start_again(r: Run, m: &mut [u8]) -> Outcome {
     let zeros = [0u8; 1024];
     parts::put_bytes(m, 0, &zeros, 0, 1024);
-    text::none();
-    fresh(r.number)
+    nothing(fresh(r.number))
 }
 
-fn range(r: Run, m: &[u8]) -> Run {
+fn range(r: Run, m: &[u8]) -> Outcome {
     let side = r.side;
-    text::bit(state::in_range(side, m));
-    r
+    says(r, Said::Flag(state::in_range(side, m)))
 }
 
-fn memory_crc(r: Run, m: &[u8]) -> Run {
-    text::word(crc::crc(m));
-    r
-}
-
-fn print_side(r: Run) -> Run {
-    let side = r.side;
-    state::print(side);
-    r
+fn memory_crc(r: Run, m: &[u8]) -> Outcome {
+    says(r, Said::Crc(crc::crc(m)))
 }
 
 // A letter alone.
-fn alone(r: Run, kind: u8, m: &mut [u8]) -> Run {
+fn alone(r: Run, kind: u8, m: &mut [u8]) -> Outcome {
     match kind {
         b'S' => step(r, m, Signal::Start),
         b'P' => step(r, m, Signal::Stop),
@@ -102,13 +101,13 @@ fn alone(r: Run, kind: u8, m: &mut [u8]) -> Run {
         b'N' => start_again(r, m),
         b'I' => range(r, m),
         b'E' => memory_crc(r, m),
-        b'Z' => print_side(r),
+        b'Z' => says(r, Said::Side),
         _ => bad(r),
     }
 }
 
 // A letter with 0 or 1.
-fn level(r: Run, kind: u8, on: bool, m: &mut [u8]) -> Run {
+fn level(r: Run, kind: u8, on: bool, m: &mut [u8]) -> Outcome {
     match kind {
         b'V' => step(r, m, Signal::Vcc(on)),
         b'G' => step(r, m, Signal::Fetch(on)),
@@ -116,7 +115,7 @@ fn level(r: Run, kind: u8, on: bool, m: &mut [u8]) -> Run {
     }
 }
 
-fn send(r: Run, m: &mut [u8], bytes: &[u8], n: u16) -> Run {
+fn send(r: Run, m: &mut [u8], bytes: &[u8], n: usize) -> Outcome {
     if n != 1 {
         return bad(r);
     }
@@ -124,47 +123,44 @@ fn send(r: Run, m: &mut [u8], bytes: &[u8], n: u16) -> Run {
 }
 
 // The till puts a message, as an accepted Write Message would.
-fn till_message(r: Run, m: &mut [u8], bytes: &[u8], n: u16) -> Run {
+fn till_message(r: Run, m: &mut [u8], bytes: &[u8], n: usize) -> Outcome {
     if 256 < n {
         return bad(r);
     }
-    parts::put_bytes(m, tag::MAILBOX_AT, bytes, 0, n as usize);
-    text::none();
+    parts::put_bytes(m, tag::MAILBOX_AT, bytes, 0, n);
     let side = r.side;
-    with_side(r, state::with_message(side, n))
+    nothing(with_side(r, state::with_message(side, n as u16)))
 }
 
 // Bytes that fit the memory from a place on.
-fn memory(r: Run, m: &mut [u8], bytes: &[u8], n: u16) -> Run {
+fn memory(r: Run, m: &mut [u8], bytes: &[u8], n: usize) -> Outcome {
     if n < 2 {
         return bad(r);
     }
-    let at = state::word_at(bytes, 0);
+    let at = state::word_at(bytes, 0) as usize;
     if 1024 < at {
         return bad(r);
     }
     if 1024 - at < n - 2 {
         return bad(r);
     }
-    parts::put_bytes(m, at as usize, bytes, 2, (n - 2) as usize);
-    text::none();
-    r
+    parts::put_bytes(m, at, bytes, 2, n - 2);
+    nothing(r)
 }
 
-fn host(r: Run, bytes: &[u8], n: u16) -> Run {
+fn host(r: Run, bytes: &[u8], n: usize) -> Outcome {
     if n != 9 {
         return bad(r);
     }
     if !state::is_host(bytes) {
         return bad(r);
     }
-    text::none();
     let side = r.side;
-    with_side(r, state::with_host(side, bytes))
+    nothing(with_side(r, state::with_host(side, bytes)))
 }
 
 // A letter with bytes.
-fn given(r: Run, kind: u8, m: &mut [u8], bytes: &[u8], n: u16) -> Run {
+fn given(r: Run, kind: u8, m: &mut [u8], bytes: &[u8], n: usize) -> Outcome {
     match kind {
         b'B' => send(r, m, bytes, n),
         b'A' => till_message(r, m, bytes, n),
@@ -174,8 +170,8 @@ fn given(r: Run, kind: u8, m: &mut [u8], bytes: &[u8], n: u16) -> Run {
     }
 }
 
-// What a line does, and its answer printed.
-fn signal(r: Run, s: &[u8], m: &mut [u8], bytes: &mut [u8]) -> Run {
+// What a line does, and what it prints.
+fn signal(r: Run, s: &[u8], m: &mut [u8], bytes: &mut [u8]) -> Outcome {
     let kind = parts::byte_at(s, 0);
     if s.len() == 1 {
         return alone(r, kind, m);
@@ -183,19 +179,58 @@ fn signal(r: Run, s: &[u8], m: &mut [u8], bytes: &mut [u8]) -> Run {
     if text::is_level(s) {
         return level(r, kind, parts::byte_at(s, 2) == b'1', m);
     }
-    if text::is_hex(s) {
-        let n = text::decode(s, bytes, 1027);
+    if text::has_bytes(s) {
+        let n = text::line_bytes(s, bytes);
         return given(r, kind, m, bytes, n);
     }
     bad(r)
 }
 
+fn put_answer(text: &mut [u8], at: usize, a: Answer) -> usize {
+    match a {
+        Answer::Nothing => text::put_mark(text, at, b'-'),
+        Answer::Ack => text::put_mark(text, at, b'A'),
+        Answer::NoAck => text::put_mark(text, at, b'N'),
+        Answer::Byte(x) => text::put_byte(text, at, x),
+    }
+}
+
+fn flag_mark(b: bool) -> u8 {
+    if b {
+        return b'1';
+    }
+    b'0'
+}
+
+fn put_said(text: &mut [u8], at: usize, said: Said, side: WireSide) -> usize {
+    match said {
+        Said::Bad => text::put_mark(text, at, b'?'),
+        Said::Answer(a) => put_answer(text, at, a),
+        Said::Flag(b) => text::put_mark(text, at, flag_mark(b)),
+        Said::Crc(w) => text::put_word(text, at, w),
+        Said::Side => state::put_side(text, at, side),
+    }
+}
+
 // A line: its number, a tab, its answer.
+fn print(number: u64, said: Said, side: WireSide) {
+    let mut text = [0u8; 200];
+    let tab = text::put_decimal(&mut text, 0, number);
+    let answer = text::put_mark(&mut text, tab, b'\t');
+    let feed = put_said(&mut text, answer, said, side);
+    let end = text::put_mark(&mut text, feed, b'\n');
+    if end <= 200 {
+        io::write_all(1, &text[0..end]);
+    }
+}
+
 fn line(r: Run, s: &[u8], m: &mut [u8], bytes: &mut [u8]) -> Run {
     let number = std::num::wrapping_add_u64(r.number, 1);
-    text::number(number);
-    let mut n = signal(r, s, m, bytes);
-    text::end();
+    let o = signal(r, s, m, bytes);
+    let said = o.said;
+    let mut n = o.run;
+    let side = n.side;
+    print(number, said, side);
     n.number = number;
     n
 }
@@ -222,8 +257,13 @@ fn lines(s: &[u8], m: &mut [u8], bytes: &mut [u8]) {
 fn main() {
     let mut input = io::large_buffer();
     let n = io::read_full(0, &mut input);
+    if n == 65536 {
+        // What lies behind these bytes would not be run.
+        io::write_all(2, b"the script has 65,536 bytes or more\n");
+        return;
+    }
     let mut m = [0u8; 1024];
-    // A line's bytes: a place and the whole memory at most, and one more, by which a longer line is told.
-    let mut bytes = [0u8; 1027];
+    // A line's bytes: a place and the whole memory at most.
+    let mut bytes = [0u8; 1026];
     lines(&input[0..n], &mut m, &mut bytes);
 }

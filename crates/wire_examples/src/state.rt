@@ -1,4 +1,4 @@
-// The wire side set and printed. The host side is nine bytes: session, programming, counter (2), the bus's kind and p1 to p4.
+// The wire side set, and its text. The host side is nine bytes: session, programming, counter (2), the bus's kind and p1 to p4.
 // Kind 0: idle; 1: started, p1 a transfer open; 2: read leg, p2 over, p3 last; 3: write leg; 4: low address awaited, p2 the high one;
 // 5: data leg, p2 p3 its page bytes, p4 spoiled. From kind 2 on p1 is the space.
 use registers::Registers;
@@ -131,39 +131,47 @@ fn bus_bytes(b: Bus) -> [u8; 5] {
     }
 }
 
-fn print_host(h: Host) {
-    text::byte(flag_byte(h.vcc));
-    text::byte(flag_byte(h.session));
-    text::byte(flag_byte(h.programming));
-    text::word(h.counter);
+fn put_host(text: &mut [u8], at: usize, h: Host) -> usize {
+    let session = text::put_byte(text, at, flag_byte(h.vcc));
+    let programming = text::put_byte(text, session, flag_byte(h.session));
+    let counter = text::put_byte(text, programming, flag_byte(h.programming));
+    let after = text::put_word(text, counter, h.counter);
     let bus = h.bus;
     let bytes = bus_bytes(bus);
-    text::bytes(&bytes, 5);
+    text::put_hex(text, after, &bytes, 5)
 }
 
 // RF_MNGT, RF_MNGT_Dyn, then the others in the order of their addresses.
-fn print_registers(r: Registers) {
-    text::byte(r.read(0x03));
-    text::byte(r.dynamic.bits);
-    let mut at: u16 = 0x04;
-    while at <= 0x0D {
-        text::byte(r.read(at));
-        at += 1;
-    }
-    text::byte(r.read(0x0F));
+fn put_registers(text: &mut [u8], at: usize, r: Registers) -> usize {
+    let bytes = [
+        r.read(0x03),
+        r.dynamic.bits,
+        r.read(0x04),
+        r.read(0x05),
+        r.read(0x06),
+        r.read(0x07),
+        r.read(0x08),
+        r.read(0x09),
+        r.read(0x0A),
+        r.read(0x0B),
+        r.read(0x0C),
+        r.read(0x0D),
+        r.read(0x0F),
+    ];
+    text::put_hex(text, at, &bytes, 13)
 }
 
-fn print_password(p: Password) {
+fn put_password(text: &mut [u8], at: usize, p: Password) -> usize {
     let bytes = p.bytes;
-    text::bytes(&bytes, 8);
+    text::put_hex(text, at, &bytes, 8)
 }
 
 // The wire side: VCC, the host side, the registers, MB_CTRL_Dyn, the message's length and the I2C password.
-pub fn print(w: WireSide) {
+pub fn put_side(text: &mut [u8], at: usize, w: WireSide) -> usize {
     let host = w.host;
-    print_host(host);
-    print_registers(w.core.registers);
-    text::byte(w.core.mailbox.control_byte());
-    text::word(w.core.mailbox.length);
-    print_password(w.core.passwords.i2c);
+    let registers = put_host(text, at, host);
+    let control = put_registers(text, registers, w.core.registers);
+    let length = text::put_byte(text, control, w.core.mailbox.control_byte());
+    let password = text::put_word(text, length, w.core.mailbox.length);
+    put_password(text, password, w.core.passwords.i2c)
 }

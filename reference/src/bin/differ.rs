@@ -1,68 +1,29 @@
 //! Runs seeded scripts on a bench program and on the reference and compares every answer.
 //!
-//!     differ BENCH FIRST_SEED COUNT [LINES]
+//!     differ BENCH FIRST_SEED COUNT [LINES]    scripts of so many lines, 2,000 if not given, each at once
+//!     differ BENCH FIRST_SEED COUNT pieces     scripts with long lines, fed through a pipe in pieces
 //!
 //! A difference is cut to a short script, printed with both outputs, and ends the run with 1.
 
 use std::collections::BTreeMap;
 use std::io::{stdout, Result, Write};
-use std::process::{exit, Command, Stdio};
-use std::thread;
+use std::process::exit;
+use std::time::{Duration, Instant};
 
 use reference::bench;
 use reference::cut::cut;
-use reference::script::{script, text, Line};
+use reference::dice::Dice;
+use reference::feed::{run_program, Output};
+use reference::pieces::{pieces, Style, STYLES};
+use reference::script::{long_script, script, text, Line, Script};
 
 const LINES: usize = 2000;
+/// So long a difference is cut.
+const CUTTING: Duration = Duration::from_secs(60);
 const COMMANDS: [&str; 18] = [
     "02", "20", "21", "22", "23", "24", "25", "26", "2C", "A0", "A1", "AA", "AB", "AC", "AD", "AE",
     "B1", "B3",
 ];
-
-/// A program's output, line by line, and whether it came to its end.
-struct Output {
-    lines: Vec<Vec<u8>>,
-    ended: bool,
-}
-
-impl Output {
-    fn new(text: &[u8], ended: bool) -> Output {
-        let lines = text.split_inclusive(|&byte| byte == b'\n');
-        Output {
-            lines: lines.map(<[u8]>::to_vec).collect(),
-            ended,
-        }
-    }
-
-    /// A line for the eye: it may be missing or lack its line feed.
-    fn show(&self, place: usize) -> String {
-        match self.lines.get(place) {
-            Some(line) => match line.strip_suffix(b"\n") {
-                Some(line) => String::from_utf8_lossy(line).into_owned(),
-                None => format!("{} (no line feed)", String::from_utf8_lossy(line)),
-            },
-            None if self.ended => "(no line)".to_string(),
-            None => "(no line, and the program failed)".to_string(),
-        }
-    }
-}
-
-/// A fresh process of the program, with the script on its standard input.
-fn run_program(program: &str, script: &[u8]) -> Result<Output> {
-    let mut child = Command::new(program)
-        .stdin(Stdio::piped())
-        .stdout(Stdio::piped())
-        .spawn()?;
-    let input = child.stdin.take();
-    let output = thread::scope(|scope| {
-        scope.spawn(move || {
-            // A program that stops reading shows in its output.
-            let _ = input.map(|mut input| input.write_all(script));
-        });
-        child.wait_with_output()
-    })?;
-    Ok(Output::new(&output.stdout, output.status.success()))
-}
 
 fn run_reference(script: &[u8]) -> Result<Output> {
     let mut output = Vec::new();
@@ -70,18 +31,29 @@ fn run_reference(script: &[u8]) -> Result<Output> {
     Ok(Output::new(&output, true))
 }
 
-/// The first place at which they differ. A program that fails after its last line differs there.
-fn first_difference(one: &Output, two: &Output) -> Option<usize> {
-    let most = one.lines.len().max(two.lines.len());
-    (0..most)
-        .find(|&place| one.lines.get(place) != two.lines.get(place))
-        .or((one.ended != two.ended).then(|| most.saturating_sub(1)))
+/// What the program printed, what the reference did, and in how many pieces the program was fed.
+struct Outcome {
+    one: Output,
+    two: Output,
+    pieces: u64,
+}
+
+impl Outcome {
+    /// The first place at which they differ. A program that fails after its last line differs there.
+    fn first_difference(&self) -> Option<usize> {
+        let (one, two) = (&self.one, &self.two);
+        let most = one.lines.len().max(two.lines.len());
+        (0..most)
+            .find(|&place| one.lines.get(place) != two.lines.get(place))
+            .or((one.ended != two.ended).then(|| most.saturating_sub(1)))
+    }
 }
 
 /// What was answered, by kind, and by command for frames.
 #[derive(Default)]
 struct Tally {
     lines: u64,
+    pieces: u64,
     kinds: BTreeMap<String, u64>,
     commands: BTreeMap<String, BTreeMap<String, u64>>,
 }
@@ -102,8 +74,9 @@ impl Tally {
         *self.kinds.entry(kind).or_default() += 1;
     }
 
-    fn add_all(&mut self, lines: &[Line], output: &Output) {
-        for (line, answer) in lines.iter().zip(&output.lines) {
+    fn add_all(&mut self, lines: &[Line], outcome: &Outcome) {
+        self.pieces += outcome.pieces;
+        for (line, answer) in lines.iter().zip(&outcome.two.lines) {
             let answer = answer.strip_suffix(b"\n").unwrap_or(answer);
             let tab = answer.iter().position(|&byte| byte == b'\t');
             self.add(line, &answer[tab.map_or(0, |tab| tab + 1)..]);
@@ -117,6 +90,9 @@ impl Tally {
             out,
             "{lines} lines compared, {answered} answered otherwise than - or ?"
         )?;
+        if self.pieces > 0 {
+            writeln!(out, "  fed in {} pieces", self.pieces)?;
+        }
         if self.lines > 0 {
             writeln!(out, "  {}", in_words(&self.kinds))?;
         }
@@ -143,30 +119,73 @@ fn command(line: &[u8]) -> Option<String> {
     Some(known.unwrap_or(&"other").to_string())
 }
 
+/// A seed's script and how it is fed.
+struct Trial {
+    seed: u64,
+    script: Script,
+    style: Option<Style>,
+}
+
+impl Trial {
+    fn whole(seed: u64, size: usize) -> Trial {
+        Trial {
+            seed,
+            script: script(seed, size),
+            style: None,
+        }
+    }
+
+    /// Over a thousand pieces, but for a style of large ones.
+    fn in_pieces(seed: u64) -> Trial {
+        let style = STYLES[(seed % STYLES.len() as u64) as usize];
+        let size = match style {
+            Style::Bytes => 150,
+            Style::UpTo(12) => 800,
+            Style::Mixed => 1000,
+            _ => 1200,
+        };
+        Trial {
+            seed,
+            script: long_script(seed, size),
+            style: Some(style),
+        }
+    }
+
+    /// Some lines of the script on the program and on the reference, which gets them at once.
+    fn run(&self, program: &str, lines: &[Line]) -> Result<Outcome> {
+        let input = text(lines, self.script.ended);
+        let mut dice = Dice::new(!self.seed);
+        let lengths = self.style.map(|style| pieces(&mut dice, style, &input));
+        Ok(Outcome {
+            one: run_program(program, &input, lengths.as_deref())?,
+            two: run_reference(&input)?,
+            pieces: lengths.map_or(0, |lengths| lengths.len() as u64),
+        })
+    }
+}
+
 /// The difference and the shortest script found for it.
-fn report(program: &str, seed: u64, lines: &[Line], ended: bool, place: usize) -> Result<()> {
-    let both = |lines: &[Line]| -> Result<(Output, Output)> {
-        let script = text(lines, ended);
-        Ok((run_program(program, &script)?, run_reference(&script)?))
-    };
+fn report(program: &str, trial: &Trial, outcome: &Outcome, place: usize) -> Result<()> {
+    let (lines, ended) = (&trial.script.lines, trial.script.ended);
     let mut out = stdout().lock();
-    let (one, two) = both(lines)?;
-    let show = |line: Option<&Line>| match line {
+    let line = match lines.get(place) {
         Some(line) => String::from_utf8_lossy(line).into_owned(),
         None => "(no line)".to_string(),
     };
-    writeln!(out, "seed {seed} differs")?;
-    writeln!(out, "line:      {}", show(lines.get(place)))?;
-    writeln!(out, "program:   {}", one.show(place))?;
-    writeln!(out, "reference: {}", two.show(place))?;
+    writeln!(out, "seed {} differs", trial.seed)?;
+    writeln!(out, "line:      {line}")?;
+    writeln!(out, "program:   {}", outcome.one.show(place))?;
+    writeln!(out, "reference: {}", outcome.two.show(place))?;
     out.flush()?;
-    let mut runs = 0;
-    let short = cut(lines, &mut |trial| {
+    let (mut runs, start) = (0, Instant::now());
+    let short = cut(lines, &mut |lines| {
+        if start.elapsed() > CUTTING {
+            return None;
+        }
         runs += 1;
-        let (one, two) = both(trial).ok()?;
-        first_difference(&one, &two)
+        trial.run(program, lines).ok()?.first_difference()
     });
-    let (one, two) = both(&short)?;
+    let Outcome { one, two, .. } = trial.run(program, &short)?;
     writeln!(
         out,
         "cut from {} lines to {} in {runs} runs:",
@@ -186,22 +205,23 @@ fn report(program: &str, seed: u64, lines: &[Line], ended: bool, place: usize) -
     if !ended {
         writeln!(out, "the script's last line has no line feed")?;
     }
+    if let Some(style) = trial.style {
+        writeln!(out, "the script was fed in pieces: {style:?}")?;
+    }
     out.flush()
 }
 
 /// True when no seed shows a difference.
-fn compare(program: &str, first: u64, count: u64, size: usize) -> Result<bool> {
+fn compare(program: &str, first: u64, count: u64, trial: impl Fn(u64) -> Trial) -> Result<bool> {
     let mut tally = Tally::default();
     for seed in first..first.saturating_add(count) {
-        let script = script(seed, size);
-        let input = text(&script.lines, script.ended);
-        let one = run_program(program, &input)?;
-        let two = run_reference(&input)?;
-        if let Some(place) = first_difference(&one, &two) {
-            report(program, seed, &script.lines, script.ended, place)?;
+        let trial = trial(seed);
+        let outcome = trial.run(program, &trial.script.lines)?;
+        if let Some(place) = outcome.first_difference() {
+            report(program, &trial, &outcome, place)?;
             return Ok(false);
         }
-        tally.add_all(&script.lines, &two);
+        tally.add_all(&trial.script.lines, &outcome);
     }
     let mut out = stdout().lock();
     writeln!(out, "{count} seeds from {first}: no difference")?;
@@ -211,23 +231,24 @@ fn compare(program: &str, first: u64, count: u64, size: usize) -> Result<bool> {
 
 fn main() {
     let arguments: Vec<String> = std::env::args().skip(1).collect();
-    let number = |place: usize| arguments.get(place).and_then(|text| text.parse().ok());
-    let size = if arguments.len() == 3 {
-        Some(LINES as u64)
-    } else {
-        number(3)
+    let words: Vec<&str> = arguments.iter().map(String::as_str).collect();
+    let (program, first, count, how) = match words[..] {
+        [program, first, count] => (program, first, count, None),
+        [program, first, count, how] => (program, first, count, Some(how)),
+        _ => usage(),
     };
-    let (Some(program), Some(first), Some(count), Some(size), 3..=4) = (
-        arguments.first(),
-        number(1),
-        number(2),
-        size,
-        arguments.len(),
-    ) else {
-        eprintln!("differ BENCH FIRST_SEED COUNT [LINES]");
-        exit(2);
+    let (Ok(first), Ok(count)) = (first.parse(), count.parse()) else {
+        usage();
     };
-    match compare(program, first, count, size as usize) {
+    let agree = match how {
+        Some("pieces") => compare(program, first, count, Trial::in_pieces),
+        None => compare(program, first, count, |seed| Trial::whole(seed, LINES)),
+        Some(size) => match size.parse() {
+            Ok(size) => compare(program, first, count, |seed| Trial::whole(seed, size)),
+            Err(_) => usage(),
+        },
+    };
+    match agree {
         Ok(true) => {}
         Ok(false) => exit(1),
         Err(error) => {
@@ -235,4 +256,9 @@ fn main() {
             exit(2);
         }
     }
+}
+
+fn usage() -> ! {
+    eprintln!("differ BENCH FIRST_SEED COUNT [LINES | pieces]");
+    exit(2)
 }

@@ -3,37 +3,48 @@
 //!     library_differ FIRST_SEED COUNT [LINES]
 //!
 //! The calls are those of the seed's script, and between them calls with another state, memory, buffer length,
-//! code or value; a changed state that is taken is often gone on from. A difference is one call with its state,
-//! so it is printed whole, and ends the run with 1.
+//! code or value, or with two faults and more at once; a changed state that is taken is often gone on from. A
+//! difference is one call with its state, so it is printed whole, and ends the run with 1.
 
 use std::collections::BTreeMap;
 use std::process::exit;
 
 use reference::bench::{read_line, LONGEST_FRAME, UID};
 use reference::dice::Dice;
+use reference::faults::{change, chosen, make, other_length, several, Call, Fault, Lent, OF_FRESH};
 use reference::script::script;
 use reference::state::STATE_SIZE;
-use reference::tag::{MEMORY_SIZE, PAGE_PLACE, REPLY_SIZE};
+use reference::tag::{MEMORY_SIZE, REPLY_SIZE};
 use reference::{library, state};
 
 const LINES: usize = 2000;
 
-/// What a call is lent and may change.
-#[derive(Clone, PartialEq)]
-struct Lent {
-    state: Vec<u8>,
-    memory: Vec<u8>,
-    reply: Vec<u8>,
+/// The answers by kind, and the calls that had both of two faults.
+#[derive(Default)]
+struct Tally {
+    kinds: BTreeMap<String, u64>,
+    pairs: BTreeMap<(u32, u32), u64>,
 }
 
-struct Call {
-    code: u32,
-    value: u32,
-    frame: Vec<u8>,
-}
+impl Tally {
+    fn add(&mut self, answer: u32, faults: &[Fault]) {
+        *self.kinds.entry(kind(answer)).or_default() += 1;
+        for (place, one) in faults.iter().enumerate() {
+            for two in &faults[place + 1..] {
+                let pair = (one.number(), two.number());
+                *self.pairs.entry(pair).or_default() += 1;
+            }
+        }
+    }
 
-/// The answers by kind.
-type Tally = BTreeMap<String, u64>;
+    fn print(&self) {
+        let kinds = self.kinds.iter().map(|(k, n)| format!("{k} {n}"));
+        println!("  {}", kinds.collect::<Vec<_>>().join(", "));
+        let pairs = self.pairs.iter();
+        let pairs = pairs.map(|((one, two), n)| format!("{one} and {two} {n}"));
+        println!("  faults at once: {}", pairs.collect::<Vec<_>>().join(", "));
+    }
+}
 
 fn kind(answer: u32) -> String {
     match answer {
@@ -85,29 +96,40 @@ fn both(before: &Lent, call: &Call) -> Option<(u32, Lent)> {
     None
 }
 
-/// The fresh tag by both, and by both with one length or UID wrong.
-fn both_fresh(dice: &mut Dice) -> Option<Lent> {
-    let fresh = |uid: &[u8], memory: usize, state: usize| {
-        let mut one = (vec![0xA5; memory], vec![0x5A; state]);
-        let mut two = one.clone();
-        let a = library::fresh(uid, &mut one.0, &mut one.1);
-        let b = state::fresh(uid, &mut two.0, &mut two.1);
-        if a != b || one != two {
-            println!("fresh with a UID of {} bytes, {memory} bytes of memory, {state} of state: {a:#X}, {b:#X}", uid.len());
-            return None;
-        }
-        Some(one)
+/// A fresh tag by both, with the faults that are named; the memory and state after it.
+fn both_fresh(dice: &mut Dice, uid: &[u8], faults: &[Fault]) -> Option<(Vec<u8>, Vec<u8>)> {
+    let mut length = |fault: Fault, right: usize| match faults.contains(&fault) {
+        true => other_length(dice, right),
+        false => right,
     };
-    let uid = dice.bytes(10);
-    for _ in 0..4 {
-        let (u, m, s) = (
-            dice.below(11),
-            MEMORY_SIZE - 1 + dice.below(3),
-            STATE_SIZE - 1 + dice.below(3),
-        );
-        fresh(&uid[..u], m, s)?;
+    let (u, m, s) = (
+        length(Fault::Uid, uid.len()),
+        length(Fault::Memory, MEMORY_SIZE),
+        length(Fault::StateLength, STATE_SIZE),
+    );
+    let mut uid = uid.to_vec();
+    uid.resize(u, 0x33);
+    let mut one = (vec![0xA5; m], vec![0x5A; s]);
+    let mut two = one.clone();
+    let a = library::fresh(&uid, &mut one.0, &mut one.1);
+    let b = state::fresh(&uid, &mut two.0, &mut two.1);
+    if a == b && one == two {
+        return Some(one);
     }
-    let (memory, state) = fresh(&UID, MEMORY_SIZE, STATE_SIZE)?;
+    println!("fresh with a UID of {u} bytes, {m} bytes of memory, {s} of state");
+    println!("library answers {a:#X}, reference {b:#X}");
+    print_bytes("memory", &vec![0xA5; m], &one.0, &two.0);
+    print_bytes("state", &vec![0x5A; s], &one.1, &two.1);
+    None
+}
+
+/// A fresh tag of some UID with every set of faults, and the bench's.
+fn fresh(dice: &mut Dice) -> Option<Lent> {
+    let uid = dice.bytes(UID.len());
+    for bits in 0..1 << OF_FRESH.len() {
+        both_fresh(dice, &uid, &chosen(&OF_FRESH, bits))?;
+    }
+    let (memory, state) = both_fresh(dice, &UID, &[])?;
     Some(Lent {
         state,
         memory,
@@ -115,72 +137,47 @@ fn both_fresh(dice: &mut Dice) -> Option<Lent> {
     })
 }
 
-/// A length next to the right one, or far from it.
-fn other_length(dice: &mut Dice, bytes: &mut Vec<u8>) {
-    let length = bytes.len();
-    let other = dice.pick(&[0, 1, length - 1, length + 1, 2 * length]);
-    bytes.resize(other, 0x33);
-}
-
-/// Something that the caller hands in, changed.
-fn change(dice: &mut Dice, lent: &mut Lent, call: &mut Call) {
-    match dice.below(8) {
-        0 => other_length(dice, &mut lent.state),
-        1 => other_length(dice, &mut lent.memory),
-        2 => other_length(dice, &mut lent.reply),
-        3 => call.code = dice.pick(&[0, 9, 10, 255, 257, 259, 264, 0x8000_0003, u32::MAX]),
-        4 => call.value = dice.pick(&[1, 2, 255, 256, 257, 65536, 65537, u32::MAX]),
-        5 => {
-            let place = PAGE_PLACE + dice.below(20);
-            lent.memory[place] = dice.byte();
+/// The call with something changed, or with two faults and more; what to go on from.
+fn wrong_call(dice: &mut Dice, lent: &Lent, call: &Call, tally: &mut Tally) -> Option<Lent> {
+    let (mut other, mut call) = (lent.clone(), call.clone());
+    let mut faults = Vec::new();
+    if dice.one_in(4) {
+        faults = several(dice);
+        // A state's bytes are broken before its length.
+        for &fault in faults.iter().rev() {
+            make(dice, fault, &mut other, &mut call);
         }
-        _ => {
-            for _ in 0..=dice.below(2) {
-                let place = dice.below(STATE_SIZE);
-                let (now, any) = (lent.state[place], dice.byte());
-                let small = dice.below(7) as u8;
-                let beside = [now.wrapping_add(1), now.wrapping_sub(1), now ^ 1];
-                let edge = [0x0F, 0x10, 0xFF, small, any];
-                lent.state[place] = dice.pick(&[&beside[..], &edge[..]].concat());
-            }
-        }
+    } else {
+        change(dice, &mut other, &mut call);
     }
+    let (answer, next) = both(&other, &call)?;
+    tally.add(answer, &faults);
+    let taken = answer >= 0x100 && next.reply.len() == REPLY_SIZE && dice.one_in(2);
+    Some(if taken { next } else { lent.clone() })
 }
 
-/// True when the seed shows no difference.
-fn run(seed: u64, size: usize, tally: &mut Tally) -> bool {
+/// Nothing where the seed shows a difference.
+fn run(seed: u64, size: usize, tally: &mut Tally) -> Option<()> {
     let mut dice = Dice::new(!seed);
-    let Some(mut lent) = both_fresh(&mut dice) else {
-        return false;
-    };
+    let mut lent = fresh(&mut dice)?;
     for line in script(seed, size).lines {
         let mut room = [0; LONGEST_FRAME];
         let Some(signal) = read_line(&line, &mut room) else {
             continue;
         };
-        let mut call = Call {
+        let call = Call {
             code: u32::from(signal.code) + 1,
             value: u32::from(signal.value),
             frame: signal.frame.to_vec(),
         };
-        let Some((answer, next)) = both(&lent, &call) else {
-            return false;
-        };
-        *tally.entry(kind(answer)).or_default() += 1;
+        let (answer, next) = both(&lent, &call)?;
+        tally.add(answer, &[]);
         lent = next;
         if dice.one_in(3) {
-            let mut other = lent.clone();
-            change(&mut dice, &mut other, &mut call);
-            let Some((answer, next)) = both(&other, &call) else {
-                return false;
-            };
-            *tally.entry(kind(answer)).or_default() += 1;
-            if answer >= 0x100 && next.reply.len() == REPLY_SIZE && dice.one_in(2) {
-                lent = next;
-            }
+            lent = wrong_call(&mut dice, &lent, &call, tally)?;
         }
     }
-    true
+    Some(())
 }
 
 fn main() {
@@ -196,15 +193,14 @@ fn main() {
             exit(2);
         }
     };
-    let mut tally = Tally::new();
+    let mut tally = Tally::default();
     for seed in first..first.saturating_add(count) {
-        if !run(seed, size, &mut tally) {
+        if run(seed, size, &mut tally).is_none() {
             println!("seed {seed} differs");
             exit(1);
         }
     }
-    let calls: u64 = tally.values().sum();
+    let calls: u64 = tally.kinds.values().sum();
     println!("{count} seeds from {first}: {calls} calls, no difference");
-    let words: Vec<String> = tally.iter().map(|(k, n)| format!("{k} {n}")).collect();
-    println!("  {}", words.join(", "));
+    tally.print();
 }

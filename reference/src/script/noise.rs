@@ -104,6 +104,21 @@ impl Author {
         line
     }
 
+    /// A frame too long for the tag, of a length from `first` to `last`, most often at the
+    /// ends of that. Up to the longest line it is met with silence, and so is the start of
+    /// a longer one if that is all that is kept.
+    pub(super) fn frame_line(&mut self, (first, last): (usize, usize)) -> Line {
+        let near = 4.min(last + 1 - first);
+        let size = match self.dice.below(4) {
+            0 => first + self.dice.below(last + 1 - first),
+            1 => last - self.dice.below(near),
+            _ => first + self.dice.below(near),
+        };
+        let mut line = b"R\t".to_vec();
+        line.extend((2..size).map(|_| self.dice.pick(b"0123456789ABCDEF")));
+        line
+    }
+
     /// An earlier line with a character lost, doubled or changed; at times it is still right.
     fn changed_line(&mut self) -> Line {
         let mut line = match self.lines.len() {

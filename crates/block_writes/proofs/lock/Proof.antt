@@ -1,5 +1,6 @@
 use mathlib.Core.List.{[]}
 use Rattle.parts.proofs.Picks.{picks}
+use Rattle.errors.specs.declared.RadioError.the-variants.{NotLockable, AlreadyLocked}
 use Rattle.reply.specs.Reply.{good, fault}
 use Rattle.reply.proofs.Finish.{said}
 use Rattle.block_writes.specs.Writes.{lockOf}
@@ -18,7 +19,7 @@ unfolding lockOf
 returns c =
     let call = c .before .before in
     let a = call .before .before .before .before .before .before .args in
-    said (lockOf (a .s) (a .m .now) (a .block)) _ (fault 0x10) (call .error .ensures) (search picks depth 20)
+    said (lockOf (a .s) (a .m .now) (a .block)) _ (fault NotLockable) (call .error .ensures) (search picks depth 20)
 
 is-locked-requires : tie.Need-is-locked-requires
 is-locked-requires c κs = search needs
@@ -35,7 +36,7 @@ returns-2 c =
     let call = c .before .before in
     let locked = call .before .before .before in
     let a = locked .before .before .before .before .before .args in
-    said (lockOf (a .s) (a .m .now) (a .block)) _ (fault 0x11) (call .error2 .ensures)
+    said (lockOf (a .s) (a .m .now) (a .block)) _ (fault AlreadyLocked) (call .error2 .ensures)
     (rw (← locked .is-locked .ensures) (search picks depth 20))
 
 add-bits : tie.Need-add-bits

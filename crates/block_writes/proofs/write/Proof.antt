@@ -1,4 +1,5 @@
 use Rattle.parts.proofs.Picks.{picks}
+use Rattle.errors.specs.declared.RadioError.the-variants.{TooManyBlocks, NoSuchBlock, WriteLeavesArea, WriteForbidden}
 use Rattle.reply.specs.Reply.{good, fault}
 use Rattle.reply.proofs.Finish.{said}
 use Rattle.block_writes.specs.Writes.{writeOf}
@@ -21,7 +22,7 @@ unfolding writeOf
 returns c =
     let call = c .before .before in
     let a = call .before .before .before .before .before .before .before .args in
-    said (writeOf (a .s) (a .m .now) (a .first) (a .more) (a .frame .now) (a .at)) _ (fault 0x0F) (call .error .ensures) (search picks depth 20)
+    said (writeOf (a .s) (a .m .now) (a .first) (a .more) (a .frame .now) (a .at)) _ (fault TooManyBlocks) (call .error .ensures) (search picks depth 20)
 
 error-requires-2 : tie.Need-error-requires-2
 error-requires-2 c κs = search needs
@@ -34,7 +35,7 @@ unfolding writeOf
 returns-2 c =
     let call = c .before .before in
     let a = call .before .before .before .before .before .before .before .before .args in
-    said (writeOf (a .s) (a .m .now) (a .first) (a .more) (a .frame .now) (a .at)) _ (fault 0x10) (call .error2 .ensures) (search picks depth 20)
+    said (writeOf (a .s) (a .m .now) (a .first) (a .more) (a .frame .now) (a .at)) _ (fault NoSuchBlock) (call .error2 .ensures) (search picks depth 20)
 
 leaves-requires : tie.Need-leaves-requires
 leaves-requires c κs = search needs
@@ -51,7 +52,7 @@ returns-3 c =
     let call = c .before .before in
     let leave = call .before .before .before in
     let a = leave .before .before .before .before .before .before .before .args in
-    said (writeOf (a .s) (a .m .now) (a .first) (a .more) (a .frame .now) (a .at)) _ (fault 0x0F) (call .error3 .ensures)
+    said (writeOf (a .s) (a .m .now) (a .first) (a .more) (a .frame .now) (a .at)) _ (fault WriteLeavesArea) (call .error3 .ensures)
     (rw (← leave .leaves .ensures) (search picks depth 20))
 
 add-may-write-all : tie.Need-add-may-write-all
@@ -73,7 +74,7 @@ returns-4 c =
     let right = call .before .before .before in
     let leave = right .before .before in
     let a = leave .before .before .before .before .before .before .before .args in
-    said (writeOf (a .s) (a .m .now) (a .first) (a .more) (a .frame .now) (a .at)) _ (fault 0x12) (call .error4 .ensures)
+    said (writeOf (a .s) (a .m .now) (a .first) (a .more) (a .frame .now) (a .at)) _ (fault WriteForbidden) (call .error4 .ensures)
     (rw (← leave .leaves .ensures, ← right .may-write-all .ensures) (search picks depth 20))
 
 mul-put-bytes : tie.Need-mul-put-bytes

@@ -3,6 +3,7 @@ use mathlib.Core.List.{List}
 use Prim.Native.Nat.{ℕ, _+_}
 use lib.Seq.{sets}
 use Rattle.parts.proofs.Picks.{picks}
+use Rattle.errors.specs.declared.RadioError.the-variants.{NoSuchBlock, ReadLeavesArea, ReadProtected}
 use Rattle.reply.specs.Reply.{good, fault}
 use Rattle.reply.proofs.Finish.{said}
 use Rattle.blocks.specs.Blocks.{blocksOf, readOf}
@@ -28,7 +29,7 @@ unfolding readOf
 returns c =
     let call = c .before .before in
     let a = call .before .before .before .before .before .before .before .args in
-    said (readOf (a .s) (a .m .now) (a .option) (a .first) (a .more)) _ (fault 0x10) (call .error .ensures) (search picks depth 20)
+    said (readOf (a .s) (a .m .now) (a .option) (a .first) (a .more)) _ (fault NoSuchBlock) (call .error .ensures) (search picks depth 20)
 
 error-requires-2 : tie.Need-error-requires-2
 error-requires-2 c κs = search needs
@@ -42,7 +43,7 @@ returns-2 c =
     let call = c .before .before in
     let leave = call .before .before .before .before in
     let a = leave .before .before .before .before .args in
-    said (readOf (a .s) (a .m .now) (a .option) (a .first) (a .more)) _ (fault 0x0F) (call .error2 .ensures)
+    said (readOf (a .s) (a .m .now) (a .option) (a .first) (a .more)) _ (fault ReadLeavesArea) (call .error2 .ensures)
     (rw (← leave .leaves .ensures) (search picks depth 20))
 
 may-read-requires : tie.Need-may-read-requires
@@ -61,7 +62,7 @@ returns-3 c =
     let right = call .before .before .before in
     let leave = right .before .before .before in
     let a = leave .before .before .before .before .args in
-    said (readOf (a .s) (a .m .now) (a .option) (a .first) (a .more)) _ (fault 0x15) (call .error3 .ensures)
+    said (readOf (a .s) (a .m .now) (a .option) (a .first) (a .more)) _ (fault ReadProtected) (call .error3 .ensures)
     (rw (← leave .leaves .ensures, ← right .may-read .ensures) (search picks depth 20))
 
 put-requires : tie.Need-put-requires

@@ -1,4 +1,5 @@
 use Rattle.parts.proofs.Picks.{picks}
+use Rattle.errors.specs.declared.RadioError.the-variants.{NoSuchBlock}
 use Rattle.reply.specs.Reply.{good, fault}
 use Rattle.reply.proofs.Finish.{said}
 use Rattle.blocks.specs.Blocks.{statusesOf, statusReply}
@@ -23,7 +24,7 @@ unfolding statusReply
 returns c =
     let call = c .before .before in
     let a = call .before .before .before .before .before .args in
-    said (statusReply (a .s) (a .m .now) (a .first) (a .more)) _ (fault 0x10) (call .error .ensures) (search picks depth 20)
+    said (statusReply (a .s) (a .m .now) (a .first) (a .more)) _ (fault NoSuchBlock) (call .error .ensures) (search picks depth 20)
 
 sub-lesser : tie.Need-sub-lesser
 sub-lesser c = search needs

@@ -8,8 +8,8 @@ use Rattle.capi.proofs.answer_number.Tie as tie
 enum-known-a : tie.Need-enum-known-a
 enum-known-a c = search needs
 
-cast-result : tie.Need-cast-result
-cast-result c = search needs
+number-requires : tie.Need-number-requires
+number-requires c κs = search needs
 
 enum-told : tie.Need-enum-told
 enum-told c = search needs
@@ -23,8 +23,8 @@ enum-told-3 c = search needs
 enum-known-a-2 : tie.Need-enum-known-a-2
 enum-known-a-2 c = search needs
 
-cast-result-2 : tie.Need-cast-result-2
-cast-result-2 c = search needs
+cast-result : tie.Need-cast-result
+cast-result c = search needs
 
 add-result : tie.Need-add-result
 add-result c = search needs
@@ -35,15 +35,15 @@ enum-told-4 c = search needs
 enum-known-a-3 : tie.Need-enum-known-a-3
 enum-known-a-3 c = search needs
 
-cast-result-3 : tie.Need-cast-result-3
-cast-result-3 c = omega (arith, short (c .before .before .before .args .a) _ (c .before .a3 .given .1) (c .before .before .before .pre))
+cast-result-2 : tie.Need-cast-result-2
+cast-result-2 c = omega (arith, short (c .before .before .before .args .a) _ (c .before .a3 .given .1) (c .before .before .before .pre))
 
 add-result-2 : tie.Need-add-result-2
 add-result-2 c = omega (arith, short (c .before .before .before .args .a) _ (c .before .a3 .given .1) (c .before .before .before .pre))
 
 returns : tie.Need-returns
 unfolding answerNumber
-returns c = rw (c .before .a .given .1)
+returns c = rw (c .number .ensures, c .before .before .a .given .1)
 
 returns-2 : tie.Need-returns-2
 unfolding answerNumber
@@ -74,16 +74,16 @@ answer-number-spec =
     tie.close
     (tie.spec
     enum-known-a
-    cast-result
+    number-requires
     enum-told
     enum-told-2
     enum-told-3
     enum-known-a-2
-    cast-result-2
+    cast-result
     add-result
     enum-told-4
     enum-known-a-3
-    cast-result-3
+    cast-result-2
     add-result-2
     returns
     returns-2

@@ -1,6 +1,7 @@
 use mathlib.Core.List.{[], _∷_}
 use borrow.Author.Needs.{needs}
 use Rattle.parts.proofs.Picks.{picks}
+use Rattle.errors.specs.declared.RadioError.the-variants.{NoSuchRegister}
 use Rattle.reply.specs.Reply.{good, fault}
 use Rattle.reply.proofs.Finish.{said}
 use Rattle.config.specs.Config.{readConfigOf}
@@ -21,7 +22,7 @@ unfolding readConfigOf
 returns c =
     let call = c .before .before in
     let a = call .before .before .before .before .before .before .args in
-    said (readConfigOf (a .s) (a .m .now) (a .p)) _ (fault 0x10) (call .error .ensures) (rw (← call .before .before .before .is-pointer .ensures) (search picks depth 20))
+    said (readConfigOf (a .s) (a .m .now) (a .p)) _ (fault NoSuchRegister) (call .error .ensures) (rw (← call .before .before .before .is-pointer .ensures) (search picks depth 20))
 
 read-requires : tie.Need-read-requires
 read-requires c κs = search needs

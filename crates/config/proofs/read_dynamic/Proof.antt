@@ -1,6 +1,7 @@
 use mathlib.Core.List.{[], _∷_}
 use borrow.Author.Needs.{needs}
 use Rattle.parts.proofs.Picks.{picks}
+use Rattle.errors.specs.declared.RadioError.the-variants.{NoSuchDynamicRegister}
 use Rattle.reply.specs.Reply.{good, fault}
 use Rattle.reply.proofs.Finish.{said}
 use Rattle.config.specs.Config.{readDynamicOf}
@@ -18,7 +19,7 @@ unfolding readDynamicOf
 returns c =
     let call = c .before .before in
     let a = call .before .before .before .before .before .args in
-    said (readDynamicOf (a .s) (a .m .now) (a .p)) _ (fault 0x10) (call .error .ensures) (search picks depth 20)
+    said (readDynamicOf (a .s) (a .m .now) (a .p)) _ (fault NoSuchDynamicRegister) (call .error .ensures) (search picks depth 20)
 
 control-byte-requires : tie.Need-control-byte-requires
 control-byte-requires c κs = search needs

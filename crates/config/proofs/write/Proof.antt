@@ -1,6 +1,7 @@
 use mathlib.Core.List.{[]}
 use borrow.Author.Needs.{needs}
 use Rattle.parts.proofs.Picks.{picks}
+use Rattle.errors.specs.declared.RadioError.the-variants.{NoSuchRegister, ConfigurationClosed, EndRefused}
 use Rattle.reply.specs.Reply.{good, fault}
 use Rattle.reply.proofs.Finish.{said}
 use Rattle.config.specs.Config.{writeConfigOf}
@@ -21,7 +22,7 @@ unfolding writeConfigOf
 returns c =
     let call = c .before .before in
     let a = call .before .before .before .before .before .before .before .args in
-    said (writeConfigOf (a .s) (a .m .now) (a .p) (a .x)) _ (fault 0x10) (call .error .ensures)
+    said (writeConfigOf (a .s) (a .m .now) (a .p) (a .x)) _ (fault NoSuchRegister) (call .error .ensures)
     (rw (← call .before .before .before .is-pointer .ensures) (search picks depth 20))
 
 error-requires-2 : tie.Need-error-requires-2
@@ -35,7 +36,7 @@ unfolding writeConfigOf
 returns-2 c =
     let call = c .before .before in
     let a = call .before .before .before .before .before .before .before .before .before .before .args in
-    said (writeConfigOf (a .s) (a .m .now) (a .p) (a .x)) _ (fault 0x12) (call .error2 .ensures)
+    said (writeConfigOf (a .s) (a .m .now) (a .p) (a .x)) _ (fault ConfigurationClosed) (call .error2 .ensures)
     (rw (← call .before .before .before .before .before .before .is-pointer .ensures) (search picks depth 20))
 
 end-allows-requires : tie.Need-end-allows-requires
@@ -53,7 +54,7 @@ returns-3 c =
     let call = c .before .before in
     let tested = call .before .before .before in
     let a = call .before .before .before .before .before .before .before .before .before .before .before .before .args in
-    said (writeConfigOf (a .s) (a .m .now) (a .p) (a .x)) _ (fault 0x0F) (call .error3 .ensures)
+    said (writeConfigOf (a .s) (a .m .now) (a .p) (a .x)) _ (fault EndRefused) (call .error3 .ensures)
     (rw (← tested .end-allows .ensures, ← tested .before .before .before .before .before .is-pointer .ensures) (search picks depth 20))
 
 written-core-requires : tie.Need-written-core-requires

@@ -1,6 +1,7 @@
 use mathlib.Core.List.{[]}
 use borrow.Author.Needs.{needs}
 use Rattle.parts.proofs.Picks.{picks}
+use Rattle.errors.specs.declared.RadioError.the-variants.{NoSuchDynamicRegister}
 use Rattle.reply.specs.Reply.{good, fault}
 use Rattle.reply.proofs.Finish.{said}
 use Rattle.config.specs.Config.{writeDynamicOf}
@@ -18,7 +19,7 @@ unfolding writeDynamicOf
 returns c =
     let call = c .before .before in
     let a = call .before .before .before .before .before .args in
-    said (writeDynamicOf (a .s) (a .m .now) (a .vcc) (a .p) (a .x)) _ (fault 0x10) (call .error .ensures) (search picks depth 20)
+    said (writeDynamicOf (a .s) (a .m .now) (a .vcc) (a .p) (a .x)) _ (fault NoSuchDynamicRegister) (call .error .ensures) (search picks depth 20)
 
 control-requires : tie.Need-control-requires
 control-requires c κs = search needs

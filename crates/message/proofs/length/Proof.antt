@@ -1,6 +1,7 @@
 use mathlib.Core.List.{[], _∷_}
 use borrow.Author.Needs.{needs}
 use Rattle.parts.proofs.Picks.{picks}
+use Rattle.errors.specs.declared.RadioError.the-variants.{MailboxDisabled}
 use Rattle.reply.specs.Reply.{good, fault}
 use Rattle.reply.proofs.Finish.{said}
 use Rattle.message.specs.Message.{lengthOf}
@@ -18,7 +19,7 @@ unfolding lengthOf
 returns c =
     let call = c .before .before in
     let a = call .before .before .before .before .before .before .before .args in
-    said (lengthOf (a .s) (a .m .now)) _ (fault 0x0F) (call .error .ensures) (search picks depth 20)
+    said (lengthOf (a .s) (a .m .now)) _ (fault MailboxDisabled) (call .error .ensures) (search picks depth 20)
 
 length-byte-requires : tie.Need-length-byte-requires
 length-byte-requires c κs = search needs

@@ -5,6 +5,7 @@ use Rattle.parts.specs.Bytes.{bytesAt}
 use Rattle.parts.proofs.Picks.{picks}
 use Rattle.parts.proofs.Lists.{length-bytesAt}
 use Rattle.tag.specs.Layout.{mailboxAt}
+use Rattle.errors.specs.declared.RadioError.the-variants.{MailboxDisabled, PastMessage}
 use Rattle.reply.specs.Reply.{good, fault}
 use Rattle.reply.proofs.Finish.{said, good-run}
 use Rattle.message.specs.Message.{asked, readMessageOf}
@@ -22,7 +23,7 @@ unfolding readMessageOf
 returns c =
     let call = c .before .before in
     let a = call .before .before .before .before .before .before .before .args in
-    said (readMessageOf (a .s) (a .m .now) (a .p) (a .n)) _ (fault 0x0F) (call .error .ensures) (search picks depth 20)
+    said (readMessageOf (a .s) (a .m .now) (a .p) (a .n)) _ (fault MailboxDisabled) (call .error .ensures) (search picks depth 20)
 
 asked-requires : tie.Need-asked-requires
 asked-requires c κs = search needs
@@ -47,7 +48,7 @@ unfolding readMessageOf
 returns-2 c =
     let call = c .before .before in
     let a = call .before .before .before .before .before .before .before .before .before .before .before .args in
-    said (readMessageOf (a .s) (a .m .now) (a .p) (a .n)) _ (fault 0x0F) (call .error2 .ensures)
+    said (readMessageOf (a .s) (a .m .now) (a .p) (a .n)) _ (fault PastMessage) (call .error2 .ensures)
     (rw (← call .before .before .before .before .before .asked .ensures) (search picks depth 20))
 
 put-requires : tie.Need-put-requires

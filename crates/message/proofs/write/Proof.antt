@@ -1,6 +1,7 @@
 use mathlib.Core.List.{[]}
 use borrow.Author.Needs.{needs}
 use Rattle.parts.proofs.Picks.{picks}
+use Rattle.errors.specs.declared.RadioError.the-variants.{MailboxUnavailable}
 use Rattle.reply.specs.Reply.{good, fault}
 use Rattle.reply.proofs.Finish.{said}
 use Rattle.message.specs.Message.{writeMessageOf}
@@ -21,7 +22,7 @@ unfolding writeMessageOf
 returns c =
     let call = c .before .before in
     let a = call .before .before .before .before .before .before .before .before .args in
-    said (writeMessageOf (a .s) (a .m .now) (a .more) (a .frame .now) (a .at)) _ (fault 0x0F) (call .error .ensures)
+    said (writeMessageOf (a .s) (a .m .now) (a .more) (a .frame .now) (a .at)) _ (fault MailboxUnavailable) (call .error .ensures)
     (rw (← call .before .before .before .takes-message .ensures) (search picks depth 20))
 
 add-n : tie.Need-add-n

@@ -1,7 +1,7 @@
 use mathlib.Core.Path.{sym, _∙_}
 use borrow.Author.Tests.{not-false, eqb-true}
 use Rattle.parts.proofs.Picks.{picks}
-use Rattle.model.specs.Step.{number, freshOf}
+use Rattle.model.specs.Step.{freshOf}
 use Rattle.model.proofs.Clear.{cleared}
 use borrow.Author.Needs.{needs}
 use Rattle.model.proofs.fresh.Statement.{statement}
@@ -31,7 +31,7 @@ same-length c = search needs
 
 -- src/lib.rt:223:9
 returns : tie.Need-returns
-unfolding freshOf number
+unfolding freshOf
 returns c = rw (c .refused .ensures, c .before .before .before .before .fresh .ensures, ← c .before .before .is-memory .ensures) (search picks depth 20)
 
 -- src/lib.rt:226:28

@@ -1,7 +1,7 @@
 use mathlib.Core.Path.{sym, _∙_}
 use borrow.Author.Tests.{not-false}
 use Rattle.parts.proofs.Picks.{picks}
-use Rattle.model.specs.Step.{number, stepOf}
+use Rattle.model.specs.Step.{stepOf}
 use borrow.Author.Needs.{needs}
 use Rattle.model.proofs.step.Statement.{statement}
 use Rattle.model.proofs.step.Tie as tie
@@ -28,7 +28,7 @@ same-length c = search needs
 
 -- src/lib.rt:203:9
 returns : tie.Need-returns
-unfolding stepOf number
+unfolding stepOf
 returns c = rw (c .refused .ensures, ← c .before .before .is-memory .ensures) (search picks depth 20)
 
 -- src/lib.rt:206:9
@@ -41,7 +41,7 @@ same-length-2 c = search needs
 
 -- src/lib.rt:206:9
 returns-2 : tie.Need-returns-2
-unfolding stepOf number
+unfolding stepOf
 returns-2 c = rw (c .refused2 .ensures, ← c .before .before .before .is-memory .ensures) (search picks depth 20)
 
 -- src/lib.rt:208:9
@@ -58,7 +58,7 @@ same-length-3 c = search needs
 
 -- src/lib.rt:209:9
 returns-3 : tie.Need-returns-3
-unfolding stepOf number
+unfolding stepOf
 returns-3 c = rw (c .refused3 .ensures, ← c .before .before .before .before .before .is-memory .ensures, ← c .before .before .signal-in-range .ensures) (search picks depth 20)
 
 -- src/lib.rt:211:9
@@ -75,7 +75,7 @@ same-length-4 c = search needs
 
 -- src/lib.rt:212:9
 returns-4 : tie.Need-returns-4
-unfolding stepOf number
+unfolding stepOf
 returns-4 c = rw (c .refused4 .ensures, ← c .before .before .before .before .before .before .before .before .is-memory .ensures, ← c .before .before .before .before .before .signal-in-range .ensures, ← c .before .before .in-range .ensures) (search picks depth 20)
 
 -- src/lib.rt:214:9

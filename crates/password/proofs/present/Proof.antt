@@ -1,6 +1,7 @@
 use mathlib.Core.List.{[]}
 use borrow.Author.Needs.{needs}
 use Rattle.parts.proofs.Picks.{picks}
+use Rattle.errors.specs.declared.RadioError.the-variants.{NoSuchPassword, WrongPassword}
 use Rattle.reply.specs.Reply.{good, fault}
 use Rattle.reply.proofs.Finish.{said}
 use Rattle.password.specs.Password.{presentOf}
@@ -17,7 +18,7 @@ returns : tie.Need-returns
 unfolding presentOf
 returns c =
     let a = c .before .before .before .before .before .before .before .before .args in
-    said (presentOf (a .s) (a .m .now) (a .n) (a .frame .now) (a .at)) _ (fault 0x10) (c .before .before .error .ensures) (search picks depth 20)
+    said (presentOf (a .s) (a .m .now) (a .n) (a .frame .now) (a .at)) _ (fault NoSuchPassword) (c .before .before .error .ensures) (search picks depth 20)
 
 radio-requires : tie.Need-radio-requires
 radio-requires c κs = search needs
@@ -47,7 +48,7 @@ returns-2 c =
     let test = call .before .before .before .before in
     let a = test .before .before .before .before .before .before .before .before .before .args in
     let same = rw (test .before .before .before .radio .ensures, test .before .before .at .ensures) at (test .before .equals .ensures) in
-    said (presentOf (a .s) (a .m .now) (a .n) (a .frame .now) (a .at)) _ (fault 0x0F) (call .error2 .ensures)
+    said (presentOf (a .s) (a .m .now) (a .n) (a .frame .now) (a .at)) _ (fault WrongPassword) (call .error2 .ensures)
     (rw (call .before .before .with-air .ensures, call .before .before .before .with-session .ensures, ← same) (search picks depth 20))
 
 add-with-session : tie.Need-add-with-session

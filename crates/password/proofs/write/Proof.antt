@@ -1,6 +1,7 @@
 use mathlib.Core.List.{[]}
 use borrow.Author.Needs.{needs}
 use Rattle.parts.proofs.Picks.{picks}
+use Rattle.errors.specs.declared.RadioError.the-variants.{NoSuchPassword, PasswordSessionClosed}
 use Rattle.reply.specs.Reply.{good, fault}
 use Rattle.reply.proofs.Finish.{said}
 use Rattle.password.specs.Password.{writePasswordOf}
@@ -18,7 +19,7 @@ unfolding writePasswordOf
 returns c =
     let call = c .before .before in
     let a = call .before .before .before .before .before .before .args in
-    said (writePasswordOf (a .s) (a .m .now) (a .n) (a .frame .now) (a .at)) _ (fault 0x10) (call .error .ensures) (search picks depth 20)
+    said (writePasswordOf (a .s) (a .m .now) (a .n) (a .frame .now) (a .at)) _ (fault NoSuchPassword) (call .error .ensures) (search picks depth 20)
 
 add-if2 : tie.Need-add-if2
 add-if2 c = search needs
@@ -34,7 +35,7 @@ unfolding writePasswordOf
 returns-2 c =
     let call = c .before .before in
     let a = call .before .before .before .before .before .before .before .before .args in
-    said (writePasswordOf (a .s) (a .m .now) (a .n) (a .frame .now) (a .at)) _ (fault 0x12) (call .error2 .ensures) (search picks depth 20)
+    said (writePasswordOf (a .s) (a .m .now) (a .n) (a .frame .now) (a .at)) _ (fault PasswordSessionClosed) (call .error2 .ensures) (search picks depth 20)
 
 at-requires : tie.Need-at-requires
 at-requires c κs = search needs

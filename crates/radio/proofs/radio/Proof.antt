@@ -14,8 +14,8 @@ judge-requires c κs = search needs
 enum-told : tie.Need-enum-told
 enum-told c = search needs
 
-enum-known-code : tie.Need-enum-known-code
-enum-known-code c = search needs
+enum-known-e : tie.Need-enum-known-e
+enum-known-e c = search needs
 
 error-requires : tie.Need-error-requires
 error-requires c κs = search needs
@@ -43,7 +43,7 @@ returns-2 c =
     let judged = failed .before .before .before .before .before in
     let a = c .before .before .before .before .before .before .before .before .before .before .before .before .args in
     said (radioOf (a .t) (a .u) (a .vcc) (a .transfer) (a .programming) (a .m .now) (a .s .now)) (a .out .now) _ (failed .error .ensures)
-    (rw (← judged .judge .ensures, failed .before .before .before .code .given .1))
+    (rw (← judged .judge .ensures, failed .before .before .before .e .given .1))
 
 same-length-2 : tie.Need-same-length-2
 same-length-2 c = search needs
@@ -64,7 +64,7 @@ radio-spec =
     (tie.spec
     judge-requires
     enum-told
-    enum-known-code
+    enum-known-e
     error-requires
     enum-told-2
     fields-requires

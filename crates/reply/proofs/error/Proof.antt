@@ -7,6 +7,9 @@ use Rattle.reply.proofs.error.Tie as tie
 put-requires : tie.Need-put-requires
 put-requires c κs = search needs
 
+code-requires : tie.Need-code-requires
+code-requires c κs = search needs
+
 put-requires-2 : tie.Need-put-requires-2
 put-requires-2 c κs = search needs
 
@@ -21,8 +24,9 @@ unfolding answerOf bufferOf
 returns c =
     let closed = c .before .before in
     let second = closed .before .before .before .before in
-    let first = second .before .before .before .before in
-    closed .close .ensures ∙ rw (second .put2 .ensures, first .put .ensures)
+    let coded = second .before in
+    let first = coded .before .before .before .before in
+    closed .close .ensures ∙ rw (second .put2 .ensures, coded .code .ensures, first .put .ensures)
 
 pub error-spec : {M : Type 1} → statement M
-error-spec = tie.close (tie.spec put-requires put-requires-2 close-requires same-length returns)
+error-spec = tie.close (tie.spec put-requires code-requires put-requires-2 close-requires same-length returns)

@@ -7,7 +7,7 @@ use lib.Seq.{take-all}
 use Rattle.crc.specs.Crc.{closed}
 use Rattle.script.specs.Bench.{calls, benchOf, saidOf}
 use Rattle.script.specs.Line.{Said, lineOf, saidBy}
-use Rattle.script.specs.Hex.{hexBytes}
+use Rattle.text.specs.Hex.{hexBytes}
 use Rattle.script.specs.declared.Bench.{Bench}
 use Rattle.script.specs.declared.reading.Reading.{Reading}
 use Rattle.script.proofs.LineLaws.{framed, Framed, bad-call}
@@ -51,7 +51,7 @@ put-frame-requires c κs =
     let s = c .before .before .before .before .before .before .args .s .now in
     let f = is-framed (c .before .before) in
     let e : take (length s - 2) (drop 2 s) ≡ drop 2 s = take-all (length s - 2) (drop 2 s) (omega (arith, length-drop 2 s)) in
-    rw e (f .1 .1, omega (arith, length-drop 2 s))
+    rw e (omega (arith, f, length-drop 2 s))
 
 returns : tie.Need-returns
 unfolding benchOf saidOf saidBy

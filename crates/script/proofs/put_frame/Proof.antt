@@ -1,11 +1,12 @@
 use native.Mathlib.Omega.{arith}
-use mathlib.Core.Path.{_≡_, ap, _∙_}
+use mathlib.Core.Path.{_≡_, sym, ap, _∙_}
 use mathlib.Core.List.{List}
 use Prim.Native.Nat.{ℕ, _+_, _-_, _/_}
 use lib.ListN.{length, take}
-use Rattle.script.specs.Hex.{hexBytes}
+use Rattle.text.specs.Hex.{hexBytes}
+use Rattle.text.proofs.HexLaws.{length-hex-bytes}
 use Rattle.crc.specs.Crc.{closedAt}
-use Rattle.script.proofs.LineLaws.{length-hex-bytes, frame-closed}
+use Rattle.script.proofs.LineLaws.{frame-closed}
 use borrow.Author.Needs.{needs}
 use Rattle.script.proofs.put_frame.Statement.{statement}
 use Rattle.script.proofs.put_frame.Tie as tie
@@ -17,18 +18,23 @@ close-requires : tie.Need-close-requires
 close-requires c κs = search needs
 
 add-result : tie.Need-add-result
-add-result c = search needs
+add-result c =
+    let start = c .before .before .before .before .before in
+    omega (arith, start .pre, c .before .before .decode .ensures .0, length-hex-bytes (start .args .s .now))
 
 returns : tie.Need-returns
 returns c =
-    let a = c .before .before .before .before .before .args in
+    let d = c .before .before .decode in
+    let start = c .before .before .before .before .before in
+    let a = start .args in
     let s = a .s .now in
-    let n = length s / 2 in
-    let p = c .before .before .before .before .before .pre .1 in
+    let n = d .result in
+    let l = length-hex-bytes s in
+    let p = start .pre in
     let h : length (a .frame .now) ≡ 602 = search needs in (
-      ap (λ (x : List ℕ). take (n + 2) x) (c .close .ensures ∙ ap (λ (x : List ℕ). closedAt x n) (c .before .before .decode .ensures))
-          ∙ frame-closed (hexBytes s) (a .frame .now) n (length-hex-bytes s) (omega (arith, p, h)),
-      omega (arith, p, h, c .close .kept .0 ∙ c .before .before .decode .kept .1 .0),
+      ap (λ (x : List ℕ). take (n + 2) x) (c .close .ensures ∙ ap (λ (x : List ℕ). closedAt x n) (d .ensures .1))
+          ∙ frame-closed (hexBytes s) (a .frame .now) n (sym (d .ensures .0)) (omega (arith, p, h, l, d .ensures .0)),
+      omega (arith, p, h, l, d .ensures .0, c .close .kept .0 ∙ d .kept .1 .0),
     )
 
 pub put-frame-spec : {M : Type 1} → statement M

@@ -17,6 +17,9 @@ byte-at-requires-2 c κs = search needs
 hex-byte-requires : tie.Need-hex-byte-requires
 hex-byte-requires c κs = search needs
 
+cast-t9 : tie.Need-cast-t9
+cast-t9 c = search needs
+
 returns : tie.Need-returns
 unfolding saidBy byteSent
 returns c = rw (c .hex-byte .ensures, c .before .byte-at2 .ensures, c .before .before .byte-at .ensures, ← c .before .before .before .before .all-hex .ensures) (search picks depth 20)
@@ -33,5 +36,6 @@ byte-sent-spec =
     byte-at-requires
     byte-at-requires-2
     hex-byte-requires
+    cast-t9
     returns
     returns-2)

@@ -1,0 +1,122 @@
+-- A struck frame's reply buffer follows from its number. Assumes nothing.
+use mathlib.Core.Path.{_≡_, refl, sym, ap, _∙_}
+use mathlib.Core.Bool.{Bool, true, false, not, _&&_}
+use mathlib.Core.List.{List, [], _∷_, _++_}
+use Prim.Native.Nat.{ℕ, _+_}
+use native.Mathlib.Omega.{arith}
+use lib.Dec.{ltb}
+use lib.ListN.{length, getD, drop}
+use Rattle.parts.specs.Pick.{pick}
+use Rattle.parts.specs.Bytes.{areBytes}
+use Rattle.parts.proofs.Bools.{and-left, and-right, and-both}
+use Rattle.tag.specs.declared.Tag.{Tag}
+use Rattle.state.specs.Layout.{bytesOf, tagOf}
+use Rattle.state.proofs.Decoded.{decoded-fits}
+use Rattle.reply.specs.Reply.{nothing, body, answerOf}
+use Rattle.model.specs.Signals.{signalBy}
+use Rattle.model.specs.Step.{fromRadio, transferOpen}
+use Rattle.model.proofs.Kept.{keeps}
+use Rattle.capi.specs.Interface.{answerNumber}
+use Rattle.waiting.specs.Calls.{Call, Device, device, Done, entry, runBy}
+use Rattle.waiting.specs.Claim.{framesFit, isRefusal, isFrame, struck, spoken, shutReply, startAfter}
+use Rattle.waiting.proofs.OneCall.{Fits, struck-is}
+use Rattle.waiting.proofs.Struck.{fits-next}
+use Rattle.waiting.proofs.Demand3.{demand-3, ends-alike}
+use Rattle.library_demand3.specs.Calls.{LibraryStep, Numbered, answerBy, LibraryRan, libraryRun}
+use Rattle.library_demand3.specs.Claim.{inNumber, inNumbers, inBytes, libraryStruck, EachLibraryStruck, LibrarySame, EveryLibraryList}
+use Rattle.library_demand3.specs.Follows.{NumberShut, AnswerShut, BufferFollows}
+use Rattle.library_demand3.proofs.Lists.{Good, good-next, first-frame, rest-frames, inLibrary, refusal-number, decoded}
+
+-- ---- of silence and one reply the number decides the buffer
+by-number : (a b : Bool) (r o : List ℕ)
+    → inNumber (spoken (pick a nothing (body r)) o) .number ≡ inNumber (spoken (pick b nothing (body r)) o) .number
+    → inNumber (spoken (pick a nothing (body r)) o) ≡ inNumber (spoken (pick b nothing (body r)) o)
+unfolding pick answerOf fromRadio answerNumber
+by-number true true r o h = refl
+by-number true false r o h = let f : 0x103 ≡ 0x1000 + (length r + 2) = h in absurd (omega arith)
+by-number false true r o h = let f : 0x1000 + (length r + 2) ≡ 0x103 = h in absurd (omega arith)
+by-number false false r o h = refl
+
+frames-first : (p q : List Call) → framesFit (p ++ q) ≡ true → framesFit p ≡ true
+unfolding framesFit
+frames-first [] q h = refl
+frames-first (c ∷ p) q h =
+    and-both (areBytes (c .frame)) (framesFit p) (first-frame c (p ++ q) h) (frames-first p q (rest-frames c (p ++ q) h))
+
+-- ---- a step beside the entry point, call by call: s and m are its bytes, d is the entry point's tag
+module _ (step : LibraryStep) where
+  -- where the entry point has no transfer open, the state's bytes are its tag's
+  record Beside (s m : List ℕ) (d : Device) (cs : List Call) : Type 0 where
+    good : Good d
+    fits : Fits d
+    frames : framesFit cs ≡ true
+    answers : libraryRun step s m cs .answers ≡ inNumbers (runBy entry d cs .answers)
+    shut : (p q : List Call) → p ++ q ≡ cs → transferOpen (runBy entry d p .device .tag) ≡ false
+        → libraryRun step s m p .state ≡ bytesOf (runBy entry d p .device .tag)
+
+  at-first : EveryLibraryList (LibrarySame step) → EveryLibraryList (λ (s m : List ℕ) (cs : List Call). Beside s m (device (tagOf s) m) cs)
+  unfolding inBytes
+  at-first all s m cs are is bytes size range shut frames end =
+      let d = device (tagOf s) m in
+      let same : (p : List Call) → framesFit p ≡ true → transferOpen (runBy entry d p .device .tag) ≡ false → libraryRun step s m p ≡ inLibrary (runBy entry d p) =
+      λ p f h.
+      let e = ends-alike d p range size f shut h in
+      all s m p are is bytes size range shut f e ∙ ap inBytes (demand-3 d p range size f shut e .same) in
+      record {
+        good = record { fits = decoded-fits s are; bytes = bytes };
+        fits = record { range = range; size = size };
+        frames = frames;
+        answers = ap (λ (r : LibraryRan). r .answers) (all s m cs are is bytes size range shut frames end ∙ ap inBytes (demand-3 d cs range size frames shut end .same));
+        shut = λ p q e h. ap (λ (r : LibraryRan). r .state) (same p (frames-first p q (ap framesFit e ∙ frames)) h);
+      }
+
+  module _ (c : Call) (cs : List Call) (s m : List ℕ) (d : Device) (b : Beside s m d (c ∷ cs)) where
+    next : Beside (step s m c .state) (step s m c .memory) (entry d c .device) cs
+    unfolding libraryRun runBy inNumbers
+    next = record {
+      good = good-next d c (first-frame c cs (b .frames)) (b .good);
+      fits = fits-next keeps d c (first-frame c cs (b .frames)) (b .fits);
+      frames = rest-frames c cs (b .frames);
+      answers = ap (λ (l : List Numbered). drop 1 l) (b .answers);
+      shut = λ p q e h. b .shut (c ∷ p) q (ap (λ (l : List Call). c ∷ l) e) h;
+    }
+
+    answer-is : answerBy (step s m c) ≡ inNumber (entry d c .says)
+    unfolding libraryRun runBy inNumbers
+    answer-is = ap (λ (l : List Numbered). getD l 0 (answerBy (step s m c))) (b .answers)
+
+    by-open : (o : Bool) → transferOpen (d .tag) ≡ o → transferOpen (tagOf s) ≡ true → transferOpen (d .tag) ≡ true
+    unfolding libraryRun runBy
+    by-open true e h = e
+    by-open false e h =
+        ap transferOpen (sym (decoded (d .tag) (b .good .fits))) ∙ ap (λ (x : List ℕ). transferOpen (tagOf x)) (sym (b .shut [] (c ∷ cs) refl e)) ∙ h
+
+    -- what it strikes out the entry point strikes out
+    is-struck : libraryStruck step s m c ≡ true → struck entry d c ≡ true
+    unfolding libraryStruck struck
+    is-struck h =
+        let frame = isFrame (signalBy (c .code) (c .value)) in
+        let unrefused = not (ltb (step s m c .number) 0x100) in
+        let both = and-left (transferOpen (tagOf s) && frame) unrefused h in
+        and-both (transferOpen (d .tag) && frame) (not (isRefusal (entry d c .says .answer)))
+        (and-both (transferOpen (d .tag)) frame (by-open (transferOpen (d .tag)) refl (and-left (transferOpen (tagOf s)) frame both)) (and-right (transferOpen (tagOf s)) frame both))
+        (ap not (sym (refusal-number (entry d c .says .answer))) ∙ ap (λ (a : Numbered). not (ltb (a .number) 0x100)) (sym answer-is)
+        ∙ and-right (transferOpen (tagOf s) && frame) unrefused h)
+
+    shut-answer : libraryStruck step s m c ≡ true → answerBy (step s m c) ≡ inNumber (spoken (shutReply (d .tag) (d .tag .air) (c .frame)) (c .buffer))
+    shut-answer h = answer-is ∙ ap (λ (e : Done). inNumber (e .says)) (struck-is d c (b .fits) (is-struck h))
+
+  buffers : (cs : List Call) (start : Tag) (s m : List ℕ) (d : Device) → Beside s m d cs
+      → EachLibraryStruck step (NumberShut step) start s m cs → EachLibraryStruck step (AnswerShut step) start s m cs
+  unfolding EachLibraryStruck
+  buffers [] start s m d b h = tt
+  buffers (c ∷ cs) start s m d b (h, hs) = (
+    λ t.
+        let e = shut-answer c cs s m d b t in
+        e ∙ by-number _ _ _ (c .buffer) (ap (λ (a : Numbered). a .number) (sym e) ∙ h t),
+    buffers cs (startAfter start (tagOf s)) (step s m c .state) (step s m c .memory) (entry d c .device) (next c cs s m d b) hs,
+  )
+
+pub buffer-follows : BufferFollows
+buffer-follows step all s m cs are is bytes size range shut frames end h =
+    buffers step cs (tagOf s) s m (device (tagOf s) m) (at-first step all s m cs are is bytes size range shut frames end) h

@@ -1,0 +1,10 @@
+pub mod WireKept
+pub mod RadioKept
+pub mod InRange
+pub mod Kept
+pub mod Striking
+pub mod Lists
+pub mod Demand3
+pub mod Buffer
+pub mod Fresh
+pub mod Wrong

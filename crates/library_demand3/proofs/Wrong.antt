@@ -1,0 +1,200 @@
+-- Library steps that demand 3 over the library's calls shuts out, each by one list. Assumes nothing.
+use mathlib.Core.Path.{_≡_, refl, ap}
+use mathlib.Core.Bool.{true, false, not}
+use mathlib.Core.List.{List, [], _∷_}
+use Prim.Native.Nat.{ℕ}
+use native.Mathlib.Omega.{arith}
+use lib.Dec.{ltb, eqb}
+use lib.ListN.{getD}
+use Rattle.tag.specs.declared.RadioState.the-variants.{Selected}
+use Rattle.tag.specs.declared.Bus.the-variants.{Started}
+use Rattle.tag.specs.declared.Tag.{Tag}
+use Rattle.tag.specs.Layout.{memoryBytes}
+use Rattle.tag.specs.Bus.{isActive}
+use Rattle.tag.specs.Radio.{isSelected}
+use Rattle.tag.specs.Supply.{freshTag}
+use Rattle.state.specs.Layout.{flagByte, radioNumber, radioStateOf, spaceNumber, spaceOf, airBytes, airDecodes, airAt, busBytes, isBus, busOf, busDecodes, busAt, hostBytes, hostDecodes, hostAt, registerBytes, registersAt, mailboxBytes, mailboxDecodes, mailboxAt, passwordBytes, passwordsAt, bytesOf, decodes, tagOf}
+use Rattle.transfer.specs.Legs.{isRefused, ends, fresher, isEmpty, finished, push, parse}
+use Rattle.transfer.specs.Whole.{bytesSent, replies, accepted, writeLeg, selected, legOf, lastLeg, legsOf, transferOf}
+use Rattle.capi.specs.Interface.{refusalNumber, answerNumber, isRefused as isAnswerRefused, stateAfter, stepCall}
+use Rattle.waiting.specs.Calls.{Call, Device, device}
+use Rattle.waiting.specs.Examples.{zeros, fieldTo, send, stop, programmingEnd, frame, uid, powered, _but_, radioState, radioSession, i2cSession, beingProgrammed, onBus, hostMessage}
+use Rattle.waiting.specs.Waiting.{fill, answered, isStarted, ackedSelect, whenClosed, note, frameAnswer, whenOpen, waitAct, waitStep, waitRun}
+use Rattle.waiting.specs.Claim.{framesFit, isFrame, isClosed}
+use Rattle.waiting.proofs.Computes.{computes}
+use Rattle.library_demand3.specs.Calls.{Numbered, LibraryRan, exported, libraryRun}
+use Rattle.library_demand3.specs.Claim.{inNumbers, inBytes, libraryStruck, EachLibraryStruck, LibrarySame}
+use Rattle.library_demand3.specs.Wrong.{LibraryRefuted, acksStop, refusesBy3, raisesReply, writesPast, leavesTrace, keepsState, coded, decoded, codesSession, clearsPage, supplied, marksState, restored, marksMemory, turned, turnsField, wrongWhere}
+
+-- all that a run of the library's calls, and the waiting tag's, computes with
+unfoldable runs : Unit {0}
+unfolding computes flagByte radioNumber radioStateOf spaceNumber spaceOf airBytes airDecodes airAt busBytes isBus busOf busDecodes busAt hostBytes hostDecodes hostAt registerBytes registersAt mailboxBytes mailboxDecodes mailboxAt passwordBytes passwordsAt bytesOf decodes tagOf isRefused ends fresher isEmpty finished push parse bytesSent replies accepted writeLeg selected legOf lastLeg legsOf transferOf refusalNumber answerNumber isAnswerRefused stateAfter stepCall fill answered isStarted ackedSelect whenClosed note frameAnswer whenOpen waitAct waitStep waitRun framesFit isFrame isClosed exported libraryRun inNumbers inBytes libraryStruck EachLibraryStruck
+runs = tt
+
+-- ---- what is compared: of the last answer its number, and byte i of its buffer
+unfoldable lastNumber : List Numbered → ℕ
+lastNumber [] = 0
+lastNumber (a ∷ []) = a .number
+lastNumber (a ∷ b ∷ s) = lastNumber (b ∷ s)
+
+unfoldable lastByte : ℕ → List Numbered → ℕ
+lastByte i [] = 0
+lastByte i (a ∷ []) = getD (a .buffer) i 0
+lastByte i (a ∷ b ∷ s) = lastByte i (b ∷ s)
+
+-- ---- calls
+-- 02 20 7F: block 127 is read
+abbrev read : Call
+read = frame (0x02 ∷ 0x20 ∷ 0x7F ∷ [])
+
+-- a Start without a reply buffer
+abbrev unbuffered : Call
+unbuffered = record { buffer = []; code = 3; value = 0; frame = [] }
+
+-- ---- one list for each; the hypotheses of the claim compute, and so do both sides of what it says
+abbrev bytes : Device → List ℕ
+bytes d = bytesOf (d .tag)
+
+-- a tag whose bus is started: the next byte sent is a select
+abbrev awaiting : Device
+awaiting = powered but onBus (Started false)
+
+-- a frame between a select and its Stop
+abbrev framed : List Call
+framed = send 0xA6 ∷ read ∷ stop ∷ []
+
+-- ---- `same`: the numbers
+pub acks-stop-refuted : LibraryRefuted acksStop
+unfolding runs acksStop lastNumber
+acks-stop-refuted h =
+    let f : _≡_ {A = ℕ} 0x101 0x100 = ap (λ (r : LibraryRan). lastNumber (r .answers)) (h (bytes powered) (powered .memory) (stop ∷ []) refl refl refl refl refl refl refl refl .same) in
+    omega arith
+
+pub refuses-by-3-refuted : LibraryRefuted refusesBy3
+unfolding runs refusesBy3 lastNumber
+refuses-by-3-refuted h =
+    let f : _≡_ {A = ℕ} 3 2 = ap (λ (r : LibraryRan). lastNumber (r .answers)) (h (bytes powered) (powered .memory) (unbuffered ∷ []) refl refl refl refl refl refl refl refl .same) in
+    omega arith
+
+-- ---- `same`: the reply buffers
+pub raises-reply-refuted : LibraryRefuted raisesReply
+unfolding runs raisesReply lastByte
+raises-reply-refuted h =
+    let f : _≡_ {A = ℕ} 1 0 = ap (λ (r : LibraryRan). lastByte 1 (r .answers)) (h (bytes powered) (powered .memory) (read ∷ []) refl refl refl refl refl refl refl refl .same) in
+    omega arith
+
+pub writes-past-refuted : LibraryRefuted writesPast
+unfolding runs writesPast lastByte
+writes-past-refuted h =
+    let f : _≡_ {A = ℕ} 1 0 = ap (λ (r : LibraryRan). lastByte 642 (r .answers)) (h (bytes powered) (powered .memory) (read ∷ []) refl refl refl refl refl refl refl refl .same) in
+    omega arith
+
+-- refuted here by `shut`; `same` sees it too
+pub leaves-trace-refuted : LibraryRefuted leavesTrace
+unfolding runs leavesTrace
+leaves-trace-refuted h =
+    let f : _≡_ {A = ℕ} 1 0 = ap (λ (a : Numbered). getD (a .buffer) 642 0) (h (bytes awaiting) (awaiting .memory) framed refl refl refl refl refl refl refl refl .shut .1 .0 refl .reply) in
+    omega arith
+
+-- ---- `same`: the bytes at the end
+pub keeps-state-refuted : LibraryRefuted keepsState
+unfolding runs keepsState
+keeps-state-refuted h =
+    let f : _≡_ {A = ℕ} 1 0 = ap (λ (r : LibraryRan). getD (r .state) 0 0) (h (bytes powered) (powered .memory) (fieldTo 0 ∷ []) refl refl refl refl refl refl refl refl .same) in
+    omega arith
+
+pub codes-session-refuted : LibraryRefuted codesSession
+unfolding runs codesSession coded decoded
+codes-session-refuted h =
+    let d = powered but i2cSession in
+    let f : _≡_ {A = ℕ} 2 1 = ap (λ (r : LibraryRan). getD (r .state) 4 0) (h (bytes d) (d .memory) (stop ∷ []) refl refl refl refl refl refl refl refl .same) in
+    omega arith
+
+pub clears-page-refuted : LibraryRefuted clearsPage
+unfolding runs clearsPage
+clears-page-refuted h =
+    let f : _≡_ {A = ℕ} 0 1 = ap (λ (r : LibraryRan). getD (r .memory) 768 0) (h (bytes awaiting) (awaiting .memory) (send 0xA6 ∷ send 0 ∷ send 0 ∷ send 1 ∷ stop ∷ []) refl refl refl refl refl refl refl refl .same) in
+    omega arith
+
+-- ---- `shut`
+-- by that list's answers and bytes at the end each of the three is right
+marks-state-same : LibrarySame marksState (bytes awaiting) (awaiting .memory) framed
+unfolding runs marksState supplied
+marks-state-same = refl
+
+pub marks-state-refuted : LibraryRefuted marksState
+unfolding runs marksState supplied
+marks-state-refuted h =
+    let f : _≡_ {A = ℕ} 0 1 = ap (λ (s : List ℕ). getD s 3 0) (h (bytes awaiting) (awaiting .memory) framed refl refl refl refl refl refl refl refl .shut .1 .0 refl .state) in
+    omega arith
+
+marks-memory-same : LibrarySame marksMemory (bytes awaiting) (awaiting .memory) framed
+unfolding runs marksMemory restored
+marks-memory-same = refl
+
+pub marks-memory-refuted : LibraryRefuted marksMemory
+unfolding runs marksMemory restored
+marks-memory-refuted h =
+    let f : _≡_ {A = ℕ} 256 0 = ap (λ (m : List ℕ). getD m 1023 0) (h (bytes awaiting) (awaiting .memory) framed refl refl refl refl refl refl refl refl .shut .1 .0 refl .memory) in
+    omega arith
+
+turns-field-same : LibrarySame turnsField (bytes awaiting) (awaiting .memory) framed
+unfolding runs turnsField turned
+turns-field-same = refl
+
+-- error 0Fh, where the state that it stored has silence
+pub turns-field-refuted : LibraryRefuted turnsField
+unfolding runs turnsField turned
+turns-field-refuted h =
+    let f : _≡_ {A = ℕ} 0x1004 0x103 = ap (λ (a : Numbered). a .number) (h (bytes awaiting) (awaiting .memory) framed refl refl refl refl refl refl refl refl .shut .1 .0 refl .reply) in
+    omega arith
+
+-- ---- the start
+pub i2c-session-refuted : LibraryRefuted (wrongWhere (λ (t : Tag). t .host .session))
+unfolding runs wrongWhere lastNumber
+i2c-session-refuted h =
+    let d = powered but i2cSession in
+    let f : _≡_ {A = ℕ} 0x101 0x100 = ap (λ (r : LibraryRan). lastNumber (r .answers)) (h (bytes d) (d .memory) (programmingEnd ∷ []) refl refl refl refl refl refl refl refl .same) in
+    omega arith
+
+pub programming-refuted : LibraryRefuted (wrongWhere (λ (t : Tag). t .host .programming))
+unfolding runs wrongWhere lastNumber
+programming-refuted h =
+    let d = powered but beingProgrammed in
+    let f : _≡_ {A = ℕ} 0x101 0x100 = ap (λ (r : LibraryRan). lastNumber (r .answers)) (h (bytes d) (d .memory) (programmingEnd ∷ []) refl refl refl refl refl refl refl refl .same) in
+    omega arith
+
+pub selected-refuted : LibraryRefuted (wrongWhere (λ (t : Tag). isSelected (t .air .radio)))
+unfolding runs wrongWhere lastNumber
+selected-refuted h =
+    let d = powered but radioState Selected in
+    let f : _≡_ {A = ℕ} 0x101 0x100 = ap (λ (r : LibraryRan). lastNumber (r .answers)) (h (bytes d) (d .memory) (programmingEnd ∷ []) refl refl refl refl refl refl refl refl .same) in
+    omega arith
+
+pub radio-session-refuted : LibraryRefuted (wrongWhere (λ (t : Tag). not (eqb (t .air .session) 0)))
+unfolding runs wrongWhere lastNumber
+radio-session-refuted h =
+    let d = powered but radioSession 1 in
+    let f : _≡_ {A = ℕ} 0x101 0x100 = ap (λ (r : LibraryRan). lastNumber (r .answers)) (h (bytes d) (d .memory) (programmingEnd ∷ []) refl refl refl refl refl refl refl refl .same) in
+    omega arith
+
+pub started-refuted : LibraryRefuted (wrongWhere (λ (t : Tag). isActive (t .host .bus)))
+unfolding runs wrongWhere lastNumber
+started-refuted h =
+    let d = awaiting in
+    let f : _≡_ {A = ℕ} 0x101 0x100 = ap (λ (r : LibraryRan). lastNumber (r .answers)) (h (bytes d) (d .memory) (programmingEnd ∷ []) refl refl refl refl refl refl refl refl .same) in
+    omega arith
+
+pub message-refuted : LibraryRefuted (wrongWhere (λ (t : Tag). ltb 0 (t .core .mailbox .length)))
+unfolding runs wrongWhere lastNumber
+message-refuted h =
+    let d = powered but hostMessage 1 true in
+    let f : _≡_ {A = ℕ} 0x101 0x100 = ap (λ (r : LibraryRan). lastNumber (r .answers)) (h (bytes d) (d .memory) (programmingEnd ∷ []) refl refl refl refl refl refl refl refl .same) in
+    omega arith
+
+pub unsupplied-refuted : LibraryRefuted (wrongWhere (λ (t : Tag). not (t .host .vcc)))
+unfolding runs wrongWhere lastNumber
+unsupplied-refuted h =
+    let d = device (freshTag uid) (zeros memoryBytes) in
+    let f : _≡_ {A = ℕ} 0x101 0x100 = ap (λ (r : LibraryRan). lastNumber (r .answers)) (h (bytes d) (d .memory) (programmingEnd ∷ []) refl refl refl refl refl refl refl refl .same) in
+    omega arith

@@ -1,0 +1,14 @@
+-- What a call leaves can be handed to the next one.
+use mathlib.Core.Path.{_≡_}
+use mathlib.Core.Bool.{true}
+use mathlib.Core.List.{List}
+use Prim.Native.Nat.{ℕ}
+use Rattle.parts.specs.Bytes.{areBytes}
+use Rattle.tag.specs.declared.Tag.{Tag}
+use Rattle.state.specs.Claims.{Fits}
+use Rattle.model.specs.Step.{stepOf}
+
+-- every call keeps it that each number of the tag fits its type and the memory's bytes are bytes; f is the frame
+abbrev pub KeepsFits : Type 0
+KeepsFits = (t : Tag) (m o : List ℕ) (code value : ℕ) (f : List ℕ) → Fits t → areBytes m ≡ true → areBytes f ≡ true
+    → (Fits (stepOf t m o code value f .tag)) × (areBytes (stepOf t m o code value f .memory) ≡ true)

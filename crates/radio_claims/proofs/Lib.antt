@@ -1,0 +1,3 @@
+pub mod Errors
+pub mod Entry
+pub mod Status

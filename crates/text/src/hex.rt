@@ -1,0 +1,117 @@
+// Hex digits, upper case.
+ghost use mathlib.Core.Path.{_≡_};
+ghost use mathlib.Core.List.{[], _∷_};
+ghost use Prim.Native.Nat.{_/_, _%_, _<_, min};
+ghost use lib.ListN.{length, take};
+ghost use lib.Seq.{sets};
+ghost use Rattle.text.specs.Hex.{isHex, hexValue, allHex, hexByte, hexBytes, hexDigit, hexText};
+ghost use Rattle.text.specs.Place.{stored, textAt};
+use crate::place;
+
+// Whether a character is 0 to 9 or A to F.
+fn is_hex(x: u8) -> bool
+    ensures { λ r. ⌜ r ≡ isHex x ⌝ }
+{
+    ((0x30 <= x) & (x <= 0x39)) | ((0x41 <= x) & (x <= 0x46))
+}
+
+// Whether all of them are.
+pub fn all_hex(s: &[u8]) -> bool
+    ensures { λ r. ⌜ r ≡ allHex (now (s .entry)) ⌝ }
+{
+    let mut i = 0;
+    while i < s.len() {
+        if !is_hex(s[i]) {
+            return false;
+        }
+        i += 1;
+    }
+    true
+}
+
+// The value of a digit; any other character counts as 0.
+fn hex_value(x: u8) -> u8
+    ensures { λ r. ⌜ r ≡ hexValue x ⌝ }
+    ensures { λ r. ⌜ r < 16 ⌝ }
+{
+    if (0x30 <= x) & (x <= 0x39) {
+        return x - 0x30;
+    }
+    if (0x41 <= x) & (x <= 0x46) {
+        return x - 0x37;
+    }
+    0
+}
+
+// The byte of two digits, high first.
+pub fn hex_byte(high: u8, low: u8) -> u8
+    ensures { λ r. ⌜ r ≡ hexByte high low ⌝ }
+{
+    hex_value(high) * 16 + hex_value(low)
+}
+
+// Stores the bytes of a list of digits from place 0 on, and gives their number.
+pub fn decode(s: &[u8], out: &mut [u8]) -> usize
+    ensures { λ r. ⌜ r ≡ length (hexBytes (now (s .entry))) ⌝ }
+    ensures { λ _. ⌜ now (out .exit) ≡ sets (now (out .entry)) 0 (hexBytes (now (s .entry))) ⌝ }
+{
+    let n = s.len() / 2;
+    let mut i = 0;
+    while i < n {
+        let b = hex_byte(s[2 * i], s[2 * i + 1]);
+        parts::put(out, i, b);
+        i += 1;
+    }
+    n
+}
+
+// The digit of a number below 16.
+fn hex_digit(n: u8) -> u8
+    requires { ⌜ n < 16 ⌝ }
+    ensures { λ r. ⌜ r ≡ hexDigit n ⌝ }
+{
+    if n < 10 {
+        return 0x30 + n;
+    }
+    0x37 + n
+}
+
+// Stores the two digits of a byte at a place.
+pub fn put_byte(text: &mut [u8], at: usize, x: u8) -> usize
+    ensures { λ r. ⌜ stored r (now (text .exit)) ≡ textAt (now (text .entry)) at (hexText (x ∷ [])) ⌝ }
+{
+    parts::put(text, at, hex_digit(x / 16));
+    parts::put_in(text, at, 1, hex_digit(x % 16));
+    place::after(at, 2)
+}
+
+// Stores the four digits of two bytes, high first.
+pub fn put_word(text: &mut [u8], at: usize, w: u16) -> usize
+    ensures { λ r. ⌜ stored r (now (text .exit)) ≡ textAt (now (text .entry)) at (hexText (w / 256 ∷ w % 256 ∷ [])) ⌝ }
+{
+    let low = put_byte(text, at, (w / 256) as u8);
+    put_byte(text, low, (w % 256) as u8)
+}
+
+fn least(a: usize, b: usize) -> usize
+    ensures { λ r. ⌜ r ≡ min a b ⌝ }
+{
+    if a < b {
+        return a;
+    }
+    b
+}
+
+// Stores the digits of the first n bytes of s at a place.
+pub fn put_hex(text: &mut [u8], at: usize, s: &[u8], n: usize) -> usize
+    ensures { λ r. ⌜ stored r (now (text .exit)) ≡ textAt (now (text .entry)) at (hexText (take n (now (s .entry)))) ⌝ }
+{
+    let count = least(n, s.len());
+    let mut to = at;
+    let mut i = 0;
+    while i < count {
+        to = put_byte(text, to, s[i]);
+        i += 1;
+    }
+    to
+}

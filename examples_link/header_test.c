@@ -1,0 +1,553 @@
+/* Every number of st25dv.h against the library, by its name: signals, answers, refusals, lengths, and places and values
+ * of the state. The test keeps an image of what is lent, changes it by the header's names as document 01 says, and
+ * compares all of it with what the library left after each call. Prints what failed; ends with 1 if anything did. */
+#include <stdio.h>
+#include <string.h>
+
+#include "st25dv.h"
+
+/* More than any length, so that a wrong one stays inside; the bytes past a length must stay too. */
+#define ROOM 2048u
+#define COUNT(a) (sizeof(a) / sizeof *(a))
+
+struct lent {
+    uint8_t state[ROOM], memory[ROOM], reply[ROOM];
+};
+
+static struct lent now; /* what the library has */
+static struct lent due; /* what it should have */
+static unsigned failures;
+
+static const uint8_t uid[ROOM] = {0x01, 0x02, 0x03, 0x04, 0x05, 0x24, 0x02, 0xE0};
+
+/* ---- comparing */
+static void fail(const char *what, const char *of, size_t place, unsigned is, unsigned should)
+{
+    failures++;
+    if (failures <= 10)
+        printf("header_test: %s: %s %u is 0x%X, not 0x%X\n", what, of, (unsigned)place, is, should);
+}
+
+static void outside(size_t place, size_t bytes)
+{
+    failures++;
+    printf("header_test: place %u is past the last of %u bytes\n", (unsigned)place, (unsigned)bytes);
+}
+
+static void agree(const char *what, uint32_t is, uint32_t should)
+{
+    if (is != should)
+        fail(what, "answer", 0, is, should);
+}
+
+static void compare_bytes(const char *what, const char *of, const uint8_t *is, const uint8_t *should)
+{
+    size_t i;
+    for (i = 0; i < ROOM; i++)
+        if (is[i] != should[i])
+            fail(what, of, i, is[i], should[i]);
+}
+
+/* Goes on from what the library has, so that each failure is told once. */
+static void compare(const char *what)
+{
+    compare_bytes(what, "state byte", now.state, due.state);
+    compare_bytes(what, "memory byte", now.memory, due.memory);
+    compare_bytes(what, "reply byte", now.reply, due.reply);
+    due = now;
+}
+
+/* ---- the image */
+static void set(size_t place, uint32_t value)
+{
+    if (value > 0xFF)
+        fail("the header", "value at place", place, (unsigned)value, 0xFF);
+    else if (place < ST25DV_STATE_BYTES && place < ROOM)
+        due.state[place] = (uint8_t)value;
+    else
+        outside(place, ST25DV_STATE_BYTES);
+}
+
+static void set_word(size_t place, uint32_t value)
+{
+    set(place, value & 0xFF);
+    set(place + 1, value >> 8);
+}
+
+static uint32_t word(size_t place)
+{
+    return place + 1 < ROOM ? due.state[place] + 256u * due.state[place + 1] : 0;
+}
+
+static void set_bytes(size_t place, const uint8_t *bytes, size_t n)
+{
+    size_t i;
+    for (i = 0; i < n; i++)
+        set(place + i, bytes[i]);
+}
+
+static void store(size_t place, uint8_t value)
+{
+    if (place < ST25DV_MEMORY_BYTES && place < ROOM)
+        due.memory[place] = value;
+    else
+        outside(place, ST25DV_MEMORY_BYTES);
+}
+
+/* ---- calls */
+static uint32_t call(size_t state, size_t memory, size_t reply, uint32_t code, uint32_t value, const uint8_t *frame, size_t n)
+{
+    return st25dv_step(now.state, state, now.memory, memory, now.reply, reply, code, value, frame, n);
+}
+
+static void step(const char *what, uint32_t code, uint32_t value, uint32_t answer)
+{
+    agree(what, call(ST25DV_STATE_BYTES, ST25DV_MEMORY_BYTES, ST25DV_REPLY_BYTES, code, value, NULL, 0), answer);
+    compare(what);
+}
+
+/* A frame without its CRC, and its answer. The reply's first byte and CRC are looked at; its bytes are not the header's. */
+static void ask(const char *what, const uint8_t *request, size_t n, uint32_t answer, uint8_t status)
+{
+    uint8_t frame[280];
+    size_t end = answer - ST25DV_REPLY;
+    uint16_t crc = st25dv_crc(request, n);
+    memcpy(frame, request, n);
+    frame[n] = (uint8_t)(crc & 0xFF);
+    frame[n + 1] = (uint8_t)(crc >> 8);
+    agree(what, call(ST25DV_STATE_BYTES, ST25DV_MEMORY_BYTES, ST25DV_REPLY_BYTES, ST25DV_FRAME, 0, frame, n + 2), answer);
+    if (answer >= ST25DV_REPLY + 3 && end <= ST25DV_REPLY_BYTES && end < ROOM) {
+        crc = st25dv_crc(now.reply, end - 2);
+        if (now.reply[0] != status)
+            fail(what, "reply byte", 0, now.reply[0], status);
+        if (now.reply[end - 2] != (crc & 0xFF) || now.reply[end - 1] != crc >> 8)
+            fail(what, "CRC after reply byte", end - 3, now.reply[end - 2] + 256u * now.reply[end - 1], crc);
+        memcpy(due.reply, now.reply, end);
+    }
+    compare(what);
+}
+
+static void fresh(void)
+{
+    memset(&due, 0xA5, sizeof due);
+    now = due;
+    memset(due.state, 0, ST25DV_STATE_BYTES);
+    memset(due.memory, 0, ST25DV_MEMORY_BYTES);
+    set(ST25DV_AT_ENDA1, 0x0F);
+    set(ST25DV_AT_ENDA2, 0x0F);
+    set(ST25DV_AT_ENDA3, 0x0F);
+    set_bytes(ST25DV_AT_UID, uid, ST25DV_UID_BYTES);
+    agree("fresh", st25dv_fresh(uid, ST25DV_UID_BYTES, now.memory, ST25DV_MEMORY_BYTES, now.state, ST25DV_STATE_BYTES), ST25DV_NONE);
+    compare("fresh");
+}
+
+/* A fresh tag, both supplies on. */
+static void powered(void)
+{
+    fresh();
+    set(ST25DV_AT_VCC, 1);
+    step("VCC on", ST25DV_VCC, 1, ST25DV_NONE);
+    set(ST25DV_AT_FIELD, 1);
+    step("field on", ST25DV_FIELD, 1, ST25DV_NONE);
+}
+
+/* ---- legs */
+static void start(void)
+{
+    set(ST25DV_AT_BUS, ST25DV_BUS_STARTED);
+    step("Start", ST25DV_START, 0, ST25DV_NONE);
+}
+
+/* A write leg up to its address. */
+static void address(uint8_t select, uint32_t space, uint32_t at)
+{
+    start();
+    set(ST25DV_AT_BUS, ST25DV_BUS_WRITE_LEG);
+    set(ST25DV_AT_SPACE, space);
+    step("select for writing", ST25DV_SEND, select, ST25DV_ACK);
+    set(ST25DV_AT_BUS, ST25DV_BUS_LOW_ADDRESS);
+    set(ST25DV_AT_HIGH_ADDRESS, at >> 8);
+    step("high address byte", ST25DV_SEND, at >> 8, ST25DV_ACK);
+    set(ST25DV_AT_BUS, ST25DV_BUS_DATA_LEG);
+    set(ST25DV_AT_HIGH_ADDRESS, 0);
+    set_word(ST25DV_AT_COUNTER, at);
+    step("low address byte", ST25DV_SEND, at & 0xFF, ST25DV_ACK);
+}
+
+static void user(uint32_t at)
+{
+    address(0xA6, ST25DV_SPACE_USER, at);
+}
+
+static void system_space(uint32_t at)
+{
+    address(0xAE, ST25DV_SPACE_SYSTEM, at);
+}
+
+static void data(const uint8_t *bytes, size_t n)
+{
+    size_t i;
+    for (i = 0; i < n; i++) {
+        uint32_t k = word(ST25DV_AT_PAGE_COUNT);
+        store(ST25DV_MEMORY_AT_PAGE + k, bytes[i]);
+        set_word(ST25DV_AT_PAGE_COUNT, k + 1);
+        set_word(ST25DV_AT_COUNTER, word(ST25DV_AT_COUNTER) + 1);
+        step("data byte", ST25DV_SEND, bytes[i], ST25DV_ACK);
+    }
+}
+
+/* What else the Stop does is in the image already. */
+static void stop(const char *what)
+{
+    set(ST25DV_AT_BUS, ST25DV_BUS_IDLE);
+    set(ST25DV_AT_SPACE, 0);
+    set_word(ST25DV_AT_PAGE_COUNT, 0);
+    step(what, ST25DV_STOP, 0, ST25DV_NONE);
+}
+
+static void stop_and_program(const char *what)
+{
+    set(ST25DV_AT_PROGRAMMING, 1);
+    stop(what);
+    set(ST25DV_AT_PROGRAMMING, 0);
+    step("programming end", ST25DV_PROGRAMMING_END, 0, ST25DV_NONE);
+}
+
+/* A password leg with the same eight bytes twice. */
+static void password_leg(const uint8_t *password, uint8_t code)
+{
+    system_space(0x0900);
+    data(password, 8);
+    data(&code, 1);
+    data(password, 8);
+}
+
+static void open_i2c_session(void)
+{
+    static const uint8_t zeros[8];
+    password_leg(zeros, 0x09);
+    set(ST25DV_AT_I2C_SESSION, 1);
+    stop("I2C password presented");
+}
+
+static void write_register(uint32_t at, size_t place, uint8_t value)
+{
+    system_space(at);
+    data(&value, 1);
+    set(place, value);
+    stop_and_program("register written");
+}
+
+/* ---- the wire */
+static void reads(void)
+{
+    powered();
+    start();
+    set(ST25DV_AT_BUS, ST25DV_BUS_READ_LEG);
+    set(ST25DV_AT_SPACE, ST25DV_SPACE_SYSTEM);
+    step("select for reading", ST25DV_SEND, 0xAF, ST25DV_ACK);
+    set_word(ST25DV_AT_COUNTER, 1);
+    step("fetch with Ack", ST25DV_FETCH, 1, ST25DV_BYTE + 0xFF);
+    set(ST25DV_AT_HOST_NOACKED, 1);
+    set_word(ST25DV_AT_COUNTER, 2);
+    step("fetch with NoAck", ST25DV_FETCH, 0, ST25DV_BYTE + 0xFF);
+    set(ST25DV_AT_HOST_NOACKED, 0);
+    set(ST25DV_AT_SPACE, 0);
+    set(ST25DV_AT_TRANSFER_OPEN, 1);
+    start();
+    set(ST25DV_AT_TRANSFER_OPEN, 0);
+    set(ST25DV_AT_BUS, ST25DV_BUS_READ_LEG);
+    set(ST25DV_AT_SPACE, ST25DV_SPACE_USER);
+    step("select for reading", ST25DV_SEND, 0xA7, ST25DV_ACK);
+    set_word(ST25DV_AT_COUNTER, 3);
+    step("fetch with Ack", ST25DV_FETCH, 1, ST25DV_BYTE);
+    stop("Stop of a read leg");
+    step("byte with no Start", ST25DV_SEND, 0xA6, ST25DV_NOACK);
+}
+
+static void writes(void)
+{
+    static const uint8_t bytes[3] = {0x11, 0x22, 0x33};
+    size_t i;
+    powered();
+    user(0x0102);
+    data(bytes, sizeof bytes);
+    for (i = 0; i < sizeof bytes; i++)
+        store(ST25DV_MEMORY_AT_USER + 0x0102 + i, bytes[i]);
+    stop_and_program("user memory written");
+    user(0x0200);
+    set(ST25DV_AT_SPOILED, 1);
+    step("byte past the memory", ST25DV_SEND, 0x44, ST25DV_NOACK);
+    set(ST25DV_AT_SPOILED, 0);
+    stop("Stop of a spoiled leg");
+}
+
+static void registers(void)
+{
+    static const uint8_t password[8] = {1, 2, 3, 4, 5, 6, 7, 8}, sleep[1] = {0x02}, none[1] = {0x00};
+    powered();
+    open_i2c_session();
+    password_leg(password, 0x07);
+    set_bytes(ST25DV_AT_I2C_PASSWORD, password, sizeof password);
+    stop_and_program("I2C password written");
+    system_space(0x0003);
+    data(sleep, 1);
+    set(ST25DV_AT_RF_MNGT, 0x02);
+    set(ST25DV_AT_RF_MNGT_DYN, 0x02); /* is reloaded */
+    stop_and_program("RF_MNGT written");
+    user(0x2003);
+    data(none, 1);
+    set(ST25DV_AT_RF_MNGT_DYN, 0x00);
+    stop("RF_MNGT_Dyn written");
+    write_register(0x0004, ST25DV_AT_RFA1SS, 0x04);
+    write_register(0x0005, ST25DV_AT_ENDA1, 0x01);
+    write_register(0x0006, ST25DV_AT_RFA2SS, 0x05);
+    write_register(0x0007, ST25DV_AT_ENDA2, 0x02);
+    write_register(0x0008, ST25DV_AT_RFA3SS, 0x06);
+    write_register(0x0009, ST25DV_AT_ENDA3, 0x03);
+    write_register(0x000A, ST25DV_AT_RFA4SS, 0x07);
+    write_register(0x000B, ST25DV_AT_I2CSS, 0x81);
+    write_register(0x000C, ST25DV_AT_LOCK_CCFILE, 0x02);
+    write_register(0x000D, ST25DV_AT_MB_MODE, 0x01);
+    write_register(0x000F, ST25DV_AT_LOCK_CFG, 0x01);
+    set(ST25DV_AT_VCC, 0);
+    set(ST25DV_AT_I2C_SESSION, 0);
+    set_word(ST25DV_AT_COUNTER, 0);
+    set(ST25DV_AT_RF_MNGT_DYN, 0x02);
+    step("VCC off", ST25DV_VCC, 0, ST25DV_NONE);
+}
+
+/* ---- the mailbox */
+static void enable_mailbox(void)
+{
+    static const uint8_t one[1] = {0x01};
+    powered();
+    open_i2c_session();
+    write_register(0x000D, ST25DV_AT_MB_MODE, 0x01);
+    user(0x2006);
+    data(one, 1);
+    set(ST25DV_AT_MB_EN, 1);
+    stop("MB_EN set");
+}
+
+/* The host puts 256 bytes, the till reads them. */
+static void host_message(void)
+{
+    static const uint8_t read_whole[5] = {0x02, 0xAC, 0x02, 0x00, 0x00};
+    uint8_t message[256];
+    size_t i;
+    for (i = 0; i < sizeof message; i++)
+        message[i] = (uint8_t)(3 * i + 1);
+    user(0x2008);
+    data(message, sizeof message);
+    for (i = 0; i < sizeof message; i++)
+        store(ST25DV_MEMORY_AT_MAILBOX + i, message[i]);
+    set(ST25DV_AT_HOST_PUT, 1);
+    set(ST25DV_AT_HOST_CURRENT, 1);
+    set_word(ST25DV_AT_MESSAGE_LENGTH, sizeof message);
+    stop("message put by the host");
+    set(ST25DV_AT_HOST_PUT, 0);
+    ask("Read Message", read_whole, sizeof read_whole, ST25DV_REPLY + 1 + sizeof message + 2, 0x00);
+}
+
+/* The till puts 3 bytes, the host fetches the last. */
+static void till_message(void)
+{
+    static const uint8_t put[7] = {0x02, 0xAA, 0x02, 0x02, 0xC1, 0xC2, 0xC3};
+    size_t i;
+    for (i = 0; i < 3; i++)
+        store(ST25DV_MEMORY_AT_MAILBOX + i, put[4 + i]);
+    set(ST25DV_AT_RF_PUT, 1);
+    set(ST25DV_AT_RF_CURRENT, 1);
+    set(ST25DV_AT_HOST_CURRENT, 0);
+    set_word(ST25DV_AT_MESSAGE_LENGTH, 3);
+    ask("Write Message", put, sizeof put, ST25DV_REPLY + 3, 0x00);
+    user(0x200A);
+    set(ST25DV_AT_SPACE, 0);
+    set(ST25DV_AT_TRANSFER_OPEN, 1);
+    start();
+    set(ST25DV_AT_TRANSFER_OPEN, 0);
+    set(ST25DV_AT_BUS, ST25DV_BUS_READ_LEG);
+    set(ST25DV_AT_SPACE, ST25DV_SPACE_USER);
+    step("select for reading", ST25DV_SEND, 0xA7, ST25DV_ACK);
+    set(ST25DV_AT_LAST_FETCHED, 1);
+    set_word(ST25DV_AT_COUNTER, 0x200B);
+    step("last byte of the message", ST25DV_FETCH, 1, ST25DV_BYTE + 0xC3);
+    set(ST25DV_AT_LAST_FETCHED, 0);
+    set(ST25DV_AT_RF_PUT, 0);
+    stop("Stop after the last byte");
+}
+
+static void mailbox(void)
+{
+    enable_mailbox();
+    host_message();
+    till_message();
+}
+
+/* ---- the radio */
+static void radio_states(void)
+{
+    uint8_t request[10] = {0x22, 0x02};
+    static const uint8_t reset[2] = {0x12, 0x26};
+    powered();
+    memcpy(request + 2, uid, 8);
+    set(ST25DV_AT_RADIO_STATE, ST25DV_QUIET);
+    ask("Stay Quiet", request, sizeof request, ST25DV_SILENCE, 0);
+    request[1] = 0x25;
+    set(ST25DV_AT_RADIO_STATE, ST25DV_SELECTED);
+    ask("Select", request, sizeof request, ST25DV_REPLY + 3, 0x00);
+    set(ST25DV_AT_RADIO_STATE, ST25DV_READY);
+    ask("Reset to Ready", reset, sizeof reset, ST25DV_REPLY + 3, 0x00);
+}
+
+static void radio_password(uint8_t n, size_t place, uint32_t session)
+{
+    uint8_t request[12] = {0x02, 0xB3, 0x02};
+    static const uint8_t password[8] = {9, 8, 7, 6, 5, 4, 3, 2};
+    request[3] = n;
+    set(ST25DV_AT_RADIO_SESSION, session);
+    ask("Present Password", request, sizeof request, ST25DV_REPLY + 3, 0x00);
+    request[1] = 0xB1;
+    memcpy(request + 4, password, sizeof password);
+    set_bytes(place, password, sizeof password);
+    ask("Write Password", request, sizeof request, ST25DV_REPLY + 3, 0x00);
+    request[1] = 0xB3;
+    request[4] = 0x00;
+    set(ST25DV_AT_RADIO_SESSION, ST25DV_SESSION_NONE);
+    ask("Present Password, wrong", request, sizeof request, ST25DV_REPLY + 4, 0x01);
+}
+
+static void radio_passwords(void)
+{
+    powered();
+    radio_password(0, ST25DV_AT_PASSWORD_0, ST25DV_SESSION_PASSWORD_0);
+    radio_password(1, ST25DV_AT_PASSWORD_1, ST25DV_SESSION_PASSWORD_1);
+    radio_password(2, ST25DV_AT_PASSWORD_2, ST25DV_SESSION_PASSWORD_2);
+    radio_password(3, ST25DV_AT_PASSWORD_3, ST25DV_SESSION_PASSWORD_3);
+}
+
+/* 128 blocks with their status bytes fill the reply buffer. */
+static void longest_reply(void)
+{
+    static const uint8_t read_all[4] = {0x42, 0x23, 0x00, 0x7F};
+    powered();
+    ask("Read Multiple Blocks", read_all, sizeof read_all, ST25DV_REPLY + ST25DV_REPLY_BYTES, 0x00);
+}
+
+/* ---- refusals */
+static void refused_value(const char *what, size_t place, uint8_t value)
+{
+    uint8_t before = now.state[place % ROOM];
+    now.state[place % ROOM] = due.state[place % ROOM] = value;
+    step(what, ST25DV_PROGRAMMING_END, 0, ST25DV_REFUSED_OUT_OF_RANGE);
+    now.state[place % ROOM] = due.state[place % ROOM] = before;
+}
+
+/* The value after the last is refused where there are values by name, and 2 at a flag. */
+static void refused_values(void)
+{
+    static const size_t flags[] = {
+        ST25DV_AT_FIELD, ST25DV_AT_VCC, ST25DV_AT_I2C_SESSION, ST25DV_AT_PROGRAMMING, ST25DV_AT_TRANSFER_OPEN, ST25DV_AT_HOST_NOACKED,
+        ST25DV_AT_SPOILED, ST25DV_AT_LAST_FETCHED, ST25DV_AT_MB_EN, ST25DV_AT_HOST_PUT, ST25DV_AT_RF_PUT, ST25DV_AT_HOST_CURRENT, ST25DV_AT_RF_CURRENT,
+    };
+    size_t i;
+    powered();
+    for (i = 0; i < COUNT(flags); i++)
+        refused_value("a flag of 2", flags[i], 2);
+    refused_value("another radio state", ST25DV_AT_RADIO_STATE, ST25DV_SELECTED + 1);
+    refused_value("another radio session", ST25DV_AT_RADIO_SESSION, ST25DV_SESSION_PASSWORD_3 + 1);
+    refused_value("another bus", ST25DV_AT_BUS, ST25DV_BUS_DATA_LEG + 1);
+    refused_value("another space", ST25DV_AT_SPACE, ST25DV_SPACE_SYSTEM + 1);
+}
+
+static void refused_signals(void)
+{
+    static const uint32_t tops[][2] = {
+        {ST25DV_VCC, 1}, {ST25DV_FIELD, 1}, {ST25DV_START, 0}, {ST25DV_SEND, 255}, {ST25DV_FETCH, 1}, {ST25DV_STOP, 0}, {ST25DV_PROGRAMMING_END, 0}, {ST25DV_FRAME, 0},
+    };
+    size_t i;
+    powered();
+    step("code 0", 0, 0, ST25DV_REFUSED_SIGNAL_UNKNOWN);
+    for (i = 0; i < COUNT(tops); i++) {
+        step("value past the last", tops[i][0], tops[i][1] + 1, ST25DV_REFUSED_SIGNAL_UNKNOWN);
+        step("code and 256", tops[i][0] + 0x100, 0, ST25DV_REFUSED_SIGNAL_UNKNOWN);
+    }
+}
+
+/* Every set of faults, bit k the k-th in the order in which they are judged: the first is the answer. */
+static void refused_steps(void)
+{
+    static const uint32_t order[] = {
+        ST25DV_REFUSED_MEMORY_LENGTH, ST25DV_REFUSED_REPLY_SHORT, ST25DV_REFUSED_SIGNAL_UNKNOWN, ST25DV_REFUSED_STATE_LENGTH, ST25DV_REFUSED_OUT_OF_RANGE,
+    };
+    unsigned faults, k;
+    for (faults = 1; faults < 64; faults++) {
+        size_t more = faults >> 5; /* a length too long or too short */
+        powered();
+        if (faults & 16)
+            now.state[ST25DV_AT_BUS] = due.state[ST25DV_AT_BUS] = ST25DV_BUS_DATA_LEG + 1;
+        for (k = 0; k < COUNT(order) && !(faults >> k & 1); k++)
+            ;
+        if (k == COUNT(order))
+            continue;
+        agree("step with faults", call(faults & 8 ? ST25DV_STATE_BYTES - 1 + 2 * more : ST25DV_STATE_BYTES,
+                                       faults & 1 ? ST25DV_MEMORY_BYTES - 1 + 2 * more : ST25DV_MEMORY_BYTES,
+                                       faults & 2 ? ST25DV_REPLY_BYTES - 1 : ST25DV_REPLY_BYTES + more,
+                                       ST25DV_FETCH, faults & 4 ? 2 : 1, NULL, 0), order[k]);
+        compare("step with faults");
+    }
+}
+
+static void refused_fresh(void)
+{
+    static const uint32_t order[] = {ST25DV_REFUSED_MEMORY_LENGTH, ST25DV_REFUSED_STATE_LENGTH, ST25DV_REFUSED_UID_LENGTH};
+    unsigned faults, k;
+    powered();
+    for (faults = 1; faults < 16; faults++) {
+        size_t more = faults >> 3;
+        for (k = 0; k < COUNT(order) && !(faults >> k & 1); k++)
+            ;
+        if (k == COUNT(order))
+            continue;
+        agree("fresh with faults", st25dv_fresh(uid, faults & 4 ? ST25DV_UID_BYTES - 1 + 2 * more : ST25DV_UID_BYTES,
+                                                now.memory, faults & 1 ? ST25DV_MEMORY_BYTES - 1 + 2 * more : ST25DV_MEMORY_BYTES,
+                                                now.state, faults & 2 ? ST25DV_STATE_BYTES - 1 + 2 * more : ST25DV_STATE_BYTES), order[k]);
+        compare("fresh with faults");
+    }
+}
+
+/* A null pointer with a length of 0 is an empty buffer, judged by its length. */
+static void null_buffers(void)
+{
+    powered();
+    agree("no memory", st25dv_step(now.state, ST25DV_STATE_BYTES, NULL, 0, now.reply, ST25DV_REPLY_BYTES, ST25DV_STOP, 0, NULL, 0), ST25DV_REFUSED_MEMORY_LENGTH);
+    agree("no reply", st25dv_step(now.state, ST25DV_STATE_BYTES, now.memory, ST25DV_MEMORY_BYTES, NULL, 0, ST25DV_STOP, 0, NULL, 0), ST25DV_REFUSED_REPLY_SHORT);
+    agree("no state", st25dv_step(NULL, 0, now.memory, ST25DV_MEMORY_BYTES, now.reply, ST25DV_REPLY_BYTES, ST25DV_STOP, 0, NULL, 0), ST25DV_REFUSED_STATE_LENGTH);
+    agree("no fresh memory", st25dv_fresh(uid, ST25DV_UID_BYTES, NULL, 0, now.state, ST25DV_STATE_BYTES), ST25DV_REFUSED_MEMORY_LENGTH);
+    agree("no fresh state", st25dv_fresh(uid, ST25DV_UID_BYTES, now.memory, ST25DV_MEMORY_BYTES, NULL, 0), ST25DV_REFUSED_STATE_LENGTH);
+    agree("no UID", st25dv_fresh(NULL, 0, now.memory, ST25DV_MEMORY_BYTES, now.state, ST25DV_STATE_BYTES), ST25DV_REFUSED_UID_LENGTH);
+    agree("CRC of no byte", st25dv_crc(NULL, 0), 0x0000);
+    step("empty frame", ST25DV_FRAME, 0, ST25DV_SILENCE);
+}
+
+int main(void)
+{
+    reads();
+    writes();
+    registers();
+    mailbox();
+    radio_states();
+    radio_passwords();
+    longest_reply();
+    refused_values();
+    refused_signals();
+    refused_steps();
+    refused_fresh();
+    null_buffers();
+    if (failures == 0)
+        printf("header_test: every number of the header is the library's\n");
+    else
+        printf("header_test: %u failures\n", failures);
+    return failures != 0;
+}

@@ -1,0 +1,166 @@
+//! Calls that a caller gets wrong in one way or in several at once.
+
+use crate::dice::Dice;
+use crate::model::{self, Refusal};
+use crate::state::{REFUSED_STATE_LENGTH, REFUSED_UID_LENGTH, STATE_SIZE};
+use crate::tag::{MEMORY_SIZE, PAGE_PLACE, REPLY_SIZE};
+
+/// What a call is lent and may change.
+#[derive(Clone, PartialEq)]
+pub struct Lent {
+    pub state: Vec<u8>,
+    pub memory: Vec<u8>,
+    pub reply: Vec<u8>,
+}
+
+/// What else a call hands in.
+#[derive(Clone)]
+pub struct Call {
+    pub code: u32,
+    pub value: u32,
+    pub frame: Vec<u8>,
+}
+
+/// What makes a call refused.
+#[derive(Clone, Copy, PartialEq, Eq, PartialOrd, Ord, Debug)]
+pub enum Fault {
+    Memory,
+    Reply,
+    Signal,
+    StateLength,
+    State,
+    Uid,
+}
+
+/// The faults of a step and of a fresh tag, in the order in which they are judged.
+pub const OF_STEP: [Fault; 5] = [
+    Fault::Memory,
+    Fault::Reply,
+    Fault::Signal,
+    Fault::StateLength,
+    Fault::State,
+];
+pub const OF_FRESH: [Fault; 3] = [Fault::Memory, Fault::StateLength, Fault::Uid];
+
+impl Fault {
+    /// The refusal that it is answered with if no other comes first.
+    pub fn number(self) -> u32 {
+        match self {
+            Fault::Memory => Refusal::Memory as u32,
+            Fault::Reply => Refusal::ReplyBuffer as u32,
+            Fault::Signal => Refusal::Signal as u32,
+            Fault::StateLength => REFUSED_STATE_LENGTH,
+            Fault::State => Refusal::Range as u32,
+            Fault::Uid => REFUSED_UID_LENGTH,
+        }
+    }
+}
+
+/// Those of the faults that a number's bits name.
+pub fn chosen(faults: &[Fault], bits: usize) -> Vec<Fault> {
+    let named = |&(place, _): &(usize, &Fault)| bits >> place & 1 != 0;
+    let chosen = faults.iter().enumerate().filter(named);
+    chosen.map(|(_, &fault)| fault).collect()
+}
+
+/// Two faults of a step or more.
+pub fn several(dice: &mut Dice) -> Vec<Fault> {
+    loop {
+        let faults = chosen(&OF_STEP, dice.below(1 << OF_STEP.len()));
+        if faults.len() > 1 {
+            return faults;
+        }
+    }
+}
+
+/// A length next to the right one, or far from it.
+pub fn other_length(dice: &mut Dice, right: usize) -> usize {
+    dice.pick(&[0, 1, right - 1, right + 1, 2 * right])
+}
+
+fn resize(dice: &mut Dice, bytes: &mut Vec<u8>, right: usize) {
+    let length = other_length(dice, right);
+    bytes.resize(length, 0x33);
+}
+
+/// Makes the fault in a call.
+pub fn make(dice: &mut Dice, fault: Fault, lent: &mut Lent, call: &mut Call) {
+    match fault {
+        Fault::Memory => resize(dice, &mut lent.memory, MEMORY_SIZE),
+        Fault::Reply => {
+            let length = dice.pick(&[0, 1, REPLY_SIZE - 1]);
+            lent.reply.resize(length, 0x33);
+        }
+        Fault::Signal if dice.one_in(2) => call.code = unknown_code(dice),
+        Fault::Signal => call.value = dice.pick(&[256, 257, 65536, 65537, u32::MAX]),
+        Fault::StateLength => resize(dice, &mut lent.state, STATE_SIZE),
+        Fault::State => break_state(dice, &mut lent.state),
+        Fault::Uid => {} // no part of a step
+    }
+}
+
+/// No signal has it, not even by its low byte alone.
+fn unknown_code(dice: &mut Dice) -> u32 {
+    let last = u32::from(model::FRAME) + 1;
+    let known = 1 + dice.below(last as usize) as u32;
+    dice.pick(&[
+        0,
+        last + 1,
+        10,
+        255,
+        256 + known,
+        0x8000_0000 + known,
+        u32::MAX,
+    ])
+}
+
+/// Bytes that are no state, or one that breaks a range whatever else it holds.
+fn break_state(dice: &mut Dice, state: &mut [u8]) {
+    let (place, least) = dice.pick(&[
+        (0, 2),     // field
+        (1, 3),     // radio state
+        (2, 5),     // radio session
+        (3, 2),     // VCC
+        (8, 6),     // bus
+        (9, 2),     // space
+        (11, 2),    // last byte fetched
+        (17, 0x10), // RFA1SS
+        (22, 0x10), // ENDA3
+        (27, 2),    // LOCK_CFG
+        (28, 2),    // MB_EN
+        (34, 2),    // message length, high byte
+    ]);
+    let over = dice.below(256 - least as usize) as u8;
+    if let Some(byte) = state.get_mut(place) {
+        *byte = least + dice.pick(&[0, 0, over]);
+    }
+}
+
+/// Something that the caller hands in, changed; it may still be right.
+pub fn change(dice: &mut Dice, lent: &mut Lent, call: &mut Call) {
+    match dice.below(8) {
+        0 => resize(dice, &mut lent.state, STATE_SIZE),
+        1 => resize(dice, &mut lent.memory, MEMORY_SIZE),
+        2 => resize(dice, &mut lent.reply, REPLY_SIZE),
+        3 => call.code = unknown_code(dice),
+        4 => call.value = dice.pick(&[1, 2, 255, 256, 257, 65536, 65537, u32::MAX]),
+        5 => {
+            let place = PAGE_PLACE + dice.below(20);
+            lent.memory[place] = dice.byte();
+        }
+        _ => {
+            for _ in 0..=dice.below(2) {
+                change_state(dice, &mut lent.state);
+            }
+        }
+    }
+}
+
+fn change_state(dice: &mut Dice, state: &mut [u8]) {
+    let place = dice.below(STATE_SIZE);
+    let (now, any) = (state[place], dice.byte());
+    let small = dice.below(7) as u8;
+    let beside = [now.wrapping_add(1), now.wrapping_sub(1), now ^ 1];
+    let edge = [0x0F, 0x10, 0xFF, small, any];
+    state[place] = dice.pick(&[&beside[..], &edge[..]].concat());
+}

@@ -13,7 +13,7 @@ use Rattle.parts.specs.Bytes.{bytesAt}
 use Rattle.parts.proofs.Picks.{pick-true, pick-false}
 use Rattle.parts.proofs.Lists.{bytesAt-part, length-bytesAt}
 use Rattle.script.specs.Lines.{Carried, printed}
-use Rattle.script.proofs.TextLaws.{take-clip}
+use Rattle.text.proofs.HexLaws.{take-clip}
 use Rattle.stream.specs.Step.{fed, keptMost, keep, fedOf, endOf}
 use Rattle.stream.proofs.Steps.{printed-cut}
 

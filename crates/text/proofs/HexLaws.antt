@@ -75,5 +75,5 @@ clip n l false h =
     let k = leb-false n (length l) h in
     take-all (min n (length l)) l (omega arith) ∙ sym (take-all n l (omega arith))
 
-pub take-clip : (n : ℕ) (l : List ℕ) → take (min n (length l)) l ≡ take n l
-take-clip n l = clip n l (leb n (length l)) refl
+pub take-clip : (n m : ℕ) (l : List ℕ) → length l ≡ m → take (min n m) l ≡ take n l
+take-clip n m l e = ap (λ (k : ℕ). take (min n k) l) (sym e) ∙ clip n l (leb n (length l)) refl

@@ -63,7 +63,7 @@ returns c =
     let a = c .before .before .before .before .before .args in
     let s = a .s .now in
     let k : l .i ≡ min (a .n) (length s) = omega (arith, c .before .before .least .ensures) in
-    let e : take (l .i) s ≡ take (a .n) s = ap (λ (i : ℕ). take i s) k ∙ take-clip (a .n) s in
+    let e : take (l .i) s ≡ take (a .n) s = ap (λ (i : ℕ). take i s) k ∙ take-clip (a .n) (length s) s refl in
     l .inv .0 ∙ ap (λ (t : List ℕ). textAt (a .text .now) (a .at) (hexText t)) e
 
 pub put-hex-spec : {M : Type 1} → statement M

@@ -6,6 +6,7 @@ chmod 755 "$room" # nobody looks into it too
 trap 'rm -rf "$room"' EXIT
 trap 'exit 130' INT
 trap 'exit 143' TERM
+trap : PIPE # what is tried may end before it is written to
 tried=0 failures=0
 input=/dev/null # of what `start` starts
 
@@ -65,7 +66,9 @@ start() { # NAME COMMAND..
 
 # Waits for its end. Its status and what it wrote are then as after `run`.
 finish() { # NAME
-    wait "$(cat "$room/$1.pid")" 2> /dev/null
+    pid=$(cat "$room/$1.pid")
+    soon gone "$pid" || kill "$pid"
+    wait "$pid" 2> /dev/null
     status=$?
     mv "$room/$1.out" "$room/out"
     mv "$room/$1.err" "$room/err"
@@ -78,6 +81,7 @@ soon() { # COMMAND..
         sleep 0.05
     done
     failed "this never came true: $*"
+    return 1
 }
 
 # A process's state and parent, as the kernel tells them.

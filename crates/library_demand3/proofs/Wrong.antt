@@ -26,7 +26,7 @@ use Rattle.waiting.specs.Claim.{framesFit, isFrame, isClosed}
 use Rattle.waiting.proofs.Computes.{computes}
 use Rattle.library_demand3.specs.Calls.{Numbered, LibraryRan, exported, libraryRun}
 use Rattle.library_demand3.specs.Claim.{inNumbers, inBytes, libraryStruck, EachLibraryStruck, LibrarySame, Starts}
-use Rattle.library_demand3.specs.Wrong.{LibraryRefuted, acksStop, refusesBy3, raisesReply, writesPast, leavesTrace, keepsState, coded, decoded, codesSession, clearsPage, supplied, marksState, restored, marksMemory, turned, turnsField, wrongWhere}
+use Rattle.library_demand3.specs.Wrong.{LibraryRefuted, acksStop, refusesBy3, raisesReply, writesPast, leavesTrace, keepsState, coded, decoded, codesSession, dropsPageByte, supplied, marksState, restored, marksMemory, turned, turnsField, wrongWhere}
 
 -- all that a run of the library's calls, and the waiting tag's, computes with
 unfoldable runs : Unit {0}
@@ -117,9 +117,9 @@ codes-session-refuted h =
     let f : _≡_ {A = ℕ} 2 1 = ap (λ (r : LibraryRan). getD (r .state) 4 0) (h (bytes d) (d .memory) (stop ∷ []) (starts refl refl refl refl refl refl) refl refl .same) in
     omega arith
 
-pub clears-page-refuted : LibraryRefuted clearsPage
-unfolding runs clearsPage
-clears-page-refuted h =
+pub drops-page-byte-refuted : LibraryRefuted dropsPageByte
+unfolding runs dropsPageByte
+drops-page-byte-refuted h =
     let f : _≡_ {A = ℕ} 0 1 = ap (λ (r : LibraryRan). getD (r .memory) 768 0) (h (bytes awaiting) (awaiting .memory) (send 0xA6 ∷ send 0 ∷ send 0 ∷ send 1 ∷ stop ∷ []) (starts refl refl refl refl refl refl) refl refl .same) in
     omega arith
 

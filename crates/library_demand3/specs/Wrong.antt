@@ -72,8 +72,8 @@ codesSession s m c =
     called (e .number) (coded (e .state)) (e .memory) (e .reply)
 
 -- a Stop clears the page's first byte, which no later answer shows
-unfoldable pub clearsPage : List ℕ → List ℕ → Call → Called
-clearsPage s m c =
+unfoldable pub dropsPageByte : List ℕ → List ℕ → Call → Called
+dropsPageByte s m c =
     let e = exported s m c in
     called (e .number) (e .state) (pick (eqb (c .code) 6) (set (e .memory) pageAt 0) (e .memory)) (e .reply)
 

@@ -103,9 +103,9 @@ frame-closed p o n l h =
 abbrev Unmoved : Bench → List ℕ → List ℕ → Ended → Type 0
 Unmoved b m o e = prints b (e .tag) (e .memory) (e .reply) (answerText (e .answer) (e .reply)) ≡ prints b (b .tag) m o badText
 
-pub bad-call : (b : Bench) (m o : List ℕ) → calls b m o 0 0 [] ≡ prints b (b .tag) m o badText
+pub bad-call : (b : Bench) (m o : List ℕ) (value : ℕ) (f : List ℕ) → calls b m o 0 value f ≡ prints b (b .tag) m o badText
 unfolding stepOf signalInRange topValue answerText
-bad-call b m o =
+bad-call b m o value f =
     pick-case (Unmoved b m o) _ _ _ (λ _. refl)
     (λ _. pick-case (Unmoved b m o) _ _ _ (λ _. refl)
     (λ _. pick-case (Unmoved b m o) _ _ _ (λ _. refl)

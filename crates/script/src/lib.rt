@@ -9,7 +9,10 @@ ghost use lib.ListN.{length, take};
 ghost use Rattle.crc.specs.Crc.{closed};
 ghost use Rattle.text.specs.Hex.{hexBytes};
 ghost use Rattle.script.specs.declared.Bench.{Bench};
-ghost use Rattle.script.specs.Bench.{begun, startOf, nextLine, longestText, shown, show, calls, benchOf};
+ghost use Rattle.script.specs.Text.{badText};
+ghost use Rattle.script.specs.Bench.{begun, startOf, nextLine, longestText, prints, shown, show, calls, benchOf};
+use model::Answer;
+use model::Refusal;
 use reading::Reading;
 use tag::Tag;
 use tag::Uid;
@@ -89,7 +92,7 @@ struct Arguments {
     length: usize,
 }
 
-// A bad line is a call of code 0, which is refused: it changes nothing and prints ?.
+// Of a bad line the code is 0, which is no signal's: a call with it would be refused, change nothing and print ?.
 fn arguments_of(s: &[u8], frame: &mut [u8; 602]) -> Arguments
     ensures { λ r. ⌜ ((b : Bench) (m o : List ℕ) → calls b m o (r .code) (r .value) (take (r .length) (now (frame .exit))) ≡ benchOf b m o (now (s .entry))) ⌝ }
     ensures { λ r. ⌜ r .length ≤ length (now (frame .exit)) ⌝ }
@@ -113,6 +116,20 @@ fn arguments_of(s: &[u8], frame: &mut [u8; 602]) -> Arguments
     }
 }
 
+// A bad line is no call: it prints ? and changes nothing but the number of lines.
+fn bad_line(b: Bench, reply: &[u8; 643], text: &mut [u8]) -> Outcome
+    ensures { λ r. ⌜ ((m : List ℕ) → shown (r .bench) (r .length) m (now (reply .entry)) (now (text .exit)) ≡ show (prints b (b .tag) m (now (reply .entry)) badText) (now (text .entry))) ⌝ }
+{
+    let tag = b.tag;
+    let number = next_line(b);
+    let answer = Answer::Refused(Refusal::SignalUnknown);
+    let length = printing::put_line(text, number, answer, reply);
+    Outcome {
+        bench: Bench { tag, number },
+        length,
+    }
+}
+
 // A line without its line feed. Its text stands in `text` from place 0 on.
 pub fn line(b: Bench, m: &mut [u8], reply: &mut [u8; 643], s: &[u8], text: &mut [u8]) -> Outcome
     ensures { λ r. ⌜ shown (r .bench) (r .length) (now (m .exit)) (now (reply .exit)) (now (text .exit)) ≡ show (benchOf b (now (m .entry)) (now (reply .entry)) (now (s .entry))) (now (text .entry)) ⌝ }
@@ -120,6 +137,9 @@ pub fn line(b: Bench, m: &mut [u8], reply: &mut [u8; 643], s: &[u8], text: &mut 
 {
     let mut frame = [0u8; 602];
     let c = arguments_of(s, &mut frame);
+    if c.code == 0 {
+        return bad_line(b, reply, text);
+    }
     let length = c.length;
     call(b, m, reply, c.code, c.value, &frame[0..length], text)
 }

@@ -27,14 +27,14 @@ fn alone(s: &[u8]) -> Reading
 fn level(code: u8, s: &[u8]) -> Reading
     ensures { λ r. ⌜ saidBy r (now (s .entry)) ≡ level code (now (s .entry)) ⌝ }
 {
-    if s.len() != 1 {
-        return Reading::Bad;
+    let x = parts::byte_at(s, 0);
+    if (s.len() == 1) & ((x == b'0') | (x == b'1')) {
+        return Reading::Signal {
+            code,
+            value: (x - b'0') as u16,
+        };
     }
-    match parts::byte_at(s, 0) {
-        b'0' => Reading::Signal { code, value: 0 },
-        b'1' => Reading::Signal { code, value: 1 },
-        _ => Reading::Bad,
-    }
+    Reading::Bad
 }
 
 // Two hex digits.

@@ -1,6 +1,6 @@
 use native.Mathlib.Omega.{arith}
 use mathlib.Core.Path.{_≡_, refl, sym, ap, _∙_}
-use mathlib.Core.List.{List}
+use mathlib.Core.List.{List, []}
 use Prim.Native.Nat.{ℕ, _-_}
 use lib.ListN.{length, take, drop, length-drop}
 use lib.Seq.{take-all}
@@ -58,7 +58,7 @@ unfolding benchOf saidOf saidBy
 returns c =
     let s = c .before .before .before .before .args .s .now in
     let e = said s _ _ (c .before .before .read .ensures) (c .enum-told .given .1) in
-    (λ b m o. bad-call b m o ∙ ap (λ (x : Said). saidOf x b m o) (sym e), omega arith)
+    (λ b m o. bad-call b m o 0 [] ∙ ap (λ (x : Said). saidOf x b m o) (sym e), omega arith)
 
 returns-2 : tie.Need-returns-2
 unfolding benchOf saidOf saidBy

@@ -1,18 +1,44 @@
 use borrow.Author.Needs.{needs}
-use mathlib.Core.Path.{_≡_, ap, _∙_}
+use mathlib.Core.Path.{_≡_, sym, ap, _∙_}
 use mathlib.Core.List.{List}
 use Prim.Native.Nat.{ℕ, _-_}
 use native.Mathlib.Nat.{sub-zero}
 use native.Mathlib.Omega.{arith}
 use lib.ListN.{take}
-use Rattle.script.specs.Bench.{Printed, Shown, calls, benchOf, shown, show}
+use Rattle.script.specs.Bench.{Printed, Shown, prints, calls, benchOf, shown, show}
+use Rattle.script.specs.Text.{badText}
 use Rattle.script.specs.Lines.{carried}
+use Rattle.script.proofs.LineLaws.{bad-call}
 use Rattle.script.proofs.Fits.{text-fits}
 use Rattle.script.proofs.line.Statement.{statement}
 use Rattle.script.proofs.line.Tie as tie
 
 arguments-of-requires : tie.Need-arguments-of-requires
 arguments-of-requires c κs = search needs
+
+bad-line-requires : tie.Need-bad-line-requires
+bad-line-requires c κs = search needs
+
+same-length : tie.Need-same-length
+same-length c = search needs
+
+-- no code: what the call would leave is what a bad line leaves
+returns : tie.Need-returns
+returns c =
+    let d = c .before .before in
+    let i = d .before .before .before in
+    let g = i .before .before .arguments-of in
+    let k = g .result in
+    let a = i .before .before .before .before .before .before .before .args in
+    let o = d .bad-line in
+    let f = take (k .length) (g .last .1 .0) in
+    let p : prints (a .b) (a .b .tag) (a .m .now) (a .reply .now) badText ≡ benchOf (a .b) (a .m .now) (a .reply .now) (a .s .now) =
+    sym (bad-call (a .b) (a .m .now) (a .reply .now) (k .value) f)
+    ∙ ap (λ (n : ℕ). calls (a .b) (a .m .now) (a .reply .now) n (k .value) f) (sym (i .if1 .taken))
+    ∙ g .ensures .0 (a .b) (a .m .now) (a .reply .now) in
+    let e : shown (o .result .bench) (o .result .length) (a .m .now) (a .reply .now) (o .last .1 .1 .0) ≡ show (benchOf (a .b) (a .m .now) (a .reply .now) (a .s .now)) (a .text .now) =
+    o .ensures (a .m .now) ∙ ap (λ (x : Printed). show x (a .text .now)) p in
+    (e, omega (arith, ap (λ (x : Shown). x .length) e, text-fits (carried (a .b) (a .m .now) (a .reply .now)) (a .s .now)))
 
 sub-call : tie.Need-sub-call
 sub-call c = search needs
@@ -21,23 +47,25 @@ part-call-start : tie.Need-part-call-start
 part-call-start c = search needs
 
 part-call-end : tie.Need-part-call-end
-part-call-end c = c .before .before .before .arguments-of .ensures .1
+part-call-end c = c .before .before .before .before .before .arguments-of .ensures .1
 
 call-requires : tie.Need-call-requires
 call-requires c κs = search needs
 
-same-length : tie.Need-same-length
-same-length c = search needs
-
 same-length-2 : tie.Need-same-length-2
 same-length-2 c = search needs
 
-returns : tie.Need-returns
-returns c =
-    let a = c .before .before .before .before .before .before .before .before .before .before .before .before .before .before .before .args in
-    let g = c .before .before .before .before .before .before .before .before .before .before .arguments-of in
+same-length-3 : tie.Need-same-length-3
+same-length-3 c = search needs
+
+returns-2 : tie.Need-returns-2
+returns-2 c =
+    let o4 = c .before .before .before .before in
+    let g12 = o4 .before .before .before .before .before .before .before .before in
+    let a = g12 .before .before .before .before .before .args in
+    let g = g12 .arguments-of in
     let k = g .result in
-    let o = c .before .before .before .before .call in
+    let o = o4 .call in
     let e : shown (o .result .bench) (o .result .length) (o .last .1 .0) (o .last .1 .1 .0) (o .last .1 .1 .1 .1 .1 .1 .0) ≡ show (benchOf (a .b) (a .m .now) (a .reply .now) (a .s .now)) (a .text .now) =
     o .ensures
     ∙ ap (λ (n : ℕ). show (calls (a .b) (a .m .now) (a .reply .now) (k .code) (k .value) (take n (g .last .1 .0))) (a .text .now)) (sub-zero (k .length))
@@ -49,10 +77,13 @@ line-spec =
     tie.close
     (tie.spec
     arguments-of-requires
+    bad-line-requires
+    same-length
+    returns
     sub-call
     part-call-start
     part-call-end
     call-requires
-    same-length
     same-length-2
-    returns)
+    same-length-3
+    returns-2)

@@ -11,7 +11,7 @@ use Rattle.text.specs.Decimal.{decimal}
 abbrev pub badText : List ℕ
 badText = 0x3F ∷ []
 
--- an answer, with the reply buffer o. A refusal prints ?: only a bad line comes to one (Claims, OnlyBadRefused).
+-- an answer, with the reply buffer o. A refusal prints ? as a bad line does; no good line prints it (Claims, OnlyBadRefused).
 unfoldable pub answerText : Answer → List ℕ → List ℕ
 answerText (Refused n) o = badText
 answerText Nothing o = 0x2D ∷ []

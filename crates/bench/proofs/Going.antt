@@ -6,14 +6,14 @@ use Prim.Native.Nat.{ℕ, _+_, _-_, _≤_, _<_}
 use native.Mathlib.Omega.{arith}
 use lib.ListN.{length, take, drop, length-drop, drop-of-length-le}
 use lib.Seq.{take-all, drop-drop}
-use Rattle.script.specs.Lines.{Carried}
-use Rattle.stream.specs.Step.{Stepped, puts, textRoom, fedOf}
+use Rattle.script.specs.Lines.{BenchState}
+use Rattle.stream.specs.Step.{StreamBuffers, puts, textRoom, pieceBy}
 use Rattle.stream.specs.Flow.{flowOf, Reaches}
 use Rattle.stream.proofs.Steps.{goes-on}
 use Rattle.stream.proofs.Flow.{carried-left, held-left}
 
 -- c₀ and h₀ are carried and held before the piece s, c and h from its place `at` on
-pub record Going (c₀ : Carried) (h₀ s out₀ : List ℕ) (c : Carried) (h out : List ℕ) (at : ℕ) : Type 0 where
+pub record Going (c₀ : BenchState) (h₀ s out₀ : List ℕ) (c : BenchState) (h out : List ℕ) (at : ℕ) : Type 0 where
   pub carried-is : flowOf c₀ h₀ s .carried ≡ flowOf c h (drop at s) .carried
   pub held-is : flowOf c₀ h₀ s .held ≡ flowOf c h (drop at s) .held
   pub out-len : length out ≡ length out₀
@@ -22,18 +22,18 @@ pub record Going (c₀ : Carried) (h₀ s out₀ : List ℕ) (c : Carried) (h ou
 pub never : (b : Bool) → b ≡ false → b ≡ true → ⊥
 never b p q = let z : _≡_ {A = ℕ} 0 1 = cc in omega arith
 
-module _ (c₀ : Carried) (h₀ s out₀ : List ℕ) (c : Carried) (h out : List ℕ) (at : ℕ) (g : Going c₀ h₀ s out₀ c h out at) where
+module _ (c₀ : BenchState) (h₀ s out₀ : List ℕ) (c : BenchState) (h out : List ℕ) (at : ℕ) (g : Going c₀ h₀ s out₀ c h out at) where
   rest : take (length s - at) (drop at s) ≡ drop at s
   rest = take-all (length s - at) (drop at s) (omega (arith, length-drop at s))
 
-  module _ (l : Stepped) (e : l ≡ puts (fedOf (length out) c h (take (length s - at) (drop at s))) out) where
-    called : l ≡ puts (fedOf (length out) c h (drop at s)) out
-    called = e ∙ ap (λ (p : List ℕ). puts (fedOf (length out) c h p) out) rest
+  module _ (l : StreamBuffers) (e : l ≡ puts (pieceBy (length out) c h (take (length s - at) (drop at s))) out) where
+    called : l ≡ puts (pieceBy (length out) c h (drop at s)) out
+    called = e ∙ ap (λ (p : List ℕ). puts (pieceBy (length out) c h p) out) rest
 
     -- the call used a byte
     pub used-some : textRoom ≤ length out → at < length s → 0 < l .used
     used-some r k =
-        omega (arith, ap (λ (x : Stepped). x .used) called, goes-on (length out) c h (drop at s) r (omega (arith, length-drop at s)))
+        omega (arith, ap (λ (x : StreamBuffers). x .used) called, goes-on (length out) c h (drop at s) r (omega (arith, length-drop at s)))
 
     pub goes : l .used ≤ length (take (length s - at) (drop at s)) → (out′ : List ℕ) → length out′ ≡ length out
         → Going c₀ h₀ s out₀ (l .carried) (l .held) out′ (at + l .used)

@@ -4,7 +4,7 @@ ghost use mathlib.Core.Path.{_≡_};
 ghost use mathlib.Core.Bool.{false};
 ghost use Prim.Native.Nat.{_≤_};
 ghost use lib.ListN.{length, take};
-ghost use Rattle.script.specs.Lines.{carried};
+ghost use Rattle.script.specs.Lines.{benchState};
 ghost use Rattle.stream.specs.Step.{textRoom};
 ghost use Rattle.stream.specs.Flow.{flowOf, Reaches};
 use script::Bench;
@@ -67,7 +67,7 @@ fn piece(
     out: &mut [u8],
 ) -> Run
     requires { ⌜ textRoom ≤ length (now out) ⌝ }
-    ensures { λ q. ⌜ Reaches (q .more) (carried (q .bench) (now (m .exit)) (now (reply .exit))) (take (q .have) (now (kept .exit))) (flowOf (carried (r .bench) (now (m .entry)) (now (reply .entry))) (take (r .have) (now (kept .entry))) (now (s .entry))) ⌝ }
+    ensures { λ q. ⌜ Reaches (q .more) (benchState (q .bench) (now (m .exit)) (now (reply .exit))) (take (q .have) (now (kept .exit))) (flowOf (benchState (r .bench) (now (m .entry)) (now (reply .entry))) (take (r .have) (now (kept .entry))) (now (s .entry))) ⌝ }
 {
     let mut bench = r.bench;
     let mut have = r.have;

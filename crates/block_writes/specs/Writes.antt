@@ -15,8 +15,8 @@ use Rattle.tag.specs.Layout.{blocks}
 use Rattle.errors.specs.declared.RadioError.the-variants.{TooManyBlocks, NoSuchBlock, WriteLeavesArea, WriteForbidden, NotLockable, AlreadyLocked}
 use Rattle.reply.specs.declared.RadioSide.{RadioSide}
 use Rattle.reply.specs.Reply.{good}
-use Rattle.reply.specs.Outcome.{Told, told, fails, sideRegisters}
-use Rattle.blocks.specs.Blocks.{leaves}
+use Rattle.reply.specs.Outcome.{CommandResult, commandResult, fails, sideRegisters}
+use Rattle.blocks.specs.Blocks.{leavesArea}
 
 -- the radio may write n blocks from the first on
 unfoldable pub mayWriteAll : Registers → ℕ → ℕ → ℕ → Bool
@@ -25,17 +25,17 @@ mayWriteAll r session first (suc n) = mayWriteAll r session first n && mayWrite 
 
 -- "21, 24 Write: 24: count-1 at most 3, else 0Fh; 10h; 0Fh leaves area or memory; 12h no right or locked";
 -- the data stand at place `at` of the frame
-unfoldable pub writeOf : RadioSide → List ℕ → ℕ → ℕ → List ℕ → ℕ → Told
+unfoldable pub writeOf : RadioSide → List ℕ → ℕ → ℕ → List ℕ → ℕ → CommandResult
 writeOf s m first more frame at =
     pick (ltb 3 more) (fails TooManyBlocks s m)
     (pick (leb blocks first) (fails NoSuchBlock s m)
-    (pick (leaves (s .core .registers .ends) first (first + more)) (fails WriteLeavesArea s m)
+    (pick (leavesArea (s .core .registers .ends) first (first + more)) (fails WriteLeavesArea s m)
     (pick (not (mayWriteAll (s .core .registers) (s .air .session) first (more + 1))) (fails WriteForbidden s m)
-    (told (good []) s (sets m (4 * first) (bytesAt frame at (4 * (more + 1))))))))
+    (commandResult (good []) s (sets m (4 * first) (bytesAt frame at (4 * (more + 1))))))))
 
 -- "22 Lock: 10h block above 1; 11h already locked": sets the block's bit of LOCK_CCFILE
-unfoldable pub lockOf : RadioSide → List ℕ → ℕ → Told
+unfoldable pub lockOf : RadioSide → List ℕ → ℕ → CommandResult
 lockOf s m block =
     pick (ltb 1 block) (fails NotLockable s m)
     (pick (isLocked (s .core .registers .ccfile) block) (fails AlreadyLocked s m)
-    (told (good []) (sideRegisters (written (s .core .registers) 0x0C (keepBits 2 (s .core .registers .ccfile .bits) + (block + 1))) s) m))
+    (commandResult (good []) (sideRegisters (written (s .core .registers) 0x0C (keepBits 2 (s .core .registers .ccfile .bits) + (block + 1))) s) m))

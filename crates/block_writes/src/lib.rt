@@ -1,12 +1,12 @@
 // Commands that write and lock blocks of user memory.
 ghost use mathlib.Core.Path.{_≡_};
 ghost use Prim.Native.Nat.{_≤_};
-ghost use Rattle.reply.specs.Outcome.{ended, finish};
+ghost use Rattle.reply.specs.Outcome.{radioResult, finish};
 ghost use Rattle.block_writes.specs.Writes.{mayWriteAll, writeOf, lockOf};
 use areas::Side;
 use errors::RadioError;
 use registers::Registers;
-use reply::Outcome;
+use reply::RadioOutcome;
 use reply::RadioSide;
 
 // Whether the radio may write n blocks from the first on.
@@ -33,47 +33,47 @@ pub fn write(
     more: u8,
     frame: &[u8],
     at: usize,
-) -> Outcome
-    ensures { λ r. ⌜ ended r (now (m .exit)) (now (out .exit)) ≡ finish (writeOf s (now (m .entry)) first more (now (frame .entry)) at) (now (out .entry)) ⌝ }
+) -> RadioOutcome
+    ensures { λ r. ⌜ radioResult r (now (m .exit)) (now (out .exit)) ≡ finish (writeOf s (now (m .entry)) first more (now (frame .entry)) at) (now (out .entry)) ⌝ }
 {
     let r = s.core.registers;
     let last = first as u16 + more as u16;
     if 3 < more {
         let answer = reply::error(out, RadioError::TooManyBlocks);
-        return Outcome { answer, side: s };
+        return RadioOutcome { answer, side: s };
     }
     if tag::BLOCKS <= first as u16 {
         let answer = reply::error(out, RadioError::NoSuchBlock);
-        return Outcome { answer, side: s };
+        return RadioOutcome { answer, side: s };
     }
-    if blocks::leaves(r.ends, first as u16, last) {
+    if blocks::leaves_area(r.ends, first as u16, last) {
         let answer = reply::error(out, RadioError::WriteLeavesArea);
-        return Outcome { answer, side: s };
+        return RadioOutcome { answer, side: s };
     }
     if !may_write_all(r, s.air.session, first, more as u16 + 1) {
         let answer = reply::error(out, RadioError::WriteForbidden);
-        return Outcome { answer, side: s };
+        return RadioOutcome { answer, side: s };
     }
     parts::put_bytes(m, 4 * (first as usize), frame, at, 4 * (more as usize + 1));
     let answer = reply::done(out);
-    Outcome { answer, side: s }
+    RadioOutcome { answer, side: s }
 }
 
 // 22.
-pub fn lock(s: RadioSide, m: &[u8], out: &mut [u8], block: u8) -> Outcome
-    ensures { λ r. ⌜ ended r (now (m .entry)) (now (out .exit)) ≡ finish (lockOf s (now (m .entry)) block) (now (out .entry)) ⌝ }
+pub fn lock(s: RadioSide, m: &[u8], out: &mut [u8], block: u8) -> RadioOutcome
+    ensures { λ r. ⌜ radioResult r (now (m .entry)) (now (out .exit)) ≡ finish (lockOf s (now (m .entry)) block) (now (out .entry)) ⌝ }
 {
     let r = s.core.registers;
     if 1 < block {
         let answer = reply::error(out, RadioError::NotLockable);
-        return Outcome { answer, side: s };
+        return RadioOutcome { answer, side: s };
     }
     if areas::is_locked(r.ccfile, block as u16) {
         let answer = reply::error(out, RadioError::AlreadyLocked);
-        return Outcome { answer, side: s };
+        return RadioOutcome { answer, side: s };
     }
     let bits = r.ccfile.bits % 4 + (block + 1);
     let next = s.with_registers(r.write(0x0C, bits));
     let answer = reply::done(out);
-    Outcome { answer, side: next }
+    RadioOutcome { answer, side: next }
 }

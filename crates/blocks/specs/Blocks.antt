@@ -14,11 +14,11 @@ use Rattle.tag.specs.Layout.{blocks}
 use Rattle.errors.specs.declared.RadioError.the-variants.{NoSuchBlock, ReadLeavesArea, ReadProtected}
 use Rattle.reply.specs.declared.RadioSide.{RadioSide}
 use Rattle.reply.specs.Reply.{good}
-use Rattle.reply.specs.Outcome.{Told, told, fails}
+use Rattle.reply.specs.Outcome.{CommandResult, commandResult, fails}
 
 -- blocks first to last "leaves area or memory"
-unfoldable pub leaves : Ends → ℕ → ℕ → Bool
-leaves e first last = leb blocks last || not (eqb (areaOfBlock e first) (areaOfBlock e last))
+unfoldable pub leavesArea : Ends → ℕ → ℕ → Bool
+leavesArea e first last = leb blocks last || not (eqb (areaOfBlock e first) (areaOfBlock e last))
 
 -- "status byte .., as 2C": "1 exactly when 21 would give 12h"
 unfoldable pub statusOf : Registers → ℕ → ℕ → ℕ
@@ -34,12 +34,12 @@ blocksOf r session m option first zero = []
 blocksOf r session m option first (suc n) = blocksOf r session m option first n ++ blockOf r session m option (first + n)
 
 -- "20, 23 Read: block, or first and count-1; 10h first above 127; 0Fh leaves area or memory; 15h protected"; more is count-1
-unfoldable pub readOf : RadioSide → List ℕ → Bool → ℕ → ℕ → Told
+unfoldable pub readOf : RadioSide → List ℕ → Bool → ℕ → ℕ → CommandResult
 readOf s m option first more =
     pick (leb blocks first) (fails NoSuchBlock s m)
-    (pick (leaves (s .core .registers .ends) first (first + more)) (fails ReadLeavesArea s m)
+    (pick (leavesArea (s .core .registers .ends) first (first + more)) (fails ReadLeavesArea s m)
     (pick (not (mayRead (s .core .registers) (Radio (s .air .session)) first)) (fails ReadProtected s m)
-    (told (good (blocksOf (s .core .registers) (s .air .session) m option first (more + 1))) s m)))
+    (commandResult (good (blocksOf (s .core .registers) (s .air .session) m option first (more + 1))) s m)))
 
 -- the statuses of n blocks from the first on
 unfoldable pub statusesOf : Registers → ℕ → ℕ → ℕ → List ℕ
@@ -47,7 +47,7 @@ statusesOf r session first zero = []
 statusesOf r session first (suc n) = statusesOf r session first n ++ statusOf r session (first + n) ∷ []
 
 -- "2C Status: first, count-1; 10h; stops at block 127"
-unfoldable pub statusReply : RadioSide → List ℕ → ℕ → ℕ → Told
+unfoldable pub statusReply : RadioSide → List ℕ → ℕ → ℕ → CommandResult
 statusReply s m first more =
     pick (leb blocks first) (fails NoSuchBlock s m)
-    (told (good (statusesOf (s .core .registers) (s .air .session) first (pick (ltb (blocks - first) (more + 1)) (blocks - first) (more + 1)))) s m)
+    (commandResult (good (statusesOf (s .core .registers) (s .air .session) first (pick (ltb (blocks - first) (more + 1)) (blocks - first) (more + 1)))) s m)

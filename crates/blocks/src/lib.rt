@@ -5,18 +5,18 @@ ghost use lib.Dec.{ltb};
 ghost use lib.Seq.{sets};
 ghost use lib.ListN.{length};
 ghost use Rattle.parts.specs.Pick.{pick};
-ghost use Rattle.reply.specs.Outcome.{ended, finish};
-ghost use Rattle.blocks.specs.Blocks.{leaves, statusOf, blockOf, blocksOf, readOf, statusesOf, statusReply};
+ghost use Rattle.reply.specs.Outcome.{radioResult, finish};
+ghost use Rattle.blocks.specs.Blocks.{leavesArea, statusOf, blockOf, blocksOf, readOf, statusesOf, statusReply};
 use areas::Side;
 use errors::RadioError;
 use registers::Ends;
 use registers::Registers;
-use reply::Outcome;
+use reply::RadioOutcome;
 use reply::RadioSide;
 
 // Whether blocks first to last leave an area or the memory.
-pub fn leaves(e: Ends, first: u16, last: u16) -> bool
-    ensures { λ r. ⌜ r ≡ leaves e first last ⌝ }
+pub fn leaves_area(e: Ends, first: u16, last: u16) -> bool
+    ensures { λ r. ⌜ r ≡ leavesArea e first last ⌝ }
 {
     let a = areas::area_of_block(e, first);
     let b = areas::area_of_block(e, last);
@@ -96,31 +96,38 @@ fn put_blocks(
 }
 
 // 20 and 23, more being one less than the count.
-pub fn read(s: RadioSide, m: &[u8], out: &mut [u8], option: bool, first: u8, more: u8) -> Outcome
-    ensures { λ r. ⌜ ended r (now (m .entry)) (now (out .exit)) ≡ finish (readOf s (now (m .entry)) option first more) (now (out .entry)) ⌝ }
+pub fn read(
+    s: RadioSide,
+    m: &[u8],
+    out: &mut [u8],
+    option: bool,
+    first: u8,
+    more: u8,
+) -> RadioOutcome
+    ensures { λ r. ⌜ radioResult r (now (m .entry)) (now (out .exit)) ≡ finish (readOf s (now (m .entry)) option first more) (now (out .entry)) ⌝ }
 {
     let r = s.core.registers;
     let session = s.air.session;
     let start = first as u16;
     let last = start + more as u16;
     let above = tag::BLOCKS <= start;
-    let leaving = leaves(r.ends, start, last);
+    let leaving = leaves_area(r.ends, start, last);
     if above {
         let answer = reply::error(out, RadioError::NoSuchBlock);
-        return Outcome { answer, side: s };
+        return RadioOutcome { answer, side: s };
     }
     if leaving {
         let answer = reply::error(out, RadioError::ReadLeavesArea);
-        return Outcome { answer, side: s };
+        return RadioOutcome { answer, side: s };
     }
     if !areas::may_read(r, Side::Radio(session), start) {
         let answer = reply::error(out, RadioError::ReadProtected);
-        return Outcome { answer, side: s };
+        return RadioOutcome { answer, side: s };
     }
     parts::put(out, 0, 0x00);
     let n = put_blocks(out, r, session, m, option, first, more as u16 + 1);
     let answer = reply::close(out, n);
-    Outcome { answer, side: s }
+    RadioOutcome { answer, side: s }
 }
 
 // Writes the statuses of n blocks after the reply's first byte.
@@ -148,16 +155,16 @@ fn lesser(left: u16, asked: u16) -> u16
 }
 
 // 2C, more being one less than the count.
-pub fn status(s: RadioSide, m: &[u8], out: &mut [u8], first: u8, more: u8) -> Outcome
-    ensures { λ r. ⌜ ended r (now (m .entry)) (now (out .exit)) ≡ finish (statusReply s (now (m .entry)) first more) (now (out .entry)) ⌝ }
+pub fn status(s: RadioSide, m: &[u8], out: &mut [u8], first: u8, more: u8) -> RadioOutcome
+    ensures { λ r. ⌜ radioResult r (now (m .entry)) (now (out .exit)) ≡ finish (statusReply s (now (m .entry)) first more) (now (out .entry)) ⌝ }
 {
     if tag::BLOCKS <= first as u16 {
         let answer = reply::error(out, RadioError::NoSuchBlock);
-        return Outcome { answer, side: s };
+        return RadioOutcome { answer, side: s };
     }
     let n = lesser(tag::BLOCKS - first as u16, more as u16 + 1);
     parts::put(out, 0, 0x00);
     put_statuses(out, s.core.registers, s.air.session, first, n);
     let answer = reply::close(out, 1 + n as u32);
-    Outcome { answer, side: s }
+    RadioOutcome { answer, side: s }
 }

@@ -11,10 +11,10 @@ use Rattle.tag.specs.declared.WireSide.{WireSide}
 use Rattle.tag.specs.declared.Uid.{Uid}
 use Rattle.ranges.specs.Ranges.{registersInRange, airInRange, mailboxInRange, suppliedInRange, hostInRange, coreInRange, wireInRange, inRange}
 use Rattle.rule.specs.PageRange.{busInRange}
-use Rattle.signal.specs.declared.Answer.{Answer as WireAnswer}
-use Rattle.signal.specs.declared.Answer.the-variants.{Nothing as WireNothing, Ack as WireAck, NoAck as WireNoAck, Byte as WireByte}
+use Rattle.signal.specs.declared.WireAnswer.{WireAnswer}
+use Rattle.signal.specs.declared.WireAnswer.the-variants.{Nothing as WireNothing, Ack as WireAck, NoAck as WireNoAck, Byte as WireByte}
 use Rattle.signal.specs.Signal.{signalOf}
-use Rattle.reply.specs.Reply.{Said, nothing, body, answerOf}
+use Rattle.reply.specs.Reply.{ReplyBody, nothing, body, answerOf}
 use Rattle.radio.specs.Claims.{replySize}
 use Rattle.radio.specs.Radio.{radioOf}
 use Rattle.radio.proofs.Room.{replies-fit}
@@ -23,9 +23,9 @@ use Rattle.model.specs.declared.Answer.the-variants.{Reply}
 use Rattle.model.specs.declared.Signal.{Signal}
 use Rattle.model.specs.declared.Signal.the-variants.{Wire, Field, Frame}
 use Rattle.model.specs.Signals.{signalBy}
-use Rattle.model.specs.Step.{Ended, Left, fromWire, fromRadio, radioSide, wireSide, transferOpen, tagInRange, actOf, stepOf, freshOf}
+use Rattle.model.specs.Step.{StepResult, FreshResult, fromWire, fromRadio, radioSide, wireSide, transferOpen, tagInRange, actOf, stepOf, freshOf}
 use Rattle.capi.specs.Interface.{replyFits}
-use Rattle.capi.specs.Claims.{RepliesFit}
+use Rattle.capi.specs.Claims.{StepRepliesFit}
 
 mailbox-fits : (t : Tag) (m : List ℕ) → tagInRange t m ≡ true → mailboxInRange (t .core .mailbox) ≡ true
 unfolding tagInRange inRange wireInRange coreInRange
@@ -44,7 +44,7 @@ wire-fits WireAck = refl
 wire-fits WireNoAck = refl
 wire-fits (WireByte x) = refl
 
-radio-fits : (r : Said) → replySize r ≤ 643 → replyFits (fromRadio (answerOf r)) ≡ true
+radio-fits : (r : ReplyBody) → replySize r ≤ 643 → replyFits (fromRadio (answerOf r)) ≡ true
 unfolding replyFits fromRadio answerOf replySize
 radio-fits nothing h = refl
 radio-fits (body b) h = le-leb _ 643 h
@@ -57,10 +57,10 @@ act-fits Frame t m o f h =
     radio-fits (radioOf (radioSide t) (t .uid) (t .host .vcc) (transferOpen t) (t .host .programming) m f .reply)
     (replies-fit (radioSide t) (t .uid) (t .host .vcc) (transferOpen t) (t .host .programming) m f (mailbox-fits t m h))
 
-abbrev FitsIn : Ended → Type 0
+abbrev FitsIn : StepResult → Type 0
 FitsIn e = replyFits (e .answer) ≡ true
 
-pub steps-fit : RepliesFit
+pub steps-fit : StepRepliesFit
 unfolding stepOf replyFits
 steps-fit t m o code value f =
     pick-case FitsIn _ _ _ (λ h. refl)
@@ -68,7 +68,7 @@ steps-fit t m o code value f =
     (λ h. pick-case FitsIn _ _ _ (λ h. refl)
     (λ h. pick-case FitsIn (not (tagInRange t m)) _ _ (λ h. refl) (λ h. act-fits (signalBy code value) t m o f (not-false _ h)))))
 
-abbrev MadeFits : Left → Type 0
+abbrev MadeFits : FreshResult → Type 0
 MadeFits e = replyFits (e .answer) ≡ true
 
 pub fresh-fits : (u : Uid) (m : List ℕ) → replyFits (freshOf u m .answer) ≡ true

@@ -10,18 +10,18 @@ use Rattle.tag.specs.declared.Tag.{Tag}
 use Rattle.tag.specs.declared.Uid.{Uid}
 use Rattle.tag.specs.Keys.{uidAt}
 use Rattle.state.specs.Layout.{tagOf}
-use Rattle.signal.specs.declared.Answer.{Answer as WireAnswer}
-use Rattle.signal.specs.declared.Answer.the-variants.{Nothing as WireNothing, Ack as WireAck, NoAck as WireNoAck, Byte as WireByte}
+use Rattle.signal.specs.declared.WireAnswer.{WireAnswer}
+use Rattle.signal.specs.declared.WireAnswer.the-variants.{Nothing as WireNothing, Ack as WireAck, NoAck as WireNoAck, Byte as WireByte}
 use Rattle.signal.specs.Signal.{signalOf}
-use Rattle.reply.specs.Reply.{Said, nothing, body, answerOf}
+use Rattle.reply.specs.Reply.{ReplyBody, nothing, body, answerOf}
 use Rattle.radio.specs.Radio.{radioOf}
 use Rattle.model.specs.declared.Answer.{Answer}
 use Rattle.model.specs.declared.Answer.the-variants.{Refused, Nothing, Ack, NoAck, Byte, Silence, Reply}
 use Rattle.model.specs.declared.Signal.{Signal}
 use Rattle.model.specs.declared.Signal.the-variants.{Wire, Field, Frame}
 use Rattle.model.specs.Signals.{signalBy}
-use Rattle.model.specs.Step.{Ended, Left, fromWire, fromRadio, radioSide, wireSide, transferOpen, actOf, stepOf, freshOf}
-use Rattle.capi.specs.Interface.{answerNumber, isRefused, stateAfter, Called, called, stepCall, Made, made, freshCall}
+use Rattle.model.specs.Step.{StepResult, FreshResult, fromWire, fromRadio, radioSide, wireSide, transferOpen, actOf, stepOf, freshOf}
+use Rattle.capi.specs.Interface.{answerNumber, isRefused, stateAfter, CallResult, callResult, stepCall, FreshCallResult, freshCallResult, freshCall}
 use Rattle.capi.specs.Claims.{RefusedStepKeeps, RefusedFreshKeeps}
 
 -- a number below 0x100 is a refusal's
@@ -43,7 +43,7 @@ wire-served WireAck = refl
 wire-served WireNoAck = refl
 wire-served (WireByte x) = refl
 
-radio-served : (r : Said) → isRefused (fromRadio (answerOf r)) ≡ false
+radio-served : (r : ReplyBody) → isRefused (fromRadio (answerOf r)) ≡ false
 unfolding isRefused fromRadio answerOf
 radio-served nothing = refl
 radio-served (body b) = refl
@@ -55,7 +55,7 @@ act-served (Field on) t m o f = refl
 act-served Frame t m o f = radio-served (radioOf (radioSide t) (t .uid) (t .host .vcc) (transferOpen t) (t .host .programming) m f .reply)
 
 -- ---- one call
-abbrev Keeps : List ℕ → List ℕ → Ended → Type 0
+abbrev Keeps : List ℕ → List ℕ → StepResult → Type 0
 Keeps m o e = isRefused (e .answer) ≡ true → (e .memory ≡ m) × (e .reply ≡ o)
 
 step-keeps : (t : Tag) (m o : List ℕ) (code value : ℕ) (f : List ℕ) → Keeps m o (stepOf t m o code value f)
@@ -67,11 +67,11 @@ step-keeps t m o code value f =
     (λ _. pick-case (Keeps m o) _ _ _ (λ _ _. (refl, refl))
     (λ _ r. absurd (false≢true (sym (act-served (signalBy code value) t m o f) ∙ r))))))
 
-abbrev Still : List ℕ → List ℕ → List ℕ → Called → Type 0
-Still s m o c = c .number < 0x100 → c ≡ called (c .number) s m o
+abbrev Still : List ℕ → List ℕ → List ℕ → CallResult → Type 0
+Still s m o c = c .number < 0x100 → c ≡ callResult (c .number) s m o
 
-stepped : (s m o : List ℕ) (e : Ended) → Keeps m o e
-    → Still s m o (called (answerNumber (e .answer)) (stateAfter s (e .answer) (e .tag)) (e .memory) (e .reply))
+stepped : (s m o : List ℕ) (e : StepResult) → Keeps m o e
+    → Still s m o (callResult (answerNumber (e .answer)) (stateAfter s (e .answer) (e .tag)) (e .memory) (e .reply))
 unfolding stateAfter pick
 stepped s m o e k h =
     let r = number-refused (e .answer) h in
@@ -88,18 +88,18 @@ refused-step-keeps s m o code value f =
     (λ _. stepped s m o (stepOf (tagOf s) m o code value f) (step-keeps (tagOf s) m o code value f))))))
 
 -- ---- the fresh tag
-abbrev KeepsMemory : List ℕ → Left → Type 0
+abbrev KeepsMemory : List ℕ → FreshResult → Type 0
 KeepsMemory m e = isRefused (e .answer) ≡ true → e .memory ≡ m
 
 fresh-keeps : (u : Uid) (m : List ℕ) → KeepsMemory m (freshOf u m)
 unfolding freshOf isRefused
 fresh-keeps u m = pick-case (KeepsMemory m) _ _ _ (λ _ _. refl) (λ _ r. absurd (false≢true r))
 
-abbrev StillMade : List ℕ → List ℕ → Made → Type 0
-StillMade s m c = c .number < 0x100 → c ≡ made (c .number) s m
+abbrev StillMade : List ℕ → List ℕ → FreshCallResult → Type 0
+StillMade s m c = c .number < 0x100 → c ≡ freshCallResult (c .number) s m
 
-freshly : (s m : List ℕ) (e : Left) → KeepsMemory m e
-    → StillMade s m (made (answerNumber (e .answer)) (stateAfter s (e .answer) (e .tag)) (e .memory))
+freshly : (s m : List ℕ) (e : FreshResult) → KeepsMemory m e
+    → StillMade s m (freshCallResult (answerNumber (e .answer)) (stateAfter s (e .answer) (e .tag)) (e .memory))
 unfolding stateAfter pick
 freshly s m e k h =
     let r = number-refused (e .answer) h in

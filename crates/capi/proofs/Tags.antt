@@ -11,8 +11,8 @@ use Rattle.tag.specs.declared.Tag.{Tag}
 use Rattle.state.specs.Layout.{airDecodes, hostDecodes, mailboxDecodes, bytesOf, decodes, tagOf}
 use Rattle.state.proofs.There.{decodes-encoded}
 use Rattle.model.specs.Signals.{signalInRange}
-use Rattle.model.specs.Step.{Ended, stepOf}
-use Rattle.capi.specs.Interface.{answerNumber, isRefused, stateAfter, Called, called, stepCall}
+use Rattle.model.specs.Step.{StepResult, stepOf}
+use Rattle.capi.specs.Interface.{answerNumber, isRefused, stateAfter, CallResult, callResult, stepCall}
 use Rattle.capi.specs.Claims.{StepsTheTag}
 
 -- bytes that decode have their length
@@ -32,8 +32,8 @@ again f false false true x y z r = refl
 again f false false false x y z r = refl
 
 -- what a call leaves of the model's outcome
-abbrev calledBy : List ℕ → Ended → Called
-calledBy s e = called (answerNumber (e .answer)) (stateAfter s (e .answer) (e .tag)) (e .memory) (e .reply)
+abbrev calledBy : List ℕ → StepResult → CallResult
+calledBy s e = callResult (answerNumber (e .answer)) (stateAfter s (e .answer) (e .tag)) (e .memory) (e .reply)
 
 decoded : (s m o : List ℕ) (code value : ℕ) (f : List ℕ) → eqb (length s) 83 ≡ true → decodes s ≡ true
     → stepCall s m o code value f ≡ calledBy s (stepOf (tagOf s) m o code value f)

@@ -7,22 +7,22 @@ use Rattle.tag.specs.declared.Tag.{Tag}
 use Rattle.state.specs.Layout.{bytesOf}
 use Rattle.state.specs.Claims.{Fits}
 use Rattle.model.specs.Step.{stepOf}
-use Rattle.capi.specs.Interface.{answerNumber, replyFits, stateAfter, called, stepCall, made, freshCall}
+use Rattle.capi.specs.Interface.{answerNumber, replyFits, stateAfter, callResult, stepCall, freshCallResult, freshCall}
 
 -- a number below 0x100 is a refusal: every byte of every lent buffer is as before
 abbrev pub RefusedStepKeeps : Type 0
 RefusedStepKeeps = (s m o : List ℕ) (code value : ℕ) (f : List ℕ) → let c = stepCall s m o code value f in
-    c .number < 0x100 → c ≡ called (c .number) s m o
+    c .number < 0x100 → c ≡ callResult (c .number) s m o
 
 abbrev pub RefusedFreshKeeps : Type 0
 RefusedFreshKeeps = (u m s : List ℕ) → let c = freshCall u m s in
-    c .number < 0x100 → c ≡ made (c .number) s m
+    c .number < 0x100 → c ≡ freshCallResult (c .number) s m
 
 -- every answer's reply fits the 643 bytes, so that its number is below 0x1000 + 644
-abbrev pub RepliesFit : Type 0
-RepliesFit = (t : Tag) (m o : List ℕ) (code value : ℕ) (f : List ℕ) → replyFits (stepOf t m o code value f .answer) ≡ true
+abbrev pub StepRepliesFit : Type 0
+StepRepliesFit = (t : Tag) (m o : List ℕ) (code value : ℕ) (f : List ℕ) → replyFits (stepOf t m o code value f .answer) ≡ true
 
 -- a call over a tag's bytes is the model's call of that tag
 abbrev pub StepsTheTag : Type 0
 StepsTheTag = (t : Tag) (m o : List ℕ) (code value : ℕ) (f : List ℕ) → Fits t → stepCall (bytesOf t) m o code value f
-    ≡ (let e = stepOf t m o code value f in called (answerNumber (e .answer)) (stateAfter (bytesOf t) (e .answer) (e .tag)) (e .memory) (e .reply))
+    ≡ (let e = stepOf t m o code value f in callResult (answerNumber (e .answer)) (stateAfter (bytesOf t) (e .answer) (e .tag)) (e .memory) (e .reply))

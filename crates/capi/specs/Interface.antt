@@ -62,23 +62,23 @@ stateAfter s a t = pick (isRefused a) s (bytesOf t)
 
 -- ---- one call
 -- the number, and each lent buffer at the return
-pub record Called : Type 0 where
+pub record CallResult : Type 0 where
   pub number : ℕ
   pub state : List ℕ
   pub memory : List ℕ
   pub reply : List ℕ
 
-abbrev pub called : ℕ → List ℕ → List ℕ → List ℕ → Called
-called n s m o = record { number = n; state = s; memory = m; reply = o }
+abbrev pub callResult : ℕ → List ℕ → List ℕ → List ℕ → CallResult
+callResult n s m o = record { number = n; state = s; memory = m; reply = o }
 
 -- a refusal: every lent byte as before
-abbrev pub refusing : LibraryRefusal → List ℕ → List ℕ → List ℕ → Called
-refusing r s m o = called (refusalNumber r) s m o
+abbrev pub refusing : LibraryRefusal → List ℕ → List ℕ → List ℕ → CallResult
+refusing r s m o = callResult (refusalNumber r) s m o
 
 -- the refusals in their order, then the model's step of the tag; s is the state, f the frame.
 -- 1, 2 and 3 are judged without a state: each is given exactly when document 01 says. 13 comes right before the first refusal that reads the state,
 -- which is 4: bytes that decode to no state, or (by the model) a tag that breaks a range.
-unfoldable pub stepCall : List ℕ → List ℕ → List ℕ → ℕ → ℕ → List ℕ → Called
+unfoldable pub stepCall : List ℕ → List ℕ → List ℕ → ℕ → ℕ → List ℕ → CallResult
 stepCall s m o code value f =
     pick (not (eqb (length m) memoryBytes)) (refusing (Model MemoryLength) s m o)
     (pick (ltb (length o) replyBytes) (refusing (Model ReplyShort) s m o)
@@ -86,22 +86,22 @@ stepCall s m o code value f =
     (pick (not (eqb (length s) stateBytes)) (refusing StateLength s m o)
     (pick (not (decodes s)) (refusing (Model OutOfRange) s m o)
     (let e = stepOf (tagOf s) m o code value f in
-    called (answerNumber (e .answer)) (stateAfter s (e .answer) (e .tag)) (e .memory) (e .reply))))))
+    callResult (answerNumber (e .answer)) (stateAfter s (e .answer) (e .tag)) (e .memory) (e .reply))))))
 
 -- ---- the fresh tag
-pub record Made : Type 0 where
+pub record FreshCallResult : Type 0 where
   pub number : ℕ
   pub state : List ℕ
   pub memory : List ℕ
 
-abbrev pub made : ℕ → List ℕ → List ℕ → Made
-made n s m = record { number = n; state = s; memory = m }
+abbrev pub freshCallResult : ℕ → List ℕ → List ℕ → FreshCallResult
+freshCallResult n s m = record { number = n; state = s; memory = m }
 
 -- 1 without a state, as above; then 13, then 14; u is the UID
-unfoldable pub freshCall : List ℕ → List ℕ → List ℕ → Made
+unfoldable pub freshCall : List ℕ → List ℕ → List ℕ → FreshCallResult
 freshCall u m s =
-    pick (not (eqb (length m) memoryBytes)) (made (refusalNumber (Model MemoryLength)) s m)
-    (pick (not (eqb (length s) stateBytes)) (made (refusalNumber StateLength) s m)
-    (pick (not (eqb (length u) 8)) (made (refusalNumber UidLength) s m)
+    pick (not (eqb (length m) memoryBytes)) (freshCallResult (refusalNumber (Model MemoryLength)) s m)
+    (pick (not (eqb (length s) stateBytes)) (freshCallResult (refusalNumber StateLength) s m)
+    (pick (not (eqb (length u) 8)) (freshCallResult (refusalNumber UidLength) s m)
     (let e = freshOf (uidAt u 0) m in
-    made (answerNumber (e .answer)) (stateAfter s (e .answer) (e .tag)) (e .memory))))
+    freshCallResult (answerNumber (e .answer)) (stateAfter s (e .answer) (e .tag)) (e .memory))))

@@ -5,7 +5,7 @@ ghost use lib.ListN.{length};
 ghost use Rattle.crc.specs.Crc.{crcOf};
 ghost use Rattle.state.specs.Layout.{stateBytes};
 ghost use Rattle.model.specs.Signals.{topValue, signalInRange};
-ghost use Rattle.capi.specs.Interface.{refusalNumber, answerNumber, isRefused, replyFits, stateAfter, called, stepCall, made, freshCall};
+ghost use Rattle.capi.specs.Interface.{refusalNumber, answerNumber, isRefused, replyFits, stateAfter, callResult, stepCall, freshCallResult, freshCall};
 use model::Answer;
 use model::Outcome;
 use model::Refusal;
@@ -107,7 +107,7 @@ pub extern "C" fn st25dv_step(
     value: u32,
     frame: &[u8],
 ) -> u32
-    ensures { λ r. ⌜ called r (now (s .exit)) (now (m .exit)) (now (out .exit)) ≡ stepCall (now (s .entry)) (now (m .entry)) (now (out .entry)) code value (now (frame .entry)) ⌝ }
+    ensures { λ r. ⌜ callResult r (now (s .exit)) (now (m .exit)) (now (out .exit)) ≡ stepCall (now (s .entry)) (now (m .entry)) (now (out .entry)) code value (now (frame .entry)) ⌝ }
 {
     if m.len() != tag::MEMORY_BYTES {
         return LibraryRefusal::Model(Refusal::MemoryLength).number();
@@ -134,7 +134,7 @@ pub extern "C" fn st25dv_step(
 // The fresh tag with a UID; the memory is cleared.
 #[no_mangle]
 pub extern "C" fn st25dv_fresh(uid: &[u8], m: &mut [u8], s: &mut [u8]) -> u32
-    ensures { λ r. ⌜ made r (now (s .exit)) (now (m .exit)) ≡ freshCall (now (uid .entry)) (now (m .entry)) (now (s .entry)) ⌝ }
+    ensures { λ r. ⌜ freshCallResult r (now (s .exit)) (now (m .exit)) ≡ freshCall (now (uid .entry)) (now (m .entry)) (now (s .entry)) ⌝ }
 {
     if m.len() != tag::MEMORY_BYTES {
         return LibraryRefusal::Model(Refusal::MemoryLength).number();

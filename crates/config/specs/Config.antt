@@ -14,40 +14,40 @@ use Rattle.tag.specs.Supply.{withRegisters, withMailbox}
 use Rattle.errors.specs.declared.RadioError.the-variants.{NoSuchRegister, ConfigurationClosed, EndRefused, NoSuchDynamicRegister}
 use Rattle.reply.specs.declared.RadioSide.{RadioSide}
 use Rattle.reply.specs.Reply.{good}
-use Rattle.reply.specs.Outcome.{Told, told, fails, withCore, sideMailbox}
+use Rattle.reply.specs.Outcome.{CommandResult, commandResult, fails, withRadioCore, sideMailbox}
 
 -- "pointers 03-0A, 0D, 0F, else 10h"
 unfoldable pub isPointer : ℕ → Bool
 isPointer p = (leb 0x03 p && leb p 0x0A) || eqb p 0x0D || eqb p 0x0F
 
 -- "A0 Config": the register's byte
-unfoldable pub readConfigOf : RadioSide → List ℕ → ℕ → Told
+unfoldable pub readConfigOf : RadioSide → List ℕ → ℕ → CommandResult
 readConfigOf s m p =
     pick (not (isPointer p)) (fails NoSuchRegister s m)
-    (told (good (registerAt (s .core .registers) p ∷ [])) s m)
+    (commandResult (good (registerAt (s .core .registers) p ∷ [])) s m)
 
 -- a register written: MB_MODE with bit 0 clear also disables the mailbox (000, MB_CTRL_Dyn: MB_EN falls when MB_MODE is written 0)
-unfoldable pub mailboxAfter : ℕ → ℕ → Mailbox → Mailbox
-mailboxAfter p x m = pick (eqb p 0x0D && not (isSet 1 x)) (disabled m) m
+unfoldable pub mailboxAfterWrite : ℕ → ℕ → Mailbox → Mailbox
+mailboxAfterWrite p x m = pick (eqb p 0x0D && not (isSet 1 x)) (disabled m) m
 
 unfoldable pub writtenCore : Core → ℕ → ℕ → Core
-writtenCore c p x = withMailbox (mailboxAfter p x (c .mailbox)) (withRegisters (written (c .registers) p x) c)
+writtenCore c p x = withMailbox (mailboxAfterWrite p x (c .mailbox)) (withRegisters (written (c .registers) p x) c)
 
 -- "A1: 12h if LOCK_CFG or password 0 session closed; 0Fh ENDA"
-unfoldable pub writeConfigOf : RadioSide → List ℕ → ℕ → ℕ → Told
+unfoldable pub writeConfigOf : RadioSide → List ℕ → ℕ → ℕ → CommandResult
 writeConfigOf s m p x =
     pick (not (isPointer p)) (fails NoSuchRegister s m)
     (pick (isSet 1 (s .core .registers .config .bits) || not (eqb (s .air .session) 1)) (fails ConfigurationClosed s m)
     (pick (not (endAllows (s .core .registers .ends) p x)) (fails EndRefused s m)
-    (told (good []) (withCore (writtenCore (s .core) p x) s) m)))
+    (commandResult (good []) (withRadioCore (writtenCore (s .core) p x) s) m)))
 
 -- "AD, AE Dynamic: pointer 0D, else 10h; as MB_CTRL_Dyn"
-unfoldable pub readDynamicOf : RadioSide → List ℕ → ℕ → Told
+unfoldable pub readDynamicOf : RadioSide → List ℕ → ℕ → CommandResult
 readDynamicOf s m p =
     pick (not (eqb p 0x0D)) (fails NoSuchDynamicRegister s m)
-    (told (good (controlByte (s .core .mailbox) ∷ [])) s m)
+    (commandResult (good (controlByte (s .core .mailbox) ∷ [])) s m)
 
-unfoldable pub writeDynamicOf : RadioSide → List ℕ → Bool → ℕ → ℕ → Told
+unfoldable pub writeDynamicOf : RadioSide → List ℕ → Bool → ℕ → ℕ → CommandResult
 writeDynamicOf s m vcc p x =
     pick (not (eqb p 0x0D)) (fails NoSuchDynamicRegister s m)
-    (told (good []) (sideMailbox (controlled x (s .core .registers .mode) vcc (s .core .mailbox)) s) m)
+    (commandResult (good []) (sideMailbox (controlled x (s .core .registers .mode) vcc (s .core .mailbox)) s) m)

@@ -1,9 +1,9 @@
 // Commands on registers, static and dynamic.
 ghost use mathlib.Core.Path.{_≡_};
-ghost use Rattle.reply.specs.Outcome.{ended, finish};
-ghost use Rattle.config.specs.Config.{isPointer, readConfigOf, mailboxAfter, writtenCore, writeConfigOf, readDynamicOf, writeDynamicOf};
+ghost use Rattle.reply.specs.Outcome.{radioResult, finish};
+ghost use Rattle.config.specs.Config.{isPointer, readConfigOf, mailboxAfterWrite, writtenCore, writeConfigOf, readDynamicOf, writeDynamicOf};
 use errors::RadioError;
-use reply::Outcome;
+use reply::RadioOutcome;
 use reply::RadioSide;
 use tag::Core;
 use tag::Mailbox;
@@ -15,24 +15,24 @@ fn is_pointer(p: u8) -> bool
 }
 
 // A0.
-pub fn read(s: RadioSide, m: &[u8], out: &mut [u8], p: u8) -> Outcome
-    ensures { λ r. ⌜ ended r (now (m .entry)) (now (out .exit)) ≡ finish (readConfigOf s (now (m .entry)) p) (now (out .entry)) ⌝ }
+pub fn read(s: RadioSide, m: &[u8], out: &mut [u8], p: u8) -> RadioOutcome
+    ensures { λ r. ⌜ radioResult r (now (m .entry)) (now (out .exit)) ≡ finish (readConfigOf s (now (m .entry)) p) (now (out .entry)) ⌝ }
 {
     if !is_pointer(p) {
-        return Outcome {
+        return RadioOutcome {
             answer: reply::error(out, RadioError::NoSuchRegister),
             side: s,
         };
     }
     let x = s.core.registers.read(p as u16);
-    Outcome {
+    RadioOutcome {
         answer: reply::byte(out, x),
         side: s,
     }
 }
 
 fn mailbox_after(p: u8, x: u8, m: Mailbox) -> Mailbox
-    ensures { λ r. ⌜ r ≡ mailboxAfter p x m ⌝ }
+    ensures { λ r. ⌜ r ≡ mailboxAfterWrite p x m ⌝ }
 {
     if (p == 0x0D) & !(x / 1 % 2 == 1) {
         return m.disable();
@@ -52,24 +52,24 @@ fn written_core(c: Core, p: u8, x: u8) -> Core
 }
 
 // A1.
-pub fn write(s: RadioSide, m: &[u8], out: &mut [u8], p: u8, x: u8) -> Outcome
-    ensures { λ r. ⌜ ended r (now (m .entry)) (now (out .exit)) ≡ finish (writeConfigOf s (now (m .entry)) p x) (now (out .entry)) ⌝ }
+pub fn write(s: RadioSide, m: &[u8], out: &mut [u8], p: u8, x: u8) -> RadioOutcome
+    ensures { λ r. ⌜ radioResult r (now (m .entry)) (now (out .exit)) ≡ finish (writeConfigOf s (now (m .entry)) p x) (now (out .entry)) ⌝ }
 {
     let r = s.core.registers;
     if !is_pointer(p) {
-        return Outcome {
+        return RadioOutcome {
             answer: reply::error(out, RadioError::NoSuchRegister),
             side: s,
         };
     }
     if (r.config.bits / 1 % 2 == 1) | (s.air.session != 1) {
-        return Outcome {
+        return RadioOutcome {
             answer: reply::error(out, RadioError::ConfigurationClosed),
             side: s,
         };
     }
     if !areas::end_allows(r.ends, p as u32, x) {
-        return Outcome {
+        return RadioOutcome {
             answer: reply::error(out, RadioError::EndRefused),
             side: s,
         };
@@ -77,42 +77,49 @@ pub fn write(s: RadioSide, m: &[u8], out: &mut [u8], p: u8, x: u8) -> Outcome
     let core = written_core(s.core, p, x);
     let mut next = s;
     next.core = core;
-    Outcome {
+    RadioOutcome {
         answer: reply::done(out),
         side: next,
     }
 }
 
 // AD.
-pub fn read_dynamic(s: RadioSide, m: &[u8], out: &mut [u8], p: u8) -> Outcome
-    ensures { λ r. ⌜ ended r (now (m .entry)) (now (out .exit)) ≡ finish (readDynamicOf s (now (m .entry)) p) (now (out .entry)) ⌝ }
+pub fn read_dynamic(s: RadioSide, m: &[u8], out: &mut [u8], p: u8) -> RadioOutcome
+    ensures { λ r. ⌜ radioResult r (now (m .entry)) (now (out .exit)) ≡ finish (readDynamicOf s (now (m .entry)) p) (now (out .entry)) ⌝ }
 {
     if p != 0x0D {
-        return Outcome {
+        return RadioOutcome {
             answer: reply::error(out, RadioError::NoSuchDynamicRegister),
             side: s,
         };
     }
     let x = s.core.mailbox.control_byte();
-    Outcome {
+    RadioOutcome {
         answer: reply::byte(out, x),
         side: s,
     }
 }
 
 // AE.
-pub fn write_dynamic(s: RadioSide, m: &[u8], out: &mut [u8], vcc: bool, p: u8, x: u8) -> Outcome
-    ensures { λ r. ⌜ ended r (now (m .entry)) (now (out .exit)) ≡ finish (writeDynamicOf s (now (m .entry)) vcc p x) (now (out .entry)) ⌝ }
+pub fn write_dynamic(
+    s: RadioSide,
+    m: &[u8],
+    out: &mut [u8],
+    vcc: bool,
+    p: u8,
+    x: u8,
+) -> RadioOutcome
+    ensures { λ r. ⌜ radioResult r (now (m .entry)) (now (out .exit)) ≡ finish (writeDynamicOf s (now (m .entry)) vcc p x) (now (out .entry)) ⌝ }
 {
     if p != 0x0D {
-        return Outcome {
+        return RadioOutcome {
             answer: reply::error(out, RadioError::NoSuchDynamicRegister),
             side: s,
         };
     }
     let mode = s.core.registers.mode;
     let next = s.with_mailbox(s.core.mailbox.control(x, mode, vcc));
-    Outcome {
+    RadioOutcome {
         answer: reply::done(out),
         side: next,
     }

@@ -13,7 +13,7 @@ use Rattle.tag.specs.declared.Space.the-variants.{User, System}
 use Rattle.tag.specs.declared.Mailbox.{Mailbox}
 use Rattle.tag.specs.declared.Core.{Core}
 use Rattle.tag.specs.declared.Uid.{Uid}
-use Rattle.tag.specs.Layout.{userBytes, mailboxAt}
+use Rattle.tag.specs.Layout.{userBytes, mailboxPlace}
 use Rattle.tag.specs.Mailbox.{controlByte, lengthByte}
 use Rattle.tag.specs.Keys.{uidByte}
 
@@ -23,7 +23,7 @@ memoryByte c session m a = pick (mayRead (c .registers) (Wire session) (a / 4)) 
 
 -- "FFh .. in the mailbox past the length or with MB_EN 0"
 unfoldable pub mailboxByte : Mailbox → List ℕ → ℕ → ℕ
-mailboxByte b m a = pick (b .enabled && ltb (a - 0x2008) (b .length)) (getD m (mailboxAt + (a - 0x2008)) 0) 0xFF
+mailboxByte b m a = pick (b .enabled && ltb (a - 0x2008) (b .length)) (getD m (mailboxPlace + (a - 0x2008)) 0) 0xFF
 
 -- "user space: 0000h-01FFh memory; 2003h RF_MNGT_Dyn; 2004h I2C_SSO_Dyn; 2006h MB_CTRL_Dyn; 2007h MB_LEN_Dyn; 2008h-2107h mailbox"
 unfoldable pub userByte : Core → Bool → List ℕ → ℕ → ℕ

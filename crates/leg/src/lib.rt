@@ -4,7 +4,7 @@ ghost use Prim.Native.Nat.{_-_};
 ghost use lib.ListN.{getD};
 ghost use Rattle.rule.specs.PageRange.{page};
 ghost use Rattle.leg.specs.Fetch.{memoryByte, mailboxByte, userByte, systemByte, fetched, isLast};
-ghost use Rattle.leg.specs.Effect.{left, withCore, programming, userWritten, passwordWritten, systemWritten, legWritten, lastFetched};
+ghost use Rattle.leg.specs.Effect.{legResult, withWireCore, programming, userWritten, passwordWritten, systemWritten, legWritten, lastFetched};
 use areas::Side;
 use tag::Core;
 use tag::Mailbox;
@@ -119,7 +119,7 @@ fn start_programming(w: WireSide) -> WireSide
 }
 
 fn with_core(w: WireSide, c: Core) -> WireSide
-    ensures { λ r. ⌜ r ≡ withCore c w ⌝ }
+    ensures { λ r. ⌜ r ≡ withWireCore c w ⌝ }
 {
     let mut n = w;
     n.core = c;
@@ -128,7 +128,7 @@ fn with_core(w: WireSide, c: Core) -> WireSide
 
 // A leg in user space written: the page's k bytes from address f on.
 fn user_written(w: WireSide, m: &mut [u8], f: u16, k: u16) -> WireSide
-    ensures { λ r. ⌜ left r (now (m .exit)) ≡ userWritten w (now (m .entry)) f (page k (now (m .entry))) ⌝ }
+    ensures { λ r. ⌜ legResult r (now (m .exit)) ≡ userWritten w (now (m .entry)) f (page k (now (m .entry))) ⌝ }
 {
     let mut c = w.core;
     if f < 512 {
@@ -154,7 +154,7 @@ fn user_written(w: WireSide, m: &mut [u8], f: u16, k: u16) -> WireSide
 
 // A password leg of k bytes.
 fn password_written(w: WireSide, m: &[u8], k: u16) -> WireSide
-    ensures { λ r. ⌜ left r (now (m .entry)) ≡ passwordWritten w (now (m .entry)) (page k (now (m .entry))) ⌝ }
+    ensures { λ r. ⌜ legResult r (now (m .entry)) ≡ passwordWritten w (now (m .entry)) (page k (now (m .entry))) ⌝ }
 {
     let first = Password::at(m, 768);
     let second = Password::at(m, 777);
@@ -179,7 +179,7 @@ fn password_written(w: WireSide, m: &[u8], k: u16) -> WireSide
 
 // A leg in system space written.
 fn system_written(w: WireSide, m: &[u8], f: u16, k: u16) -> WireSide
-    ensures { λ r. ⌜ left r (now (m .entry)) ≡ systemWritten w (now (m .entry)) f (page k (now (m .entry))) ⌝ }
+    ensures { λ r. ⌜ legResult r (now (m .entry)) ≡ systemWritten w (now (m .entry)) f (page k (now (m .entry))) ⌝ }
 {
     if f == 0x0900 {
         return password_written(w, m, k);
@@ -192,7 +192,7 @@ fn system_written(w: WireSide, m: &[u8], f: u16, k: u16) -> WireSide
 
 // A write leg's effect: the page's k bytes, all Acked, in a space from address f on.
 pub fn leg_written(s: Space, w: WireSide, m: &mut [u8], f: u16, k: u16) -> WireSide
-    ensures { λ r. ⌜ left r (now (m .exit)) ≡ legWritten s w (now (m .entry)) f (page k (now (m .entry))) ⌝ }
+    ensures { λ r. ⌜ legResult r (now (m .exit)) ≡ legWritten s w (now (m .entry)) f (page k (now (m .entry))) ⌝ }
 {
     match s {
         Space::User => user_written(w, m, f, k),

@@ -16,13 +16,13 @@ use Rattle.model.specs.Signals.{signalBy}
 use Rattle.model.specs.Step.{fromRadio, transferOpen}
 use Rattle.model.proofs.Kept.{keeps}
 use Rattle.capi.specs.Interface.{answerNumber}
-use Rattle.waiting.specs.Calls.{Call, Device, device, Done, entry, runBy}
-use Rattle.waiting.specs.Waiting.{closed, waitRun}
-use Rattle.waiting.specs.Claim.{framesFit, isClosed, isRefusal, isFrame, struck, spoken, shutReply, startAfter}
+use Rattle.waiting.specs.Calls.{Call, Device, device, DeviceResult, entry, runBy}
+use Rattle.waiting.specs.Waiting.{noTransfer, waitRun}
+use Rattle.waiting.specs.Claim.{framesFit, isClosed, isRefusal, isFrame, struck, callReply, shutReply, startAfter}
 use Rattle.waiting.proofs.OneCall.{Fits, struck-is}
 use Rattle.waiting.proofs.Struck.{fits-next}
 use Rattle.waiting.proofs.Demand3.{demand-3, ends-alike}
-use Rattle.library_demand3.specs.Calls.{LibraryStep, Numbered, answerBy, LibraryRan, libraryRun}
+use Rattle.library_demand3.specs.Calls.{LibraryStep, LibraryAnswer, answerBy, LibraryRunResult, libraryRun}
 use Rattle.library_demand3.specs.Claim.{inNumber, inNumbers, inBytes, libraryStruck, EachLibraryStruck, LibrarySame, EveryLibraryList}
 use Rattle.library_demand3.specs.Follows.{NumberShut, AnswerShut, BufferFollows}
 use Rattle.library_demand3.proofs.Demand3.{good}
@@ -30,8 +30,8 @@ use Rattle.library_demand3.proofs.Lists.{Good, good-next, first-frame, 
 
 -- ---- of silence and one reply the number decides the buffer
 by-number : (a b : Bool) (r o : List ℕ)
-    → inNumber (spoken (pick a nothing (body r)) o) .number ≡ inNumber (spoken (pick b nothing (body r)) o) .number
-    → inNumber (spoken (pick a nothing (body r)) o) ≡ inNumber (spoken (pick b nothing (body r)) o)
+    → inNumber (callReply (pick a nothing (body r)) o) .number ≡ inNumber (callReply (pick b nothing (body r)) o) .number
+    → inNumber (callReply (pick a nothing (body r)) o) ≡ inNumber (callReply (pick b nothing (body r)) o)
 unfolding pick answerOf fromRadio answerNumber
 by-number true true r o h = refl
 by-number true false r o h = let f : 0x103 ≡ 0x1000 + (length r + 2) = h in absurd (omega arith)
@@ -59,16 +59,16 @@ module _ (step : LibraryStep) where
   unfolding inBytes
   at-first all s m cs t frames end =
       let d = device (tagOf s) m in
-      let same : (p : List Call) → framesFit p ≡ true → isClosed (waitRun (closed [] d) p) ≡ true → libraryRun step s m p ≡ inLibrary (runBy entry d p) =
+      let same : (p : List Call) → framesFit p ≡ true → isClosed (waitRun (noTransfer [] d) p) ≡ true → libraryRun step s m p ≡ inLibrary (runBy entry d p) =
       λ p f e. all s m p t f e ∙ ap inBytes (demand-3 d p (t .range) (t .size) f (t .shut) e .same) in
       record {
         good = good s m t;
         fits = record { range = t .range; size = t .size };
         frames = frames;
-        answers = ap (λ (x : LibraryRan). x .answers) (same cs frames end);
+        answers = ap (λ (x : LibraryRunResult). x .answers) (same cs frames end);
         shut = λ p q e h.
             let f = frames-first p q (ap framesFit e ∙ frames) in
-            ap (λ (x : LibraryRan). x .state) (same p f (ends-alike d p (t .range) (t .size) f (t .shut) h));
+            ap (λ (x : LibraryRunResult). x .state) (same p f (ends-alike d p (t .range) (t .size) f (t .shut) h));
       }
 
   module _ (c : Call) (cs : List Call) (s m : List ℕ) (d : Device) (b : Beside s m d (c ∷ cs)) where
@@ -78,13 +78,13 @@ module _ (step : LibraryStep) where
       good = good-next d c (first-frame c cs (b .frames)) (b .good);
       fits = fits-next keeps d c (first-frame c cs (b .frames)) (b .fits);
       frames = rest-frames c cs (b .frames);
-      answers = ap (λ (l : List Numbered). drop 1 l) (b .answers);
+      answers = ap (λ (l : List LibraryAnswer). drop 1 l) (b .answers);
       shut = λ p q e h. b .shut (c ∷ p) q (ap (λ (l : List Call). c ∷ l) e) h;
     }
 
     answer-is : answerBy (step s m c) ≡ inNumber (entry d c .says)
     unfolding libraryRun runBy inNumbers
-    answer-is = ap (λ (l : List Numbered). getD l 0 (answerBy (step s m c))) (b .answers)
+    answer-is = ap (λ (l : List LibraryAnswer). getD l 0 (answerBy (step s m c))) (b .answers)
 
     by-open : (o : Bool) → transferOpen (d .tag) ≡ o → transferOpen (tagOf s) ≡ true → transferOpen (d .tag) ≡ true
     unfolding libraryRun runBy
@@ -101,11 +101,11 @@ module _ (step : LibraryStep) where
         let both = and-left (transferOpen (tagOf s) && frame) unrefused h in
         and-both (transferOpen (d .tag) && frame) (not (isRefusal (entry d c .says .answer)))
         (and-both (transferOpen (d .tag)) frame (by-open (transferOpen (d .tag)) refl (and-left (transferOpen (tagOf s)) frame both)) (and-right (transferOpen (tagOf s)) frame both))
-        (ap not (sym (refusal-number (entry d c .says .answer))) ∙ ap (λ (a : Numbered). not (ltb (a .number) 0x100)) (sym answer-is)
+        (ap not (sym (refusal-number (entry d c .says .answer))) ∙ ap (λ (a : LibraryAnswer). not (ltb (a .number) 0x100)) (sym answer-is)
         ∙ and-right (transferOpen (tagOf s) && frame) unrefused h)
 
-    shut-answer : libraryStruck step s m c ≡ true → answerBy (step s m c) ≡ inNumber (spoken (shutReply (d .tag) (d .tag .air) (c .frame)) (c .buffer))
-    shut-answer h = answer-is ∙ ap (λ (e : Done). inNumber (e .says)) (struck-is d c (b .fits) (is-struck h))
+    shut-answer : libraryStruck step s m c ≡ true → answerBy (step s m c) ≡ inNumber (callReply (shutReply (d .tag) (d .tag .air) (c .frame)) (c .buffer))
+    shut-answer h = answer-is ∙ ap (λ (e : DeviceResult). inNumber (e .says)) (struck-is d c (b .fits) (is-struck h))
 
   buffers : (cs : List Call) (start : Tag) (s m : List ℕ) (d : Device) → Beside s m d cs
       → EachLibraryStruck step (NumberShut step) start s m cs → EachLibraryStruck step (AnswerShut step) start s m cs
@@ -114,7 +114,7 @@ module _ (step : LibraryStep) where
   buffers (c ∷ cs) start s m d b (h, hs) = (
     λ t.
         let e = shut-answer c cs s m d b t in
-        e ∙ by-number _ _ _ (c .buffer) (ap (λ (a : Numbered). a .number) (sym e) ∙ h t),
+        e ∙ by-number _ _ _ (c .buffer) (ap (λ (a : LibraryAnswer). a .number) (sym e) ∙ h t),
     buffers cs (startAfter start (tagOf s)) (step s m c .state) (step s m c .memory) (entry d c .device) (next c cs s m d b) hs,
   )
 

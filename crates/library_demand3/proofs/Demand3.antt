@@ -12,24 +12,24 @@ use Rattle.state.proofs.Again.{encodes-decoded}
 use Rattle.state.proofs.Decoded.{decoded-fits}
 use Rattle.model.specs.Step.{transferOpen, tagInRange}
 use Rattle.waiting.specs.Calls.{Call, Device, device, entry, runBy}
-use Rattle.waiting.specs.Waiting.{closed, waitRun}
+use Rattle.waiting.specs.Waiting.{noTransfer, waitRun}
 use Rattle.waiting.specs.Claim.{framesFit, isClosed}
 use Rattle.waiting.proofs.Demand3.{demand-3, ends-alike}
-use Rattle.library_demand3.specs.Calls.{exported, LibraryRan, libraryRun}
+use Rattle.library_demand3.specs.Calls.{exported, LibraryRunResult, libraryRun}
 use Rattle.library_demand3.specs.Claim.{inBytes, EachLibraryStruck, LibraryShut, LibraryAgrees, Starts, LibraryDemand3, LibraryEndsAlike}
 use Rattle.library_demand3.proofs.Striking.{library-striking-follows}
 use Rattle.library_demand3.proofs.Lists.{Good, run-is, run-good, all-shut-is}
 
 -- from a tag's bytes
 agrees : (d : Device) (cs : List Call) → Good d → tagInRange (d .tag) (d .memory) ≡ true → length (d .memory) ≡ memoryBytes → framesFit cs ≡ true
-    → transferOpen (d .tag) ≡ false → isClosed (waitRun (closed [] d) cs) ≡ true → LibraryAgrees exported (bytesOf (d .tag)) (d .memory) cs
+    → transferOpen (d .tag) ≡ false → isClosed (waitRun (noTransfer [] d) cs) ≡ true → LibraryAgrees exported (bytesOf (d .tag)) (d .memory) cs
 unfolding inBytes
 agrees d cs g range size frames shut end =
     let a = demand-3 d cs range size frames shut end in
     let back = sym (decodes-encoded (d .tag) (g .fits) .1) in
     let all = subst (λ (t : Tag). EachLibraryStruck exported (LibraryShut exported) t (bytesOf (d .tag)) (d .memory) cs) back (all-shut-is cs (d .tag) d frames g (a .shut)) in
     record {
-      same = run-is cs d frames g ∙ ap inBytes (sym (a .same)) ∙ ap (λ (t : Tag). inBytes (waitRun (closed [] (device t (d .memory))) cs)) back;
+      same = run-is cs d frames g ∙ ap inBytes (sym (a .same)) ∙ ap (λ (t : Tag). inBytes (waitRun (noTransfer [] (device t (d .memory))) cs)) back;
       striking = library-striking-follows exported (tagOf (bytesOf (d .tag))) (bytesOf (d .tag)) (d .memory) cs all;
       shut = all;
     }
@@ -50,7 +50,7 @@ library-ends-alike s m cs t frames end =
     let d = device (tagOf s) m in
     let g = good s m t in
     let state : libraryRun exported s m cs .state ≡ bytesOf (runBy entry d cs .device .tag) =
-    ap (λ (x : List ℕ). libraryRun exported x m cs .state) (sym (encodes-decoded s (t .state) (t .whole))) ∙ ap (λ (r : LibraryRan). r .state) (run-is cs d frames g) in
+    ap (λ (x : List ℕ). libraryRun exported x m cs .state) (sym (encodes-decoded s (t .state) (t .whole))) ∙ ap (λ (r : LibraryRunResult). r .state) (run-is cs d frames g) in
     ends-alike d cs (t .range) (t .size) frames (t .shut)
     (ap transferOpen (sym (decodes-encoded (runBy entry d cs .device .tag) (run-good cs d frames g .fits) .1))
     ∙ ap (λ (x : List ℕ). transferOpen (tagOf x)) (sym state) ∙ end)

@@ -24,7 +24,7 @@ use Rattle.state.proofs.Decoded.{eight-run}
 use Rattle.model.specs.declared.Answer.the-variants.{Nothing}
 use Rattle.model.specs.Step.{number, transferOpen, tagInRange, freshOf}
 use Rattle.model.proofs.Kept.{fresh-fits}
-use Rattle.capi.specs.Interface.{refusalNumber, answerNumber, isRefused, stateAfter, Made, made, freshCall}
+use Rattle.capi.specs.Interface.{refusalNumber, answerNumber, isRefused, stateAfter, FreshCallResult, freshCallResult, freshCall}
 use Rattle.library_demand3.specs.Claim.{Starts, FreshStarts}
 
 -- ---- what the call leaves
@@ -36,15 +36,15 @@ fresh u = freshTag (uidAt u 0)
 
 -- by the model, with memory of the right length
 served : (u m s : List ℕ) → not (eqb (length m) memoryBytes) ≡ false
-    → (let e = freshOf (uidAt u 0) m in made (answerNumber (e .answer)) (stateAfter s (e .answer) (e .tag)) (e .memory)) ≡ made (answerNumber Nothing) (bytesOf (fresh u)) zeros
+    → (let e = freshOf (uidAt u 0) m in freshCallResult (answerNumber (e .answer)) (stateAfter s (e .answer) (e .tag)) (e .memory)) ≡ freshCallResult (answerNumber Nothing) (bytesOf (fresh u)) zeros
 unfolding freshOf stateAfter isRefused pick
 served u m s h = rw h
 
 -- one that is not refused
-fresh-is : (u m s : List ℕ) → freshCall u m s .number ≡ answerNumber Nothing → freshCall u m s ≡ made (answerNumber Nothing) (bytesOf (fresh u)) zeros
+fresh-is : (u m s : List ℕ) → freshCall u m s .number ≡ answerNumber Nothing → freshCall u m s ≡ freshCallResult (answerNumber Nothing) (bytesOf (fresh u)) zeros
 unfolding freshCall refusalNumber number answerNumber
 fresh-is u m s =
-    let P : Made → Type 0 = λ c. c .number ≡ 0x100 → c ≡ made (answerNumber Nothing) (bytesOf (fresh u)) zeros in
+    let P : FreshCallResult → Type 0 = λ c. c .number ≡ 0x100 → c ≡ freshCallResult (answerNumber Nothing) (bytesOf (fresh u)) zeros in
     pick-case P (not (eqb (length m) memoryBytes)) _ _ (λ _ n. absurd (omega arith))
     (λ h. pick-case P _ _ _ (λ _ n. absurd (omega arith)) (λ _. pick-case P _ _ _ (λ _ n. absurd (omega arith)) (λ _ _. served u m s h)))
 
@@ -83,4 +83,4 @@ starts u h =
     }
 
 pub fresh-starts : FreshStarts
-fresh-starts u m s h n = subst (λ (c : Made). Starts (c .state) (c .memory)) (sym (fresh-is u m s n)) (starts u h)
+fresh-starts u m s h n = subst (λ (c : FreshCallResult). Starts (c .state) (c .memory)) (sym (fresh-is u m s n)) (starts u h)

@@ -19,7 +19,7 @@ use Rattle.signal.proofs.Bytes.{keeps-bytes}
 use Rattle.model.specs.declared.Signal.{Signal}
 use Rattle.model.specs.declared.Signal.the-variants.{Wire, Field, Frame}
 use Rattle.model.specs.Signals.{signalInRange, signalBy}
-use Rattle.model.specs.Step.{Ended, wireSide, radioSide, transferOpen, tagInRange, actOf, stepOf}
+use Rattle.model.specs.Step.{StepResult, wireSide, radioSide, transferOpen, tagInRange, actOf, stepOf}
 use Rattle.model.specs.Claims.{Fit}
 use Rattle.model.proofs.Kept.{keeps}
 use Rattle.model.proofs.Value.{sent-fits}
@@ -47,7 +47,7 @@ sent-below code value h =
     (λ _. pick-case P (eqb code 6) _ _ (λ _. omega arith) (λ _. pick-case P (eqb code 7) _ _ (λ _. omega arith) (λ _. omega arith)))))))
 
 -- ---- a signal that acts
-abbrev F : Ended → Type 0
+abbrev F : StepResult → Type 0
 F e = (Fits (e .tag)) × (areBytes (e .memory) ≡ true)
 
 module _ (t : Tag) (m o f : List ℕ) (fits : Fits t) (h : Below m) where
@@ -88,4 +88,4 @@ keeps-fits t m o code value f fits are frame =
     (λ n4.
     let fit : Fit t m = record { range = not-false (tagInRange t m) n4; size = eqb-true (length m) memoryBytes (not-false (eqb (length m) memoryBytes) n1) } in
     act-fits t m o f fits h (signalBy code value) (sent-below code value (not-false (signalInRange code value) n3)) b
-    (subst (λ (e : Ended). Fit (e .tag) (e .memory)) (acts t m o code value f n1 n2 n3 n4) (keeps t m o code value f frame fit))))))
+    (subst (λ (e : StepResult). Fit (e .tag) (e .memory)) (acts t m o code value f n1 n2 n3 n4) (keeps t m o code value f frame fit))))))

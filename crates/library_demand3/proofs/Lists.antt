@@ -17,18 +17,18 @@ use Rattle.model.specs.declared.Refusal.the-variants.{MemoryLength, ReplyShort,
 use Rattle.model.specs.declared.Answer.{Answer}
 use Rattle.model.specs.declared.Answer.the-variants.{Refused, Nothing, Ack, NoAck, Byte, Silence, Reply}
 use Rattle.model.specs.Signals.{signalBy}
-use Rattle.model.specs.Step.{Ended, number, transferOpen, stepOf}
-use Rattle.capi.specs.Interface.{refusalNumber, answerNumber, isRefused, stateAfter, Called, called}
+use Rattle.model.specs.Step.{StepResult, number, transferOpen, stepOf}
+use Rattle.capi.specs.Interface.{refusalNumber, answerNumber, isRefused, stateAfter, CallResult, callResult}
 use Rattle.capi.proofs.Refusals.{act-served}
 use Rattle.capi.proofs.Tags.{steps-the-tag}
-use Rattle.waiting.specs.Calls.{Call, Device, device, Done, Ran, entry, runBy}
+use Rattle.waiting.specs.Calls.{Call, Device, device, DeviceResult, RunResult, entry, runBy}
 use Rattle.waiting.specs.Claim.{framesFit, isRefusal, isFrame, struck, Shut, startAfter, EachStruck, AllShut}
-use Rattle.library_demand3.specs.Calls.{exported, answerBy, LibraryRan, libraryRan, libraryRun}
+use Rattle.library_demand3.specs.Calls.{exported, answerBy, LibraryRunResult, libraryRunResult, libraryRun}
 use Rattle.library_demand3.specs.Claim.{inNumber, inNumbers, libraryStruck, shutAnswer, EachLibraryStruck, LibraryShut}
 use Rattle.library_demand3.proofs.Kept.{keeps-fits}
 
 -- ---- one call
-abbrev T : Tag → Ended → Type 0
+abbrev T : Tag → StepResult → Type 0
 T t e = isRefused (e .answer) ≡ true → e .tag ≡ t
 
 -- "A refusal returns .. the state handed in"
@@ -51,15 +51,15 @@ after-is t m o code value f =
     (λ r. ap bytesOf (sym (refused-tag t m o code value f r))) (λ _. refl)
 
 -- what a call of the entry point leaves, in numbers and bytes
-abbrev pub inCalled : Done → Called
-inCalled e = called (answerNumber (e .says .answer)) (bytesOf (e .device .tag)) (e .device .memory) (e .says .buffer)
+abbrev pub inCalled : DeviceResult → CallResult
+inCalled e = callResult (answerNumber (e .says .answer)) (bytesOf (e .device .tag)) (e .device .memory) (e .says .buffer)
 
 pub step-is : (t : Tag) (m : List ℕ) (c : Call) → Fits t → exported (bytesOf t) m c ≡ inCalled (entry (device t m) c)
 unfolding exported entry
 step-is t m c f =
     let e = stepOf t m (c .buffer) (c .code) (c .value) (c .frame) in
     steps-the-tag t m (c .buffer) (c .code) (c .value) (c .frame) f
-    ∙ ap (λ (s : List ℕ). called (answerNumber (e .answer)) s (e .memory) (e .reply)) (after-is t m (c .buffer) (c .code) (c .value) (c .frame))
+    ∙ ap (λ (s : List ℕ). callResult (answerNumber (e .answer)) s (e .memory) (e .reply)) (after-is t m (c .buffer) (c .code) (c .value) (c .frame))
 
 -- ---- what goes from call to call
 pub record Good (d : Device) : Type 0 where
@@ -81,17 +81,17 @@ unfolding framesFit
 rest-frames c cs b = and-right (areBytes (c .frame)) (framesFit cs) b
 
 -- ---- the answers, and the bytes at the end
-abbrev pub inLibrary : Ran → LibraryRan
-inLibrary r = libraryRan (inNumbers (r .answers)) (bytesOf (r .device .tag)) (r .device .memory)
+abbrev pub inLibrary : RunResult → LibraryRunResult
+inLibrary r = libraryRunResult (inNumbers (r .answers)) (bytesOf (r .device .tag)) (r .device .memory)
 
 pub run-is : (cs : List Call) (d : Device) → framesFit cs ≡ true → Good d → libraryRun exported (bytesOf (d .tag)) (d .memory) cs ≡ inLibrary (runBy entry d cs)
 unfolding libraryRun runBy inNumbers
 run-is [] d b g = refl
 run-is (c ∷ cs) d b g =
     let e = entry d c in
-    ap (λ (x : Called). let r = libraryRun exported (x .state) (x .memory) cs in libraryRan (answerBy x ∷ r .answers) (r .state) (r .memory))
+    ap (λ (x : CallResult). let r = libraryRun exported (x .state) (x .memory) cs in libraryRunResult (answerBy x ∷ r .answers) (r .state) (r .memory))
     (step-is (d .tag) (d .memory) c (g .fits))
-    ∙ ap (λ (r : LibraryRan). libraryRan (inNumber (e .says) ∷ r .answers) (r .state) (r .memory))
+    ∙ ap (λ (r : LibraryRunResult). libraryRunResult (inNumber (e .says) ∷ r .answers) (r .state) (r .memory))
     (run-is cs (e .device) (rest-frames c cs b) (good-next d c (first-frame c cs b) g))
 
 -- the tag at the end fits too
@@ -123,7 +123,7 @@ unfolding libraryStruck struck
 struck-is d c g =
     let frame = isFrame (signalBy (c .code) (c .value)) in
     ap (λ (t : Tag). transferOpen t && frame && not (ltb (exported (bytesOf (d .tag)) (d .memory) c .number) 0x100)) (decoded (d .tag) (g .fits))
-    ∙ ap (λ (e : Called). transferOpen (d .tag) && frame && not (ltb (e .number) 0x100)) (step-is (d .tag) (d .memory) c (g .fits))
+    ∙ ap (λ (e : CallResult). transferOpen (d .tag) && frame && not (ltb (e .number) 0x100)) (step-is (d .tag) (d .memory) c (g .fits))
     ∙ ap (λ (b : Bool). transferOpen (d .tag) && frame && not b) (refusal-number (entry d c .says .answer))
 
 shut-answer-is : (start : Tag) (d : Device) (c : Call) → Good d → Shut entry start d c
@@ -137,8 +137,8 @@ shut-is : (start : Tag) (d : Device) (c : Call) → Good d → Shut entry start 
 shut-is start d c g h =
     let e = step-is (d .tag) (d .memory) c (g .fits) in
     record {
-      state = ap (λ (x : Called). x .state) e ∙ ap (λ (x : Device). bytesOf (x .tag)) (h .unchanged);
-      memory = ap (λ (x : Called). x .memory) e ∙ ap (λ (x : Device). x .memory) (h .unchanged);
+      state = ap (λ (x : CallResult). x .state) e ∙ ap (λ (x : Device). bytesOf (x .tag)) (h .unchanged);
+      memory = ap (λ (x : CallResult). x .memory) e ∙ ap (λ (x : Device). x .memory) (h .unchanged);
       reply = shut-answer-is start d c g h;
     }
 
@@ -154,6 +154,6 @@ all-shut-is (c ∷ cs) start d b g h =
     × EachLibraryStruck exported (LibraryShut exported) (startAfter start t) (exported s (d .memory) c .state) (exported s (d .memory) c .memory) cs)
     (sym (decoded (d .tag) (g .fits))) (
       λ t. shut-is now d c g (h .0 (sym (struck-is d c g) ∙ t)),
-      subst (λ (x : Called). EachLibraryStruck exported (LibraryShut exported) now (x .state) (x .memory) cs) (sym e)
+      subst (λ (x : CallResult). EachLibraryStruck exported (LibraryShut exported) now (x .state) (x .memory) cs) (sym e)
           (all-shut-is cs now (entry d c .device) (rest-frames c cs b) (good-next d c (first-frame c cs b) g) (h .1)),
     )

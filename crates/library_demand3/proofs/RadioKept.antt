@@ -10,8 +10,8 @@ use Rattle.tag.specs.declared.Uid.{Uid}
 use Rattle.tag.specs.declared.Passwords.{Passwords}
 use Rattle.tag.specs.Keys.{passwordAt, withRadioPassword}
 use Rattle.reply.specs.declared.RadioSide.{RadioSide}
-use Rattle.reply.specs.Reply.{Said}
-use Rattle.reply.specs.Outcome.{Told, told}
+use Rattle.reply.specs.Reply.{ReplyBody}
+use Rattle.reply.specs.Outcome.{CommandResult, commandResult}
 use Rattle.frame.specs.declared.Verdict.{Verdict}
 use Rattle.frame.specs.declared.Verdict.the-variants.{Silence, Error, Request}
 use Rattle.frame.specs.Judge.{judge}
@@ -19,10 +19,10 @@ use Rattle.blocks.specs.Blocks.{readOf, statusReply}
 use Rattle.block_writes.specs.Writes.{writeOf, lockOf}
 use Rattle.config.specs.Config.{writtenCore, readConfigOf, writeConfigOf, readDynamicOf, writeDynamicOf}
 use Rattle.message.specs.Message.{writeMessageOf, lengthOf, readMessageOf}
-use Rattle.password.specs.Password.{presentOf, writePasswordOf, quietOf, selectOf, resetOf}
-use Rattle.radio.specs.declared.Request.{Request as Fields}
+use Rattle.password.specs.Password.{presentOf, writePasswordOf, stayQuietOf, selectUidOf, resetToReadyOf}
+use Rattle.radio.specs.declared.RequestFields.{RequestFields}
 use Rattle.radio.specs.Commands.{requestOf, serveOf}
-use Rattle.radio.specs.Radio.{answered, radioOf}
+use Rattle.radio.specs.Radio.{verdictResult, radioOf}
 use Rattle.state.specs.Claims.{PasswordsFit}
 use Rattle.state.proofs.Decoded.{eight-run}
 
@@ -37,16 +37,16 @@ radio-fits n p s at h f =
     (λ _. pick-case PasswordsFit _ _ _ (λ _. record { i2c = f .i2c; rf0 = f .rf0; rf1 = f .rf1; rf2 = f .rf2; rf3 = x }) (λ _. f))))
 
 -- ---- a command
-pub record Sound (d : Told) : Type 0 where
+pub record Sound (d : CommandResult) : Type 0 where
   pub passwords : PasswordsFit (d .side .core .passwords)
   pub memory : Below (d .memory)
 
 module _ (t : RadioSide) (m : List ℕ) (p : PasswordsFit (t .core .passwords)) (h : Below m) where
   -- the passwords and the memory as they were, whatever else changed
-  same : (r : Said) (x : RadioSide) → PasswordsFit (x .core .passwords) → Sound (told r x m)
+  same : (r : ReplyBody) (x : RadioSide) → PasswordsFit (x .core .passwords) → Sound (commandResult r x m)
   same r x q = record { passwords = q; memory = h }
 
-  stored : (r : Said) (x : RadioSide) (at : ℕ) (bs : List ℕ) → PasswordsFit (x .core .passwords) → Below bs → Sound (told r x (sets m at bs))
+  stored : (r : ReplyBody) (x : RadioSide) (at : ℕ) (bs : List ℕ) → PasswordsFit (x .core .passwords) → Below bs → Sound (commandResult r x (sets m at bs))
   stored r x at bs q b = record { passwords = q; memory = sets-below bs m at b h }
 
   read-sound : (option : Bool) (first more : ℕ) → Sound (readOf t m option first more)
@@ -110,20 +110,20 @@ module _ (t : RadioSide) (m : List ℕ) (p : PasswordsFit (t .core .passwords)) 
       pick-case Sound _ _ _ (λ _. same _ t p)
       (λ _. pick-case Sound _ _ _ (λ _. same _ t p) (λ _. same _ _ (radio-fits n (t .core .passwords) s at b p)))
 
-  quiet-sound : Sound (quietOf t m)
-  unfolding quietOf
+  quiet-sound : Sound (stayQuietOf t m)
+  unfolding stayQuietOf
   quiet-sound = same _ _ p
 
-  reset-sound : Sound (resetOf t m)
-  unfolding resetOf
+  reset-sound : Sound (resetToReadyOf t m)
+  unfolding resetToReadyOf
   reset-sound = same _ _ p
 
-  select-sound : (own : Bool) → Sound (selectOf t m own)
-  unfolding selectOf
+  select-sound : (own : Bool) → Sound (selectUidOf t m own)
+  unfolding selectUidOf
   select-sound own = pick-case Sound own _ _ (λ _. same _ _ p) (λ _. same _ _ p)
 
   -- ---- the table, and a frame
-  serve-sound : (q : Fields) (vcc : Bool) (s : List ℕ) → Below s → Sound (serveOf q t vcc m s)
+  serve-sound : (q : RequestFields) (vcc : Bool) (s : List ℕ) → Below s → Sound (serveOf q t vcc m s)
   unfolding serveOf
   serve-sound q vcc s b =
       pick-case Sound _ _ _ (λ _. quiet-sound)
@@ -145,8 +145,8 @@ module _ (t : RadioSide) (m : List ℕ) (p : PasswordsFit (t .core .passwords)) 
       (λ _. pick-case Sound _ _ _ (λ _. present-sound (q .first) s (q .at + 1))
       (λ _. pick-case Sound _ _ _ (λ _. password-sound (q .first) s (q .at + 1) b) (λ _. same _ t p))))))))))))))))))
 
-  answer-sound : (v : Verdict) (u : Uid) (vcc : Bool) (s : List ℕ) → Below s → Sound (answered v t u vcc m s)
-  unfolding answered
+  answer-sound : (v : Verdict) (u : Uid) (vcc : Bool) (s : List ℕ) → Below s → Sound (verdictResult v t u vcc m s)
+  unfolding verdictResult
   answer-sound Silence u vcc s b = same _ t p
   answer-sound (Error code) u vcc s b = same _ t p
   answer-sound Request u vcc s b = serve-sound (requestOf s u) vcc s b

@@ -7,21 +7,21 @@ use Rattle.parts.specs.Pick.{pick}
 use Rattle.state.specs.Layout.{tagOf}
 use Rattle.waiting.specs.Calls.{Call}
 use Rattle.waiting.specs.Claim.{startAfter}
-use Rattle.library_demand3.specs.Calls.{LibraryStep, Numbered, answerBy, LibraryRan, libraryRan, libraryRun}
+use Rattle.library_demand3.specs.Calls.{LibraryStep, LibraryAnswer, answerBy, LibraryRunResult, libraryRunResult, libraryRun}
 use Rattle.library_demand3.specs.Claim.{libraryStruck, libraryOthers, libraryOtherAnswers, EachLibraryStruck}
 use Rattle.library_demand3.specs.Follows.{LibraryStrikingFollows}
 
-module _ (step : LibraryStep) (s m : List ℕ) (c : Call) (rest : List Call) (said : List Numbered) (s′ m′ : List ℕ) where
+module _ (step : LibraryStep) (s m : List ℕ) (c : Call) (rest : List Call) (said : List LibraryAnswer) (s′ m′ : List ℕ) where
   -- `rest` are the calls left of the others, `said` their answers
   by-test : (b : Bool) → (b ≡ true → (step s m c .state ≡ s) × (step s m c .memory ≡ m))
-      → libraryRun step (step s m c .state) (step s m c .memory) rest ≡ libraryRan said s′ m′
-      → libraryRun step s m (pick b rest (c ∷ rest)) ≡ libraryRan (pick b said (answerBy (step s m c) ∷ said)) s′ m′
+      → libraryRun step (step s m c .state) (step s m c .memory) rest ≡ libraryRunResult said s′ m′
+      → libraryRun step s m (pick b rest (c ∷ rest)) ≡ libraryRunResult (pick b said (answerBy (step s m c) ∷ said)) s′ m′
   unfolding pick libraryRun
   by-test true h r =
-      subst (λ (x : List ℕ). libraryRun step x m rest ≡ libraryRan said s′ m′) (h refl .0)
-      (subst (λ (x : List ℕ). libraryRun step (step s m c .state) x rest ≡ libraryRan said s′ m′) (h refl .1) r)
+      subst (λ (x : List ℕ). libraryRun step x m rest ≡ libraryRunResult said s′ m′) (h refl .0)
+      (subst (λ (x : List ℕ). libraryRun step (step s m c .state) x rest ≡ libraryRunResult said s′ m′) (h refl .1) r)
   by-test false h r =
-      ap (λ (x : LibraryRan). libraryRan (answerBy (step s m c) ∷ x .answers) (x .state) (x .memory)) r
+      ap (λ (x : LibraryRunResult). libraryRunResult (answerBy (step s m c) ∷ x .answers) (x .state) (x .memory)) r
 
 pub library-striking-follows : LibraryStrikingFollows
 unfolding EachLibraryStruck libraryOthers libraryOtherAnswers libraryRun

@@ -18,12 +18,12 @@ use Rattle.tag.specs.Bus.{isOpen}
 use Rattle.tag.specs.Keys.{passwordAt, samePassword, withI2cPassword}
 use Rattle.tag.specs.Supply.{vccAt}
 use Rattle.rule.specs.declared.Choice.{Choice}
-use Rattle.rule.specs.declared.Choice.the-variants.{Refused, Reading, Writing}
+use Rattle.rule.specs.declared.Choice.the-variants.{NotAcked, Reading, Writing}
 use Rattle.rule.specs.PageRange.{page}
-use Rattle.leg.specs.Effect.{Left, Due, none, clears, writes, started, stopped, settle, legWritten, userWritten, systemWritten, passwordWritten}
-use Rattle.signal.specs.declared.Signal.{Signal}
-use Rattle.signal.specs.declared.Signal.the-variants.{Start, Send, Fetch, Stop, Vcc, ProgrammingEnd}
-use Rattle.signal.specs.Signal.{Ended, sideBus, dueOf, startAt, startOf, stopAt, selectBy, dataOf, sendAt, fetchAt, signalOf}
+use Rattle.leg.specs.Effect.{LegResult, Due, nothingDue, clears, writes, started, stopped, settle, legWritten, userWritten, systemWritten, passwordWritten}
+use Rattle.signal.specs.declared.WireSignal.{WireSignal}
+use Rattle.signal.specs.declared.WireSignal.the-variants.{Start, Send, Fetch, Stop, Vcc, ProgrammingEnd}
+use Rattle.signal.specs.Signal.{WireResult, sideBus, dueOf, startAt, startOf, stopAt, selectBy, dataOf, sendAt, fetchAt, signalOf}
 use Rattle.signal.specs.Claims.{sentByte}
 use Rattle.state.specs.Claims.{PasswordsFit}
 use Rattle.state.proofs.Decoded.{eight-run}
@@ -46,7 +46,7 @@ i2c-fits : (p : Passwords) (s : List ℕ) (at : ℕ) → Below s → PasswordsFi
 i2c-fits p s at h f = record { i2c = eight-run s at h; rf0 = f .rf0; rf1 = f .rf1; rf2 = f .rf2; rf3 = f .rf3 }
 
 -- ---- the end of a leg: the bus stays
-abbrev L : Left → Type 0
+abbrev L : LegResult → Type 0
 L d = Sound (d .side)
 
 module _ (w : WireSide) (m : List ℕ) (f : Sound w) where
@@ -72,7 +72,7 @@ module _ (w : WireSide) (m : List ℕ) (f : Sound w) where
 
   start-sound : (d : Due) → L (settle started d w m)
   unfolding settle
-  start-sound none = f
+  start-sound nothingDue = f
   start-sound clears = record { high = f .high; passwords = f .passwords }
   start-sound (writes s at bs) = f
 
@@ -81,14 +81,14 @@ module _ (w : WireSide) (m : List ℕ) (f : Sound w) where
   stop-sound Idle c h = f
   stop-sound (Started o) c h = f
   stop-sound (ReadLeg s over last) c h =
-      pick-case (λ (d : Due). L (settle stopped d w m)) last clears none (λ t. record { high = f .high; passwords = f .passwords }) (λ t. f)
+      pick-case (λ (d : Due). L (settle stopped d w m)) last clears nothingDue (λ t. record { high = f .high; passwords = f .passwords }) (λ t. f)
   stop-sound (WriteLeg s) c h = f
   stop-sound (LowAddress s y) c h = f
   stop-sound (DataLeg s n spoiled) c h =
-      pick-case (λ (d : Due). L (settle stopped d w m)) _ none _ (λ t. f) (λ t. leg-sound s _ (page n m) (run-below m 768 n h))
+      pick-case (λ (d : Due). L (settle stopped d w m)) _ nothingDue _ (λ t. f) (λ t. leg-sound s _ (page n m) (run-below m 768 n h))
 
 -- ---- a signal
-abbrev E : Ended → Type 0
+abbrev E : WireResult → Type 0
 E e = Sound (e .side)
 
 module _ (w : WireSide) (m : List ℕ) (f : Sound w) where
@@ -98,7 +98,7 @@ module _ (w : WireSide) (m : List ℕ) (f : Sound w) where
 
   select-sound : (c : Choice) → E (selectBy c w m)
   unfolding selectBy highByteOf
-  select-sound Refused = on-bus Idle (omega arith)
+  select-sound NotAcked = on-bus Idle (omega arith)
   select-sound (Reading s) = on-bus (ReadLeg s false false) (omega arith)
   select-sound (Writing s) = on-bus (WriteLeg s) (omega arith)
 
@@ -130,7 +130,7 @@ module _ (w : WireSide) (m : List ℕ) (f : Sound w) where
       pick-case Sound on _ _ (λ t. pick-case Sound (w .host .vcc) _ _ (λ v. f) (λ v. record { high = f .high; passwords = f .passwords }))
       (λ t. pick-case Sound (w .host .vcc) _ _ (λ v. record { high = omega arith; passwords = f .passwords }) (λ v. f))
 
-pub wire-sound : (w : WireSide) (u : Uid) (m : List ℕ) (s : Signal) → sentByte s < 256 → Below m → Sound w → Sound (signalOf w u m s .side)
+pub wire-sound : (w : WireSide) (u : Uid) (m : List ℕ) (s : WireSignal) → sentByte s < 256 → Below m → Sound w → Sound (signalOf w u m s .side)
 unfolding signalOf startOf startAt stopAt sentByte highByteOf
 wire-sound w u m Start p h f =
     pick-case E (w .host .vcc) _ _

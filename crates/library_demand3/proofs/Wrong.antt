@@ -16,30 +16,30 @@ use Rattle.tag.specs.Radio.{isSelected}
 use Rattle.tag.specs.Supply.{freshTag}
 use Rattle.state.specs.Layout.{flagByte, radioNumber, radioStateOf, spaceNumber, spaceOf, airBytes, airDecodes, airAt, busBytes, isBus, busOf, busDecodes, busAt, hostBytes, hostDecodes, hostAt, registerBytes, registersAt, mailboxBytes, mailboxDecodes, mailboxAt, passwordBytes, passwordsAt, bytesOf, decodes, tagOf}
 use Rattle.model.specs.Step.{transferOpen, tagInRange}
-use Rattle.transfer.specs.Legs.{isRefused, ends, fresher, isEmpty, finished, push, parse}
-use Rattle.transfer.specs.Whole.{bytesSent, replies, accepted, writeLeg, selected, legOf, lastLeg, legsOf, transferOf}
+use Rattle.transfer.specs.Legs.{selectRefused, ends, fresher, isEmpty, finished, push, parse}
+use Rattle.transfer.specs.Whole.{bytesSent, replies, accepted, writeLeg, selectedLeg, legOf, lastLeg, legsOf, transferOf}
 use Rattle.capi.specs.Interface.{refusalNumber, answerNumber, isRefused as isAnswerRefused, stateAfter, stepCall}
 use Rattle.waiting.specs.Calls.{Call, Device, device}
 use Rattle.waiting.specs.Examples.{zeros, fieldTo, send, stop, programmingEnd, frame, uid, powered, _but_, radioState, radioSession, i2cSession, beingProgrammed, onBus, hostMessage}
 use Rattle.waiting.specs.Waiting.{fill, answered, isStarted, ackedSelect, whenClosed, note, frameAnswer, whenOpen, waitAct, waitStep, waitRun}
 use Rattle.waiting.specs.Claim.{framesFit, isFrame, isClosed}
 use Rattle.waiting.proofs.Computes.{computes}
-use Rattle.library_demand3.specs.Calls.{Numbered, LibraryRan, exported, libraryRun}
+use Rattle.library_demand3.specs.Calls.{LibraryAnswer, LibraryRunResult, exported, libraryRun}
 use Rattle.library_demand3.specs.Claim.{inNumbers, inBytes, libraryStruck, EachLibraryStruck, LibrarySame, Starts}
 use Rattle.library_demand3.specs.Wrong.{LibraryRefuted, acksStop, refusesBy3, raisesReply, writesPast, leavesTrace, keepsState, coded, decoded, codesSession, dropsPageByte, supplied, marksState, restored, marksMemory, turned, turnsField, wrongWhere}
 
 -- all that a run of the library's calls, and the waiting tag's, computes with
 unfoldable runs : Unit {0}
-unfolding computes flagByte radioNumber radioStateOf spaceNumber spaceOf airBytes airDecodes airAt busBytes isBus busOf busDecodes busAt hostBytes hostDecodes hostAt registerBytes registersAt mailboxBytes mailboxDecodes mailboxAt passwordBytes passwordsAt bytesOf decodes tagOf isRefused ends fresher isEmpty finished push parse bytesSent replies accepted writeLeg selected legOf lastLeg legsOf transferOf refusalNumber answerNumber isAnswerRefused stateAfter stepCall fill answered isStarted ackedSelect whenClosed note frameAnswer whenOpen waitAct waitStep waitRun framesFit isFrame isClosed exported libraryRun inNumbers inBytes libraryStruck EachLibraryStruck
+unfolding computes flagByte radioNumber radioStateOf spaceNumber spaceOf airBytes airDecodes airAt busBytes isBus busOf busDecodes busAt hostBytes hostDecodes hostAt registerBytes registersAt mailboxBytes mailboxDecodes mailboxAt passwordBytes passwordsAt bytesOf decodes tagOf selectRefused ends fresher isEmpty finished push parse bytesSent replies accepted writeLeg selectedLeg legOf lastLeg legsOf transferOf refusalNumber answerNumber isAnswerRefused stateAfter stepCall fill answered isStarted ackedSelect whenClosed note frameAnswer whenOpen waitAct waitStep waitRun framesFit isFrame isClosed exported libraryRun inNumbers inBytes libraryStruck EachLibraryStruck
 runs = tt
 
 -- ---- what is compared: of the last answer its number, and byte i of its buffer
-unfoldable lastNumber : List Numbered → ℕ
+unfoldable lastNumber : List LibraryAnswer → ℕ
 lastNumber [] = 0
 lastNumber (a ∷ []) = a .number
 lastNumber (a ∷ b ∷ s) = lastNumber (b ∷ s)
 
-unfoldable lastByte : ℕ → List Numbered → ℕ
+unfoldable lastByte : ℕ → List LibraryAnswer → ℕ
 lastByte i [] = 0
 lastByte i (a ∷ []) = getD (a .buffer) i 0
 lastByte i (a ∷ b ∷ s) = lastByte i (b ∷ s)
@@ -74,53 +74,53 @@ framed = send 0xA6 ∷ read ∷ stop ∷ []
 pub acks-stop-refuted : LibraryRefuted acksStop
 unfolding runs acksStop lastNumber
 acks-stop-refuted h =
-    let f : _≡_ {A = ℕ} 0x101 0x100 = ap (λ (r : LibraryRan). lastNumber (r .answers)) (h (bytes powered) (powered .memory) (stop ∷ []) (starts refl refl refl refl refl refl) refl refl .same) in
+    let f : _≡_ {A = ℕ} 0x101 0x100 = ap (λ (r : LibraryRunResult). lastNumber (r .answers)) (h (bytes powered) (powered .memory) (stop ∷ []) (starts refl refl refl refl refl refl) refl refl .same) in
     omega arith
 
 pub refuses-by-3-refuted : LibraryRefuted refusesBy3
 unfolding runs refusesBy3 lastNumber
 refuses-by-3-refuted h =
-    let f : _≡_ {A = ℕ} 3 2 = ap (λ (r : LibraryRan). lastNumber (r .answers)) (h (bytes powered) (powered .memory) (unbuffered ∷ []) (starts refl refl refl refl refl refl) refl refl .same) in
+    let f : _≡_ {A = ℕ} 3 2 = ap (λ (r : LibraryRunResult). lastNumber (r .answers)) (h (bytes powered) (powered .memory) (unbuffered ∷ []) (starts refl refl refl refl refl refl) refl refl .same) in
     omega arith
 
 -- ---- `same`: the reply buffers
 pub raises-reply-refuted : LibraryRefuted raisesReply
 unfolding runs raisesReply lastByte
 raises-reply-refuted h =
-    let f : _≡_ {A = ℕ} 1 0 = ap (λ (r : LibraryRan). lastByte 1 (r .answers)) (h (bytes powered) (powered .memory) (read ∷ []) (starts refl refl refl refl refl refl) refl refl .same) in
+    let f : _≡_ {A = ℕ} 1 0 = ap (λ (r : LibraryRunResult). lastByte 1 (r .answers)) (h (bytes powered) (powered .memory) (read ∷ []) (starts refl refl refl refl refl refl) refl refl .same) in
     omega arith
 
 pub writes-past-refuted : LibraryRefuted writesPast
 unfolding runs writesPast lastByte
 writes-past-refuted h =
-    let f : _≡_ {A = ℕ} 1 0 = ap (λ (r : LibraryRan). lastByte 642 (r .answers)) (h (bytes powered) (powered .memory) (read ∷ []) (starts refl refl refl refl refl refl) refl refl .same) in
+    let f : _≡_ {A = ℕ} 1 0 = ap (λ (r : LibraryRunResult). lastByte 642 (r .answers)) (h (bytes powered) (powered .memory) (read ∷ []) (starts refl refl refl refl refl refl) refl refl .same) in
     omega arith
 
 -- refuted here by `shut`; `same` sees it too
 pub leaves-trace-refuted : LibraryRefuted leavesTrace
 unfolding runs leavesTrace
 leaves-trace-refuted h =
-    let f : _≡_ {A = ℕ} 1 0 = ap (λ (a : Numbered). getD (a .buffer) 642 0) (h (bytes awaiting) (awaiting .memory) framed (starts refl refl refl refl refl refl) refl refl .shut .1 .0 refl .reply) in
+    let f : _≡_ {A = ℕ} 1 0 = ap (λ (a : LibraryAnswer). getD (a .buffer) 642 0) (h (bytes awaiting) (awaiting .memory) framed (starts refl refl refl refl refl refl) refl refl .shut .1 .0 refl .reply) in
     omega arith
 
 -- ---- `same`: the bytes at the end
 pub keeps-state-refuted : LibraryRefuted keepsState
 unfolding runs keepsState
 keeps-state-refuted h =
-    let f : _≡_ {A = ℕ} 1 0 = ap (λ (r : LibraryRan). getD (r .state) 0 0) (h (bytes powered) (powered .memory) (fieldTo 0 ∷ []) (starts refl refl refl refl refl refl) refl refl .same) in
+    let f : _≡_ {A = ℕ} 1 0 = ap (λ (r : LibraryRunResult). getD (r .state) 0 0) (h (bytes powered) (powered .memory) (fieldTo 0 ∷ []) (starts refl refl refl refl refl refl) refl refl .same) in
     omega arith
 
 pub codes-session-refuted : LibraryRefuted codesSession
 unfolding runs codesSession coded decoded
 codes-session-refuted h =
     let d = powered but i2cSession in
-    let f : _≡_ {A = ℕ} 2 1 = ap (λ (r : LibraryRan). getD (r .state) 4 0) (h (bytes d) (d .memory) (stop ∷ []) (starts refl refl refl refl refl refl) refl refl .same) in
+    let f : _≡_ {A = ℕ} 2 1 = ap (λ (r : LibraryRunResult). getD (r .state) 4 0) (h (bytes d) (d .memory) (stop ∷ []) (starts refl refl refl refl refl refl) refl refl .same) in
     omega arith
 
 pub drops-page-byte-refuted : LibraryRefuted dropsPageByte
 unfolding runs dropsPageByte
 drops-page-byte-refuted h =
-    let f : _≡_ {A = ℕ} 0 1 = ap (λ (r : LibraryRan). getD (r .memory) 768 0) (h (bytes awaiting) (awaiting .memory) (send 0xA6 ∷ send 0 ∷ send 0 ∷ send 1 ∷ stop ∷ []) (starts refl refl refl refl refl refl) refl refl .same) in
+    let f : _≡_ {A = ℕ} 0 1 = ap (λ (r : LibraryRunResult). getD (r .memory) 768 0) (h (bytes awaiting) (awaiting .memory) (send 0xA6 ∷ send 0 ∷ send 0 ∷ send 1 ∷ stop ∷ []) (starts refl refl refl refl refl refl) refl refl .same) in
     omega arith
 
 -- ---- `shut`
@@ -153,7 +153,7 @@ turns-field-same = refl
 pub turns-field-refuted : LibraryRefuted turnsField
 unfolding runs turnsField turned
 turns-field-refuted h =
-    let f : _≡_ {A = ℕ} 0x1004 0x103 = ap (λ (a : Numbered). a .number) (h (bytes awaiting) (awaiting .memory) framed (starts refl refl refl refl refl refl) refl refl .shut .1 .0 refl .reply) in
+    let f : _≡_ {A = ℕ} 0x1004 0x103 = ap (λ (a : LibraryAnswer). a .number) (h (bytes awaiting) (awaiting .memory) framed (starts refl refl refl refl refl refl) refl refl .shut .1 .0 refl .reply) in
     omega arith
 
 -- ---- the start
@@ -161,47 +161,47 @@ pub i2c-session-refuted : LibraryRefuted (wrongWhere (λ (t : Tag). t .host .ses
 unfolding runs wrongWhere lastNumber
 i2c-session-refuted h =
     let d = powered but i2cSession in
-    let f : _≡_ {A = ℕ} 0x101 0x100 = ap (λ (r : LibraryRan). lastNumber (r .answers)) (h (bytes d) (d .memory) (programmingEnd ∷ []) (starts refl refl refl refl refl refl) refl refl .same) in
+    let f : _≡_ {A = ℕ} 0x101 0x100 = ap (λ (r : LibraryRunResult). lastNumber (r .answers)) (h (bytes d) (d .memory) (programmingEnd ∷ []) (starts refl refl refl refl refl refl) refl refl .same) in
     omega arith
 
 pub programming-refuted : LibraryRefuted (wrongWhere (λ (t : Tag). t .host .programming))
 unfolding runs wrongWhere lastNumber
 programming-refuted h =
     let d = powered but beingProgrammed in
-    let f : _≡_ {A = ℕ} 0x101 0x100 = ap (λ (r : LibraryRan). lastNumber (r .answers)) (h (bytes d) (d .memory) (programmingEnd ∷ []) (starts refl refl refl refl refl refl) refl refl .same) in
+    let f : _≡_ {A = ℕ} 0x101 0x100 = ap (λ (r : LibraryRunResult). lastNumber (r .answers)) (h (bytes d) (d .memory) (programmingEnd ∷ []) (starts refl refl refl refl refl refl) refl refl .same) in
     omega arith
 
 pub selected-refuted : LibraryRefuted (wrongWhere (λ (t : Tag). isSelected (t .air .radio)))
 unfolding runs wrongWhere lastNumber
 selected-refuted h =
     let d = powered but radioState Selected in
-    let f : _≡_ {A = ℕ} 0x101 0x100 = ap (λ (r : LibraryRan). lastNumber (r .answers)) (h (bytes d) (d .memory) (programmingEnd ∷ []) (starts refl refl refl refl refl refl) refl refl .same) in
+    let f : _≡_ {A = ℕ} 0x101 0x100 = ap (λ (r : LibraryRunResult). lastNumber (r .answers)) (h (bytes d) (d .memory) (programmingEnd ∷ []) (starts refl refl refl refl refl refl) refl refl .same) in
     omega arith
 
 pub radio-session-refuted : LibraryRefuted (wrongWhere (λ (t : Tag). not (eqb (t .air .session) 0)))
 unfolding runs wrongWhere lastNumber
 radio-session-refuted h =
     let d = powered but radioSession 1 in
-    let f : _≡_ {A = ℕ} 0x101 0x100 = ap (λ (r : LibraryRan). lastNumber (r .answers)) (h (bytes d) (d .memory) (programmingEnd ∷ []) (starts refl refl refl refl refl refl) refl refl .same) in
+    let f : _≡_ {A = ℕ} 0x101 0x100 = ap (λ (r : LibraryRunResult). lastNumber (r .answers)) (h (bytes d) (d .memory) (programmingEnd ∷ []) (starts refl refl refl refl refl refl) refl refl .same) in
     omega arith
 
 pub started-refuted : LibraryRefuted (wrongWhere (λ (t : Tag). isActive (t .host .bus)))
 unfolding runs wrongWhere lastNumber
 started-refuted h =
     let d = awaiting in
-    let f : _≡_ {A = ℕ} 0x101 0x100 = ap (λ (r : LibraryRan). lastNumber (r .answers)) (h (bytes d) (d .memory) (programmingEnd ∷ []) (starts refl refl refl refl refl refl) refl refl .same) in
+    let f : _≡_ {A = ℕ} 0x101 0x100 = ap (λ (r : LibraryRunResult). lastNumber (r .answers)) (h (bytes d) (d .memory) (programmingEnd ∷ []) (starts refl refl refl refl refl refl) refl refl .same) in
     omega arith
 
 pub message-refuted : LibraryRefuted (wrongWhere (λ (t : Tag). ltb 0 (t .core .mailbox .length)))
 unfolding runs wrongWhere lastNumber
 message-refuted h =
     let d = powered but hostMessage 1 true in
-    let f : _≡_ {A = ℕ} 0x101 0x100 = ap (λ (r : LibraryRan). lastNumber (r .answers)) (h (bytes d) (d .memory) (programmingEnd ∷ []) (starts refl refl refl refl refl refl) refl refl .same) in
+    let f : _≡_ {A = ℕ} 0x101 0x100 = ap (λ (r : LibraryRunResult). lastNumber (r .answers)) (h (bytes d) (d .memory) (programmingEnd ∷ []) (starts refl refl refl refl refl refl) refl refl .same) in
     omega arith
 
 pub unsupplied-refuted : LibraryRefuted (wrongWhere (λ (t : Tag). not (t .host .vcc)))
 unfolding runs wrongWhere lastNumber
 unsupplied-refuted h =
     let d = device (freshTag uid) (zeros memoryBytes) in
-    let f : _≡_ {A = ℕ} 0x101 0x100 = ap (λ (r : LibraryRan). lastNumber (r .answers)) (h (bytes d) (d .memory) (programmingEnd ∷ []) (starts refl refl refl refl refl refl) refl refl .same) in
+    let f : _≡_ {A = ℕ} 0x101 0x100 = ap (λ (r : LibraryRunResult). lastNumber (r .answers)) (h (bytes d) (d .memory) (programmingEnd ∷ []) (starts refl refl refl refl refl refl) refl refl .same) in
     omega arith

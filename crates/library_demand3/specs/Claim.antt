@@ -15,23 +15,23 @@ use Rattle.model.specs.declared.Answer.the-variants.{Nothing}
 use Rattle.model.specs.Signals.{signalBy}
 use Rattle.model.specs.Step.{transferOpen, tagInRange}
 use Rattle.capi.specs.Interface.{answerNumber, freshCall}
-use Rattle.waiting.specs.Calls.{Call, Said, device}
-use Rattle.waiting.specs.Waiting.{Waiting, closed, inside, waitRun}
-use Rattle.waiting.specs.Claim.{framesFit, isFrame, shutReply, spoken, startAfter, isClosed}
-use Rattle.library_demand3.specs.Calls.{LibraryStep, exported, Numbered, numbered, answerBy, LibraryRan, libraryRan, libraryRun}
+use Rattle.waiting.specs.Calls.{Call, CallAnswer, device}
+use Rattle.waiting.specs.Waiting.{Waiting, noTransfer, inside, waitRun}
+use Rattle.waiting.specs.Claim.{framesFit, isFrame, shutReply, callReply, startAfter, isClosed}
+use Rattle.library_demand3.specs.Calls.{LibraryStep, exported, LibraryAnswer, libraryAnswer, answerBy, LibraryRunResult, libraryRunResult, libraryRun}
 
 -- ---- the waiting tag in numbers and bytes
-abbrev pub inNumber : Said → Numbered
-inNumber a = numbered (answerNumber (a .answer)) (a .buffer)
+abbrev pub inNumber : CallAnswer → LibraryAnswer
+inNumber a = libraryAnswer (answerNumber (a .answer)) (a .buffer)
 
-unfoldable pub inNumbers : List Said → List Numbered
+unfoldable pub inNumbers : List CallAnswer → List LibraryAnswer
 inNumbers [] = []
 inNumbers (a ∷ s) = inNumber a ∷ inNumbers s
 
 -- its answers, the bytes of its tag, and its memory; with a transfer open (no list of the claim ends so), as at the transfer's start
-unfoldable pub inBytes : Waiting → LibraryRan
-inBytes (closed out k) = libraryRan (inNumbers out) (bytesOf (k .tag)) (k .memory)
-inBytes (inside out k n sl) = libraryRan (inNumbers out) (bytesOf (k .tag)) (k .memory)
+unfoldable pub inBytes : Waiting → LibraryRunResult
+inBytes (noTransfer out k) = libraryRunResult (inNumbers out) (bytesOf (k .tag)) (k .memory)
+inBytes (inside out k n sl) = libraryRunResult (inNumbers out) (bytesOf (k .tag)) (k .memory)
 
 -- ---- the frames to strike out: those that came while a transfer was open and were not refused; a number below 0x100 is a refusal
 unfoldable pub libraryStruck : LibraryStep → List ℕ → List ℕ → Call → Bool
@@ -45,7 +45,7 @@ libraryOthers step s m (c ∷ cs) =
     pick (libraryStruck step s m c) rest (c ∷ rest)
 
 -- the answers that those had
-unfoldable pub libraryOtherAnswers : LibraryStep → List ℕ → List ℕ → List Call → List Numbered
+unfoldable pub libraryOtherAnswers : LibraryStep → List ℕ → List ℕ → List Call → List LibraryAnswer
 libraryOtherAnswers step s m [] = []
 libraryOtherAnswers step s m (c ∷ cs) =
     let rest = libraryOtherAnswers step (step s m c .state) (step s m c .memory) cs in
@@ -59,8 +59,8 @@ EachLibraryStruck step P start s m (c ∷ cs) =
     (libraryStruck step s m c ≡ true → P (startAfter start (tagOf s)) s m c)
     × EachLibraryStruck step P (startAfter start (tagOf s)) (step s m c .state) (step s m c .memory) cs
 
-abbrev pub shutAnswer : Tag → Air → Call → Numbered
-shutAnswer start air c = inNumber (spoken (shutReply start air (c .frame)) (c .buffer))
+abbrev pub shutAnswer : Tag → Air → Call → LibraryAnswer
+shutAnswer start air c = inNumber (callReply (shutReply start air (c .frame)) (c .buffer))
 
 pub record LibraryShut (step : LibraryStep) (start : Tag) (s m : List ℕ) (c : Call) : Type 0 where
   pub state : step s m c .state ≡ s
@@ -70,13 +70,13 @@ pub record LibraryShut (step : LibraryStep) (start : Tag) (s m : List ℕ) (c : 
 -- ---- the claim: from state bytes s and memory m, the calls cs
 -- each call has the waiting tag's number and, byte for byte, its reply buffer; the bytes left at the end, state and memory, are the waiting tag's
 abbrev pub LibrarySame : LibraryStep → List ℕ → List ℕ → List Call → Type 0
-LibrarySame step s m cs = libraryRun step s m cs ≡ inBytes (waitRun (closed [] (device (tagOf s) m)) cs)
+LibrarySame step s m cs = libraryRun step s m cs ≡ inBytes (waitRun (noTransfer [] (device (tagOf s) m)) cs)
 
 -- without the struck frames the other answers, and the bytes left at the end, are the same
 abbrev pub LibraryStriking : LibraryStep → List ℕ → List ℕ → List Call → Type 0
 LibraryStriking step s m cs =
     libraryRun step s m (libraryOthers step s m cs)
-    ≡ libraryRan (libraryOtherAnswers step s m cs) (libraryRun step s m cs .state) (libraryRun step s m cs .memory)
+    ≡ libraryRunResult (libraryOtherAnswers step s m cs) (libraryRun step s m cs .state) (libraryRun step s m cs .memory)
 
 pub record LibraryAgrees (step : LibraryStep) (s m : List ℕ) (cs : List Call) : Type 0 where
   pub same : LibrarySame step s m cs
@@ -95,7 +95,7 @@ pub record Starts (s m : List ℕ) : Type 0 where
 -- from there every list of calls, their frames of bytes, that finishes with no transfer open: the waiting tag says so
 abbrev pub EveryLibraryList : (List ℕ → List ℕ → List Call → Type 0) → Type 0
 EveryLibraryList P = (s m : List ℕ) (cs : List Call) → Starts s m
-    → framesFit cs ≡ true → isClosed (waitRun (closed [] (device (tagOf s) m)) cs) ≡ true
+    → framesFit cs ≡ true → isClosed (waitRun (noTransfer [] (device (tagOf s) m)) cs) ≡ true
     → P s m cs
 
 abbrev pub LibraryDemand3 : LibraryStep → Type 0
@@ -105,7 +105,7 @@ LibraryDemand3 step = EveryLibraryList (LibraryAgrees step)
 abbrev pub LibraryEndsAlike : Type 0
 LibraryEndsAlike = (s m : List ℕ) (cs : List Call) → Starts s m
     → framesFit cs ≡ true → transferOpen (tagOf (libraryRun exported s m cs .state)) ≡ false
-    → isClosed (waitRun (closed [] (device (tagOf s) m)) cs) ≡ true
+    → isClosed (waitRun (noTransfer [] (device (tagOf s) m)) cs) ≡ true
 
 -- the bytes that `st25dv_fresh` leaves are such a start, where it is not refused; u is the UID
 abbrev pub FreshStarts : Type 0

@@ -8,41 +8,41 @@ use Rattle.parts.specs.Pick.{pick}
 use Rattle.parts.specs.Bytes.{bytesAt}
 use Rattle.tag.specs.declared.Message.{Message}
 use Rattle.tag.specs.declared.Mailbox.{Mailbox}
-use Rattle.tag.specs.Layout.{mailboxAt}
+use Rattle.tag.specs.Layout.{mailboxPlace}
 use Rattle.tag.specs.Mailbox.{lengthByte, radioPut, radioRead}
 use Rattle.errors.specs.declared.RadioError.the-variants.{MailboxUnavailable, MailboxDisabled, PastMessage}
 use Rattle.reply.specs.declared.RadioSide.{RadioSide}
 use Rattle.reply.specs.Reply.{good}
-use Rattle.reply.specs.Outcome.{Told, told, fails, sideMailbox}
+use Rattle.reply.specs.Outcome.{CommandResult, commandResult, fails, sideMailbox}
 
 -- "MB_EN and no PUT"
 unfoldable pub takesMessage : Mailbox → Bool
 takesMessage b = b .enabled && not (b .host .put) && not (b .rf .put)
 
 -- "AA Write Message: length-1, data; 0Fh unless MB_EN and no PUT"; more is length-1, the data stand at place `at` of the frame
-unfoldable pub writeMessageOf : RadioSide → List ℕ → ℕ → List ℕ → ℕ → Told
+unfoldable pub writeMessageOf : RadioSide → List ℕ → ℕ → List ℕ → ℕ → CommandResult
 writeMessageOf s m more frame at =
     pick (not (takesMessage (s .core .mailbox))) (fails MailboxUnavailable s m)
-    (told (good []) (sideMailbox (radioPut (more + 1) (s .core .mailbox)) s) (sets m mailboxAt (bytesAt frame at (more + 1))))
+    (commandResult (good []) (sideMailbox (radioPut (more + 1) (s .core .mailbox)) s) (sets m mailboxPlace (bytesAt frame at (more + 1))))
 
 -- "AB Length: 0Fh if MB_EN is 0; MB_LEN_Dyn"
-unfoldable pub lengthOf : RadioSide → List ℕ → Told
+unfoldable pub lengthOf : RadioSide → List ℕ → CommandResult
 lengthOf s m =
     pick (not (s .core .mailbox .enabled)) (fails MailboxDisabled s m)
-    (told (good (lengthByte (s .core .mailbox) ∷ [])) s m)
+    (commandResult (good (lengthByte (s .core .mailbox) ∷ [])) s m)
 
 -- "pointer p, n; 0,0 is the whole, else n+1 bytes"
 unfoldable pub asked : Mailbox → ℕ → ℕ → ℕ
 asked b p n = pick (eqb p 0 && eqb n 0) (b .length) (n + 1)
 
 -- "a till's reading of the last byte of a host message clears HOST_PUT"
-unfoldable pub mailboxAfter : Mailbox → ℕ → ℕ → Mailbox
-mailboxAfter b p count = pick (b .host .current && eqb (p + count) (b .length)) (radioRead b) b
+unfoldable pub mailboxAfterRead : Mailbox → ℕ → ℕ → Mailbox
+mailboxAfterRead b p count = pick (b .host .current && eqb (p + count) (b .length)) (radioRead b) b
 
 -- "AC Read: 0Fh if MB_EN is 0; .. 0Fh past or empty"
-unfoldable pub readMessageOf : RadioSide → List ℕ → ℕ → ℕ → Told
+unfoldable pub readMessageOf : RadioSide → List ℕ → ℕ → ℕ → CommandResult
 readMessageOf s m p n =
     let b = s .core .mailbox in
     pick (not (b .enabled)) (fails MailboxDisabled s m)
     (pick (ltb (b .length) (p + asked b p n) || eqb (b .length) 0) (fails PastMessage s m)
-    (told (good (bytesAt m (mailboxAt + p) (asked b p n))) (sideMailbox (mailboxAfter b p (asked b p n)) s) m))
+    (commandResult (good (bytesAt m (mailboxPlace + p) (asked b p n))) (sideMailbox (mailboxAfterRead b p (asked b p n)) s) m))

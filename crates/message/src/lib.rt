@@ -1,9 +1,9 @@
 // Commands on the mailbox.
 ghost use mathlib.Core.Path.{_≡_};
-ghost use Rattle.reply.specs.Outcome.{ended, finish};
-ghost use Rattle.message.specs.Message.{takesMessage, writeMessageOf, lengthOf, asked, mailboxAfter, readMessageOf};
+ghost use Rattle.reply.specs.Outcome.{radioResult, finish};
+ghost use Rattle.message.specs.Message.{takesMessage, writeMessageOf, lengthOf, asked, mailboxAfterRead, readMessageOf};
 use errors::RadioError;
-use reply::Outcome;
+use reply::RadioOutcome;
 use reply::RadioSide;
 use tag::Mailbox;
 
@@ -21,12 +21,12 @@ pub fn write(
     more: u8,
     frame: &[u8],
     at: usize,
-) -> Outcome
-    ensures { λ r. ⌜ ended r (now (m .exit)) (now (out .exit)) ≡ finish (writeMessageOf s (now (m .entry)) more (now (frame .entry)) at) (now (out .entry)) ⌝ }
+) -> RadioOutcome
+    ensures { λ r. ⌜ radioResult r (now (m .exit)) (now (out .exit)) ≡ finish (writeMessageOf s (now (m .entry)) more (now (frame .entry)) at) (now (out .entry)) ⌝ }
 {
     let b = s.core.mailbox;
     if !takes_message(b) {
-        return Outcome {
+        return RadioOutcome {
             answer: reply::error(out, RadioError::MailboxUnavailable),
             side: s,
         };
@@ -34,24 +34,24 @@ pub fn write(
     let n = more as u16 + 1;
     parts::put_bytes(m, tag::MAILBOX_AT, frame, at, n as usize);
     let next = s.with_mailbox(b.radio_put(n));
-    Outcome {
+    RadioOutcome {
         answer: reply::done(out),
         side: next,
     }
 }
 
 // AB.
-pub fn length(s: RadioSide, m: &[u8], out: &mut [u8]) -> Outcome
-    ensures { λ r. ⌜ ended r (now (m .entry)) (now (out .exit)) ≡ finish (lengthOf s (now (m .entry))) (now (out .entry)) ⌝ }
+pub fn length(s: RadioSide, m: &[u8], out: &mut [u8]) -> RadioOutcome
+    ensures { λ r. ⌜ radioResult r (now (m .entry)) (now (out .exit)) ≡ finish (lengthOf s (now (m .entry))) (now (out .entry)) ⌝ }
 {
     let b = s.core.mailbox;
     if !b.enabled {
-        return Outcome {
+        return RadioOutcome {
             answer: reply::error(out, RadioError::MailboxDisabled),
             side: s,
         };
     }
-    Outcome {
+    RadioOutcome {
         answer: reply::byte(out, b.length_byte()),
         side: s,
     }
@@ -68,7 +68,7 @@ fn asked(b: Mailbox, p: u8, n: u8) -> u16
 }
 
 fn mailbox_after(b: Mailbox, p: u8, count: u16) -> Mailbox
-    ensures { λ r. ⌜ r ≡ mailboxAfter b p count ⌝ }
+    ensures { λ r. ⌜ r ≡ mailboxAfterRead b p count ⌝ }
 {
     if b.host.current & (p as u32 + count as u32 == b.length as u32) {
         return b.radio_read();
@@ -77,19 +77,19 @@ fn mailbox_after(b: Mailbox, p: u8, count: u16) -> Mailbox
 }
 
 // AC.
-pub fn read(s: RadioSide, m: &[u8], out: &mut [u8], p: u8, n: u8) -> Outcome
-    ensures { λ r. ⌜ ended r (now (m .entry)) (now (out .exit)) ≡ finish (readMessageOf s (now (m .entry)) p n) (now (out .entry)) ⌝ }
+pub fn read(s: RadioSide, m: &[u8], out: &mut [u8], p: u8, n: u8) -> RadioOutcome
+    ensures { λ r. ⌜ radioResult r (now (m .entry)) (now (out .exit)) ≡ finish (readMessageOf s (now (m .entry)) p n) (now (out .entry)) ⌝ }
 {
     let b = s.core.mailbox;
     if !b.enabled {
-        return Outcome {
+        return RadioOutcome {
             answer: reply::error(out, RadioError::MailboxDisabled),
             side: s,
         };
     }
     let count = asked(b, p, n);
     if ((b.length as u32) < p as u32 + count as u32) | (b.length == 0) {
-        return Outcome {
+        return RadioOutcome {
             answer: reply::error(out, RadioError::PastMessage),
             side: s,
         };
@@ -97,7 +97,7 @@ pub fn read(s: RadioSide, m: &[u8], out: &mut [u8], p: u8, n: u8) -> Outcome
     parts::put(out, 0, 0x00);
     parts::put_bytes(out, 1, m, tag::MAILBOX_AT + p as usize, count as usize);
     let next = s.with_mailbox(mailbox_after(b, p, count));
-    Outcome {
+    RadioOutcome {
         answer: reply::close(out, 1 + count as u32),
         side: next,
     }

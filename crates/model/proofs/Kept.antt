@@ -22,17 +22,17 @@ use Rattle.tag.specs.Supply.{freshTag}
 use Rattle.ranges.specs.Ranges.{airInRange, coreInRange, hostInRange, suppliedInRange, wireInRange, inRange}
 use Rattle.ranges.proofs.Fresh.{fresh-in-range}
 use Rattle.rule.specs.PageRange.{busInRange}
-use Rattle.signal.specs.declared.Signal.{Signal as WireSignal}
+use Rattle.signal.specs.declared.WireSignal.{WireSignal}
 use Rattle.signal.proofs.Kept.{keeps as wire-keeps}
-use Rattle.reply.specs.Outcome.{Told}
+use Rattle.reply.specs.Outcome.{CommandResult}
 use Rattle.radio.specs.Radio.{radioOf}
 use Rattle.radio.proofs.Kept.{keeps as radio-keeps}
 use Rattle.radio.proofs.ShutOut.{shut-out}
 use Rattle.model.specs.declared.Signal.{Signal}
 use Rattle.model.specs.declared.Signal.the-variants.{Wire, Field, Frame}
 use Rattle.model.specs.Signals.{signalBy}
-use Rattle.model.specs.Step.{Ended, wireSide, radioSide, withRadio, withAir, transferOpen, tagInRange, actOf, stepOf}
-use Rattle.model.specs.Claims.{Fit, Keeps, FreshFits}
+use Rattle.model.specs.Step.{StepResult, wireSide, radioSide, withRadio, withTagAir, transferOpen, tagInRange, actOf, stepOf}
+use Rattle.model.specs.Claims.{Fit, StepKeepsFit, FreshFits}
 
 -- ---- the test of supply: v is VCC, e MB_EN, s session, p programming, a bus activity
 supplied-first : (v e s p a : Bool) → (v || not (e || s || p || a)) ≡ true → (v || not e) ≡ true
@@ -72,7 +72,7 @@ fit : (t : Tag) (m : List ℕ) → Fits t m → Fit t m
 unfolding tagInRange inRange wireInRange
 fit t m f = record { range = rw (f .air, f .core, f .host, f .supplied, f .bus); size = f .size }
 
-abbrev F : Ended → Type 0
+abbrev F : StepResult → Type 0
 F e = Fit (e .tag) (e .memory)
 
 -- ---- a wire signal
@@ -92,7 +92,7 @@ field-in-range on a h =
 field-kept : (on : Bool) (t : Tag) (m o s : List ℕ) → Fits t m → F (actOf (Field on) t m o s)
 unfolding actOf
 field-kept on t m o s f =
-    fit (withAir (fieldAt on (t .air)) t) m
+    fit (withTagAir (fieldAt on (t .air)) t) m
     (record { air = field-in-range on (t .air) (f .air); core = f .core; host = f .host; supplied = f .supplied; bus = f .bus; size = f .size })
 
 -- ---- a frame
@@ -108,12 +108,12 @@ bus-kept (LowAddress s x) n c c′ o m m′ e h = refl
 bus-kept (DataLeg s k spoiled) n c c′ o m m′ e h = rw (e refl .0, e refl .1) h
 
 module _ (t : Tag) (m s : List ℕ) (f : Fits t m) (b : (i : ℕ) → getD s i 0 < 256) where
-  abbrev r : Told
+  abbrev r : CommandResult
   r = radioOf (radioSide t) (t .uid) (t .host .vcc) (transferOpen t) (t .host .programming) m s
 
   nothing-changed : transferOpen t ≡ true → (r .side .core ≡ t .core) × (r .memory ≡ m)
   nothing-changed h =
-      ⊎-elim (λ e. (ap (λ (d : Told). d .side .core) e, ap (λ (d : Told). d .memory) e)) (λ e. (ap (λ (d : Told). d .side .core) e, ap (λ (d : Told). d .memory) e))
+      ⊎-elim (λ e. (ap (λ (d : CommandResult). d .side .core) e, ap (λ (d : CommandResult). d .memory) e)) (λ e. (ap (λ (d : CommandResult). d .side .core) e, ap (λ (d : CommandResult). d .memory) e))
       (shut-out (radioSide t) (t .uid) (t .host .vcc) (transferOpen t) (t .host .programming) m s
       (or-second (isSet 1 (t .core .registers .dynamic .bits)) (transferOpen t || t .host .programming) (or-first (transferOpen t) (t .host .programming) h)))
 
@@ -144,7 +144,7 @@ act-kept (Wire x) t m o s b f = wire-kept x t m o s f
 act-kept (Field on) t m o s b f = field-kept on t m o s f
 act-kept Frame t m o s b f = fit _ _ (frame-kept t m s f (bytes-below s b))
 
-pub keeps : Keeps
+pub keeps : StepKeepsFit
 unfolding stepOf
 keeps t m o code value s b f =
     pick-case F _ _ _ (λ h. f)

@@ -11,7 +11,7 @@ use Rattle.tag.specs.Layout.{memoryBytes, replyBytes}
 use Rattle.tag.specs.Supply.{freshTag}
 use Rattle.reply.specs.Reply.{bufferOf, answerOf}
 use Rattle.radio.specs.Radio.{radioOf}
-use Rattle.model.specs.Step.{leaves, fromRadio, radioSide, withRadio, transferOpen, tagInRange, stepOf}
+use Rattle.model.specs.Step.{stepResult, fromRadio, radioSide, withRadio, transferOpen, tagInRange, stepOf}
 
 -- the tag is in range, with 1,024 bytes
 pub record Fit (t : Tag) (m : List ℕ) : Type 0 where
@@ -19,8 +19,8 @@ pub record Fit (t : Tag) (m : List ℕ) : Type 0 where
   pub size : length m ≡ memoryBytes
 
 -- every call keeps that
-abbrev pub Keeps : Type 0
-Keeps = (t : Tag) (m o : List ℕ) (code value : ℕ) (s : List ℕ) → areBytes s ≡ true → Fit t m
+abbrev pub StepKeepsFit : Type 0
+StepKeepsFit = (t : Tag) (m o : List ℕ) (code value : ℕ) (s : List ℕ) → areBytes s ≡ true → Fit t m
     → Fit (stepOf t m o code value s .tag) (stepOf t m o code value s .memory)
 
 -- the fresh tag has it
@@ -32,4 +32,4 @@ abbrev pub FrameServed : Type 0
 FrameServed = (t : Tag) (m o s : List ℕ) → Fit t m → replyBytes ≤ length o
     → stepOf t m o 8 0 s
     ≡ (let r = radioOf (radioSide t) (t .uid) (t .host .vcc) (transferOpen t) (t .host .programming) m s in
-    leaves (fromRadio (answerOf (r .reply))) (withRadio (r .side) t) (r .memory) (bufferOf (r .reply) o))
+    stepResult (fromRadio (answerOf (r .reply))) (withRadio (r .side) t) (r .memory) (bufferOf (r .reply) o))

@@ -15,13 +15,13 @@ use Rattle.tag.specs.Radio.{fieldAt}
 use Rattle.tag.specs.Supply.{freshTag}
 use Rattle.ranges.specs.Ranges.{inRange}
 use Rattle.rule.specs.PageRange.{busInRange}
-use Rattle.signal.specs.declared.Answer.{Answer as WireAnswer}
-use Rattle.signal.specs.declared.Answer.the-variants.{Nothing as WireNothing, Ack as WireAck, NoAck as WireNoAck, Byte as WireByte}
+use Rattle.signal.specs.declared.WireAnswer.{WireAnswer}
+use Rattle.signal.specs.declared.WireAnswer.the-variants.{Nothing as WireNothing, Ack as WireAck, NoAck as WireNoAck, Byte as WireByte}
 use Rattle.signal.specs.Signal.{signalOf}
 use Rattle.reply.specs.declared.RadioSide.{RadioSide}
-use Rattle.reply.specs.Reply.{Said, nothing, body, bufferOf}
-use Rattle.reply.specs.declared.Answer.{Answer as RadioAnswer}
-use Rattle.reply.specs.declared.Answer.the-variants.{Silence as RadioSilence, Reply as RadioReply}
+use Rattle.reply.specs.Reply.{ReplyBody, nothing, body, bufferOf}
+use Rattle.reply.specs.declared.RadioAnswer.{RadioAnswer}
+use Rattle.reply.specs.declared.RadioAnswer.the-variants.{Silence as RadioSilence, Reply as RadioReply}
 use Rattle.reply.specs.Reply.{answerOf}
 use Rattle.radio.specs.Radio.{radioOf}
 use Rattle.model.specs.declared.Refusal.{Refusal}
@@ -34,18 +34,18 @@ use Rattle.model.specs.declared.Signal.the-variants.{Wire, Field, Frame}
 use Rattle.model.specs.Signals.{signalInRange, signalBy}
 
 -- the answer, the tag and both lent buffers after a call
-pub record Ended : Type 0 where
+pub record StepResult : Type 0 where
   pub answer : Answer
   pub tag : Tag
   pub memory : List ℕ
   pub reply : List ℕ
 
-abbrev pub leaves : Answer → Tag → List ℕ → List ℕ → Ended
-leaves a t m o = record { answer = a; tag = t; memory = m; reply = o }
+abbrev pub stepResult : Answer → Tag → List ℕ → List ℕ → StepResult
+stepResult a t m o = record { answer = a; tag = t; memory = m; reply = o }
 
 -- what a function over both lent buffers leaves
-abbrev pub ended : Outcome → List ℕ → List ℕ → Ended
-ended r m o = leaves (r .answer) (r .tag) m o
+abbrev pub stepResultOf : Outcome → List ℕ → List ℕ → StepResult
+stepResultOf r m o = stepResult (r .answer) (r .tag) m o
 
 -- ---- the answers, case by case
 -- 01's table of refusals, "given exactly when, in this order"
@@ -60,8 +60,8 @@ number SignalUnknown = 3
 number OutOfRange = 4
 
 -- "A refusal returns the number and the state handed in; every lent byte stays."
-abbrev pub refused : Refusal → Tag → List ℕ → List ℕ → Ended
-refused r t m o = leaves (Refused r) t m o
+abbrev pub refused : Refusal → Tag → List ℕ → List ℕ → StepResult
+refused r t m o = stepResult (Refused r) t m o
 
 -- to a wire signal: none, Ack, NoAck or a byte
 unfoldable pub fromWire : WireAnswer → Answer
@@ -88,8 +88,8 @@ radioSide t = record { air = t .air; core = t .core }
 abbrev pub withRadio : RadioSide → Tag → Tag
 withRadio r t = record { air = r .air; host = t .host; core = r .core; uid = t .uid }
 
-abbrev pub withAir : Air → Tag → Tag
-withAir a t = record { air = a; host = t .host; core = t .core; uid = t .uid }
+abbrev pub withTagAir : Air → Tag → Tag
+withTagAir a t = record { air = a; host = t .host; core = t .core; uid = t .uid }
 
 -- a transfer is open
 abbrev pub transferOpen : Tag → Bool
@@ -100,18 +100,18 @@ unfoldable pub tagInRange : Tag → List ℕ → Bool
 tagInRange t m = inRange t && busInRange (t .host .bus) (t .host .counter) (t .core) (t .host .session) m
 
 -- ---- one signal that is not refused; s is the frame, o the reply buffer
-unfoldable pub actOf : Signal → Tag → List ℕ → List ℕ → List ℕ → Ended
+unfoldable pub actOf : Signal → Tag → List ℕ → List ℕ → List ℕ → StepResult
 actOf (Wire x) t m o s =
     let e = signalOf (wireSide t) (t .uid) m x in
-    leaves (fromWire (e .answer)) (withWire (e .side) t) (e .memory) o
-actOf (Field on) t m o s = leaves Nothing (withAir (fieldAt on (t .air)) t) m o
+    stepResult (fromWire (e .answer)) (withWire (e .side) t) (e .memory) o
+actOf (Field on) t m o s = stepResult Nothing (withTagAir (fieldAt on (t .air)) t) m o
 actOf Frame t m o s =
     let r = radioOf (radioSide t) (t .uid) (t .host .vcc) (transferOpen t) (t .host .programming) m s in
-    leaves (fromRadio (answerOf (r .reply))) (withRadio (r .side) t) (r .memory) (bufferOf (r .reply) o)
+    stepResult (fromRadio (answerOf (r .reply))) (withRadio (r .side) t) (r .memory) (bufferOf (r .reply) o)
 
 -- ---- the two entry points
 -- one call: the refusals "in this order", then the signal
-unfoldable pub stepOf : Tag → List ℕ → List ℕ → ℕ → ℕ → List ℕ → Ended
+unfoldable pub stepOf : Tag → List ℕ → List ℕ → ℕ → ℕ → List ℕ → StepResult
 stepOf t m o code value s =
     pick (not (eqb (length m) memoryBytes)) (refused MemoryLength t m o)
     (pick (ltb (length o) replyBytes) (refused ReplyShort t m o)
@@ -120,16 +120,16 @@ stepOf t m o code value s =
     (actOf (signalBy code value) t m o s))))
 
 -- without a reply buffer
-pub record Left : Type 0 where
+pub record FreshResult : Type 0 where
   pub answer : Answer
   pub tag : Tag
   pub memory : List ℕ
 
-abbrev pub left : Answer → Tag → List ℕ → Left
-left a t m = record { answer = a; tag = t; memory = m }
+abbrev pub freshResult : Answer → Tag → List ℕ → FreshResult
+freshResult a t m = record { answer = a; tag = t; memory = m }
 
 -- the fresh tag; "all bytes .. 0". Memory of another length is refusal 1 and stays.
-unfoldable pub freshOf : Uid → List ℕ → Left
+unfoldable pub freshOf : Uid → List ℕ → FreshResult
 freshOf u m =
-    pick (not (eqb (length m) memoryBytes)) (left (Refused MemoryLength) (freshTag u) m)
-    (left Nothing (freshTag u) (replicate memoryBytes 0))
+    pick (not (eqb (length m) memoryBytes)) (freshResult (Refused MemoryLength) (freshTag u) m)
+    (freshResult Nothing (freshTag u) (replicate memoryBytes 0))

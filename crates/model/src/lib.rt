@@ -9,7 +9,7 @@ ghost use Rattle.signal.specs.Signal.{signalOf};
 ghost use Rattle.model.specs.declared.Signal.the-variants.{Field, Frame};
 ghost use Rattle.model.specs.declared.Answer.the-variants.{Refused, Nothing};
 ghost use Rattle.model.specs.Signals.{topValue, signalInRange, signalBy};
-ghost use Rattle.model.specs.Step.{number, ended, left, fromWire, fromRadio, wireSide, withWire, withAir, tagInRange, actOf, stepOf, freshOf};
+ghost use Rattle.model.specs.Step.{number, stepResultOf, freshResult, fromWire, fromRadio, wireSide, withWire, withTagAir, tagInRange, actOf, stepOf, freshOf};
 use reply::RadioSide;
 use tag::Tag;
 use tag::Uid;
@@ -17,7 +17,7 @@ use tag::WireSide;
 
 // What the signal of a call is.
 pub enum Signal {
-    Wire(signal::Signal),
+    Wire(signal::WireSignal),
     // The field at a level.
     Field(bool),
     Frame,
@@ -86,41 +86,41 @@ fn signal_by(code: u8, value: u16) -> Signal
     ensures { λ r. ⌜ r ≡ signalBy code value ⌝ }
 {
     match code {
-        1 => Signal::Wire(signal::Signal::Vcc(value == 1)),
+        1 => Signal::Wire(signal::WireSignal::Vcc(value == 1)),
         2 => Signal::Field(value == 1),
-        3 => Signal::Wire(signal::Signal::Start),
-        4 => Signal::Wire(signal::Signal::Send(value as u8)),
-        5 => Signal::Wire(signal::Signal::Fetch(value == 1)),
-        6 => Signal::Wire(signal::Signal::Stop),
-        7 => Signal::Wire(signal::Signal::ProgrammingEnd),
+        3 => Signal::Wire(signal::WireSignal::Start),
+        4 => Signal::Wire(signal::WireSignal::Send(value as u8)),
+        5 => Signal::Wire(signal::WireSignal::Fetch(value == 1)),
+        6 => Signal::Wire(signal::WireSignal::Stop),
+        7 => Signal::Wire(signal::WireSignal::ProgrammingEnd),
         _ => Signal::Frame,
     }
 }
 
 // ---- the answers
-fn from_wire(a: signal::Answer) -> Answer
+fn from_wire(a: signal::WireAnswer) -> Answer
     ensures { λ r. ⌜ r ≡ fromWire a ⌝ }
 {
     match a {
-        signal::Answer::Nothing => Answer::Nothing,
-        signal::Answer::Ack => Answer::Ack,
-        signal::Answer::NoAck => Answer::NoAck,
-        signal::Answer::Byte(x) => Answer::Byte(x),
+        signal::WireAnswer::Nothing => Answer::Nothing,
+        signal::WireAnswer::Ack => Answer::Ack,
+        signal::WireAnswer::NoAck => Answer::NoAck,
+        signal::WireAnswer::Byte(x) => Answer::Byte(x),
     }
 }
 
-fn from_radio(a: reply::Answer) -> Answer
+fn from_radio(a: reply::RadioAnswer) -> Answer
     ensures { λ r. ⌜ r ≡ fromRadio a ⌝ }
 {
     match a {
-        reply::Answer::Silence => Answer::Silence,
-        reply::Answer::Reply(n) => Answer::Reply(n),
+        reply::RadioAnswer::Silence => Answer::Silence,
+        reply::RadioAnswer::Reply(n) => Answer::Reply(n),
     }
 }
 
 // ---- a signal that is not refused
-fn by_wire(t: Tag, m: &mut [u8], s: signal::Signal) -> Outcome
-    ensures { λ r. ⌜ left (r .answer) (r .tag) (now (m .exit)) ≡ (let e = signalOf (wireSide t) (t .uid) (now (m .entry)) s in left (fromWire (e .answer)) (withWire (e .side) t) (e .memory)) ⌝ }
+fn by_wire(t: Tag, m: &mut [u8], s: signal::WireSignal) -> Outcome
+    ensures { λ r. ⌜ freshResult (r .answer) (r .tag) (now (m .exit)) ≡ (let e = signalOf (wireSide t) (t .uid) (now (m .entry)) s in freshResult (fromWire (e .answer)) (withWire (e .side) t) (e .memory)) ⌝ }
 {
     let host = t.host;
     let core = t.core;
@@ -139,7 +139,7 @@ fn by_wire(t: Tag, m: &mut [u8], s: signal::Signal) -> Outcome
 }
 
 fn by_field(t: Tag, on: bool) -> Outcome
-    ensures { λ r. ⌜ r ≡ record { answer = Nothing; tag = withAir (fieldAt on (t .air)) t } ⌝ }
+    ensures { λ r. ⌜ r ≡ record { answer = Nothing; tag = withTagAir (fieldAt on (t .air)) t } ⌝ }
 {
     let mut n = t;
     n.air = t.air.field_at(on);
@@ -150,7 +150,7 @@ fn by_field(t: Tag, on: bool) -> Outcome
 }
 
 fn by_frame(t: Tag, m: &mut [u8], out: &mut [u8], frame: &[u8]) -> Outcome
-    ensures { λ r. ⌜ ended r (now (m .exit)) (now (out .exit)) ≡ actOf Frame t (now (m .entry)) (now (out .entry)) (now (frame .entry)) ⌝ }
+    ensures { λ r. ⌜ stepResultOf r (now (m .exit)) (now (out .exit)) ≡ actOf Frame t (now (m .entry)) (now (out .entry)) (now (frame .entry)) ⌝ }
 {
     let air = t.air;
     let core = t.core;
@@ -181,7 +181,7 @@ fn by_frame(t: Tag, m: &mut [u8], out: &mut [u8], frame: &[u8]) -> Outcome
 }
 
 fn act(s: Signal, t: Tag, m: &mut [u8], out: &mut [u8], frame: &[u8]) -> Outcome
-    ensures { λ r. ⌜ ended r (now (m .exit)) (now (out .exit)) ≡ actOf s t (now (m .entry)) (now (out .entry)) (now (frame .entry)) ⌝ }
+    ensures { λ r. ⌜ stepResultOf r (now (m .exit)) (now (out .exit)) ≡ actOf s t (now (m .entry)) (now (out .entry)) (now (frame .entry)) ⌝ }
 {
     match s {
         Signal::Wire(x) => by_wire(t, m, x),
@@ -218,7 +218,7 @@ fn is_memory(m: &[u8]) -> bool
 
 // One call: a signal's code and value, and a frame.
 pub fn step(t: Tag, m: &mut [u8], out: &mut [u8], code: u8, value: u16, frame: &[u8]) -> Outcome
-    ensures { λ r. ⌜ ended r (now (m .exit)) (now (out .exit)) ≡ stepOf t (now (m .entry)) (now (out .entry)) code value (now (frame .entry)) ⌝ }
+    ensures { λ r. ⌜ stepResultOf r (now (m .exit)) (now (out .exit)) ≡ stepOf t (now (m .entry)) (now (out .entry)) code value (now (frame .entry)) ⌝ }
 {
     if !is_memory(m) {
         return refused(Refusal::MemoryLength, t);
@@ -237,7 +237,7 @@ pub fn step(t: Tag, m: &mut [u8], out: &mut [u8], code: u8, value: u16, frame: &
 
 // The fresh tag; the memory is cleared.
 pub fn fresh(u: Uid, m: &mut [u8]) -> Outcome
-    ensures { λ r. ⌜ left (r .answer) (r .tag) (now (m .exit)) ≡ freshOf u (now (m .entry)) ⌝ }
+    ensures { λ r. ⌜ freshResult (r .answer) (r .tag) (now (m .exit)) ≡ freshOf u (now (m .entry)) ⌝ }
 {
     let t = Tag::fresh(u);
     if !is_memory(m) {

@@ -13,7 +13,7 @@ use Rattle.tag.specs.Layout.{replyBytes}
 use Rattle.model.specs.Signals.{signalInRange}
 use Rattle.model.specs.declared.Refusal.the-variants.{ReplyShort, SignalUnknown}
 use Rattle.model.proofs.Kept.{keeps, fresh-fits}
-use Rattle.waiting.specs.Calls.{Call, Device, device, Done, Ran, ran, entry, runBy}
+use Rattle.waiting.specs.Calls.{Call, Device, device, DeviceResult, RunResult, runResult, entry, runBy}
 use Rattle.waiting.specs.Examples.{uid}
 use Rattle.waiting.specs.Claim.{framesFit}
 use Rattle.waiting.proofs.OneCall.{Fits, acted, refusal, call-is}
@@ -22,7 +22,7 @@ use Rattle.waiting.proofs.Computes.{computes}
 use Rattle.pairs.specs.Pairs.{Value, valueOf, values, Result, resultOf, Part, Pair, crcIs, goes, HoldFrom, freshDevice, supplies, Holds, AllHold, pair1, pair2, pair3, pair4, pair4wire, pair5, pair6, pair7, pair8, pair9, pair9more, pair10, pair11, pair12, twelve, Twelve}
 
 -- ---- from a tag in range refusals 1 and 4 never come, so no call need judge them: that is what would take long
-unfoldable unranged : Device → Call → Done
+unfoldable unranged : Device → Call → DeviceResult
 unranged d c =
     pick (ltb (length (c .buffer)) replyBytes) (refusal ReplyShort d c)
     (pick (not (signalInRange (c .code) (c .value))) (refusal SignalUnknown d c) (acted d c))
@@ -31,8 +31,8 @@ record Runs (d : Device) (cs : List Call) : Type 0 where
   same : runBy entry d cs ≡ runBy unranged d cs
   fits : Fits (runBy entry d cs .device)
 
-abbrev then : Done → List Call → Ran
-then e cs = ran (e .says ∷ runBy unranged (e .device) cs .answers) (runBy unranged (e .device) cs .device)
+abbrev then : DeviceResult → List Call → RunResult
+then e cs = runResult (e .says ∷ runBy unranged (e .device) cs .answers) (runBy unranged (e .device) cs .device)
 
 runs : (cs : List Call) (d : Device) → framesFit cs ≡ true → Fits d → Runs d cs
 unfolding runBy unranged
@@ -40,7 +40,7 @@ runs [] d b f = record { same = refl; fits = f }
 runs (c ∷ cs) d b f =
     let r = runs cs (entry d c .device) (rest-fits c cs b) (fits-next keeps d c (first-fits c cs b) f) in
     record {
-      same = ap (λ (r : Ran). ran (entry d c .says ∷ r .answers) (r .device)) (r .same) ∙ ap (λ (e : Done). then e cs) (call-is d c f);
+      same = ap (λ (r : RunResult). runResult (entry d c .says ∷ r .answers) (r .device)) (r .same) ∙ ap (λ (e : DeviceResult). then e cs) (call-is d c f);
       fits = r .fits;
     }
 
@@ -68,7 +68,7 @@ record Seen : Type 0 where
   memory : Bool
 
 -- what a run shows of a part, and what it should
-abbrev seenIn : Ran → Part → Seen
+abbrev seenIn : RunResult → Part → Seen
 seenIn r p =
     record { frames = framesFit (p .calls); answers = values (r .answers); tag = r .device .tag; memory = sameBytes (r .device .memory) (p .result .leaves .memory) }
 

@@ -13,29 +13,29 @@ use Rattle.crc.specs.Crc.{crcOf, closed}
 use Rattle.model.specs.declared.Answer.{Answer}
 use Rattle.model.specs.declared.Refusal.{Refusal}
 use Rattle.model.specs.declared.Answer.the-variants.{Refused, Nothing, Ack, NoAck, Byte, Silence, Reply}
-use Rattle.waiting.specs.Calls.{Call, Said, Device, device, Ran, entry, runBy}
+use Rattle.waiting.specs.Calls.{Call, CallAnswer, Device, device, RunResult, entry, runBy}
 use Rattle.waiting.specs.Examples.{zeros, vccTo, fieldTo, start, send, sends, fetch, fetchLast, stop, programmingEnd, frame, uid, powered, _but_, radioState, radioSession, i2cSession, beingProgrammed, counterAt, onBus, areaEnds, areaRights, mailboxMode, hostMessage, bytes}
 
 -- ---- answers by value: a reply is its bytes, CRC included
 pub data Value : Type 0 where
-  refused : Refusal → Value
-  none : Value
+  refusedWith : Refusal → Value
+  noAnswer : Value
   ack : Value
   noAck : Value
-  byte : ℕ → Value
+  fetchedByte : ℕ → Value
   silence : Value
   replied : List ℕ → Value
 
 unfoldable pub valueOf : Answer → List ℕ → Value
-valueOf (Refused r) o = refused r
-valueOf Nothing o = none
+valueOf (Refused r) o = refusedWith r
+valueOf Nothing o = noAnswer
 valueOf Ack o = ack
 valueOf NoAck o = noAck
-valueOf (Byte x) o = byte x
+valueOf (Byte x) o = fetchedByte x
 valueOf Silence o = silence
 valueOf (Reply n) o = replied (take n o)
 
-unfoldable pub values : List Said → List Value
+unfoldable pub values : List CallAnswer → List Value
 values [] = []
 values (a ∷ s) = valueOf (a .answer) (a .buffer) ∷ values s
 
@@ -49,7 +49,7 @@ pub record Result : Type 0 where
   pub answers : List Value
   pub leaves : Device
 
-abbrev pub resultOf : Ran → Result
+abbrev pub resultOf : RunResult → Result
 resultOf r = record { answers = values (r .answers); leaves = r .device }
 
 pub record Part : Type 0 where
@@ -73,7 +73,7 @@ abbrev pub freshDevice : Device
 freshDevice = device (freshTag uid) (zeros memoryBytes)
 
 abbrev pub supplies : Part
-supplies = part (vccTo 1 ∷ fieldTo 1 ∷ []) (none ∷ none ∷ []) powered
+supplies = part (vccTo 1 ∷ fieldTo 1 ∷ []) (noAnswer ∷ noAnswer ∷ []) powered
 
 unfoldable pub Holds : Pair → Type 0
 Holds (crcIs s n) = crcOf s ≡ n
@@ -92,8 +92,8 @@ present n = frame (0x02 ∷ 0xB3 ∷ 0x02 ∷ n ∷ zeros 8)
 abbrev pub config : ℕ → ℕ → Call
 config p x = frame (0x02 ∷ 0xA1 ∷ 0x02 ∷ p ∷ x ∷ [])
 
-abbrev pub good : Value
-good = reply (0x00 ∷ [])
+abbrev pub goodReply : Value
+goodReply = reply (0x00 ∷ [])
 
 abbrev pub error : ℕ → Value
 error code = reply (0x01 ∷ code ∷ [])
@@ -110,7 +110,7 @@ abbrev pub at : ℕ → ℕ → ℕ → List Call
 at select high low = start ∷ send select ∷ send high ∷ send low ∷ []
 
 abbrev pub acks : List Value
-acks = none ∷ ack ∷ ack ∷ ack ∷ []
+acks = noAnswer ∷ ack ∷ ack ∷ ack ∷ []
 
 -- ---- 1. "CRC of ASCII 123456789 is 906Eh."
 abbrev pub pair1 : Pair
@@ -125,7 +125,7 @@ abbrev pub firstEnd0 : Device
 firstEnd0 = powered but radioSession 1 but areaEnds 0 0x0F 0x0F
 
 abbrev pub setFirstEnd : Part
-setFirstEnd = part (present 0 ∷ config 0x05 0 ∷ []) (good ∷ good ∷ []) firstEnd0
+setFirstEnd = part (present 0 ∷ config 0x05 0 ∷ []) (goodReply ∷ goodReply ∷ []) firstEnd0
 
 abbrev pub pair3 : Pair
 pair3 = goes (setFirstEnd
@@ -136,7 +136,7 @@ pair3 = goes (setFirstEnd
 abbrev pub pair4 : Pair
 pair4 = goes (setFirstEnd
     ∷ part (config 0x07 0 ∷ []) (error 0x0F ∷ []) firstEnd0
-    ∷ part (config 0x07 1 ∷ []) (good ∷ []) (firstEnd0 but areaEnds 0 1 0x0F)
+    ∷ part (config 0x07 1 ∷ []) (goodReply ∷ []) (firstEnd0 but areaEnds 0 1 0x0F)
     ∷ [])
 
 -- the session opens; each byte sent stands in the page, the code 09h in place 8
@@ -144,16 +144,16 @@ abbrev pub sessionOpen : Device
 sessionOpen = powered but i2cSession but counterAt 0x0911 but bytes [] [] (zeros 8 ++ 0x09 ∷ [])
 
 abbrev pub presentI2c : Part
-presentI2c = part (at 0xAE 0x09 0x00 ++ sends (zeros 8 ++ 0x09 ∷ zeros 8) ++ stop ∷ []) (acks ++ replicate 17 ack ++ none ∷ []) sessionOpen
+presentI2c = part (at 0xAE 0x09 0x00 ++ sends (zeros 8 ++ 0x09 ∷ zeros 8) ++ stop ∷ []) (acks ++ replicate 17 ack ++ noAnswer ∷ []) sessionOpen
 
 abbrev pub firstEnd0wire : Device
 firstEnd0wire = sessionOpen but areaEnds 0 0x0F 0x0F
 
 abbrev pub pair4wire : Pair
 pair4wire = goes (presentI2c
-    ∷ part (at 0xAE 0x00 0x05 ++ send 0 ∷ stop ∷ programmingEnd ∷ []) (acks ++ ack ∷ none ∷ none ∷ []) (firstEnd0wire but counterAt 0x0006)
-    ∷ part (at 0xAE 0x00 0x07 ++ send 0 ∷ stop ∷ []) (acks ++ noAck ∷ none ∷ []) (firstEnd0wire but counterAt 0x0007)
-    ∷ part (at 0xAE 0x00 0x07 ++ send 1 ∷ stop ∷ []) (acks ++ ack ∷ none ∷ [])
+    ∷ part (at 0xAE 0x00 0x05 ++ send 0 ∷ stop ∷ programmingEnd ∷ []) (acks ++ ack ∷ noAnswer ∷ noAnswer ∷ []) (firstEnd0wire but counterAt 0x0006)
+    ∷ part (at 0xAE 0x00 0x07 ++ send 0 ∷ stop ∷ []) (acks ++ noAck ∷ noAnswer ∷ []) (firstEnd0wire but counterAt 0x0007)
+    ∷ part (at 0xAE 0x00 0x07 ++ send 1 ∷ stop ∷ []) (acks ++ ack ∷ noAnswer ∷ [])
     (firstEnd0wire but areaEnds 0 1 0x0F but beingProgrammed but counterAt 0x0008 but bytes [] [] (1 ∷ zeros 7 ++ 0x09 ∷ []))
     ∷ [])
 
@@ -162,15 +162,15 @@ abbrev pub protected : Device
 protected = powered but areaRights 0 0x09 0 0 but areaEnds 0 0x0F 0x0F
 
 abbrev pub pair5 : Pair
-pair5 = goes (part (present 0 ∷ config 0x06 0x09 ∷ config 0x05 0 ∷ readBlock 8 ∷ []) (good ∷ good ∷ good ∷ error 0x15 ∷ []) (protected but radioSession 1)
-    ∷ part (present 1 ∷ readBlock 8 ∷ []) (good ∷ block ∷ []) (protected but radioSession 2)
+pair5 = goes (part (present 0 ∷ config 0x06 0x09 ∷ config 0x05 0 ∷ readBlock 8 ∷ []) (goodReply ∷ goodReply ∷ goodReply ∷ error 0x15 ∷ []) (protected but radioSession 1)
+    ∷ part (present 1 ∷ readBlock 8 ∷ []) (goodReply ∷ block ∷ []) (protected but radioSession 2)
     ∷ part (present 4 ∷ []) (error 0x10 ∷ []) (protected but radioSession 2)
-    ∷ part (readBlock 8 ∷ present 2 ∷ readBlock 8 ∷ []) (block ∷ good ∷ error 0x15 ∷ []) (protected but radioSession 3)
+    ∷ part (readBlock 8 ∷ present 2 ∷ readBlock 8 ∷ []) (block ∷ goodReply ∷ error 0x15 ∷ []) (protected but radioSession 3)
     ∷ [])
 
 -- 6. "RFA1SS 09h: block 0 readable."
 abbrev pub pair6 : Pair
-pair6 = goes (part (present 0 ∷ config 0x04 0x09 ∷ readBlock 0 ∷ []) (good ∷ good ∷ block ∷ []) (powered but radioSession 1 but areaRights 0x09 0 0 0) ∷ [])
+pair6 = goes (part (present 0 ∷ config 0x04 0x09 ∷ readBlock 0 ∷ []) (goodReply ∷ goodReply ∷ block ∷ []) (powered but radioSession 1 but areaRights 0x09 0 0 0) ∷ [])
 
 -- 7. "02 2C 7E 05: 00 00 00."
 abbrev pub pair7 : Pair
@@ -178,7 +178,7 @@ pair7 = goes (part (frame (0x02 ∷ 0x2C ∷ 0x7E ∷ 0x05 ∷ []) ∷ []) (repl
 
 -- 8. "Two bytes at 01FFh: Ack, NoAck; nothing written.": the first one stands in the page
 abbrev pub pair8 : Pair
-pair8 = goes (part (at 0xA6 0x01 0xFF ++ send 0x5A ∷ send 0xA5 ∷ stop ∷ []) (acks ++ ack ∷ noAck ∷ none ∷ [])
+pair8 = goes (part (at 0xA6 0x01 0xFF ++ send 0x5A ∷ send 0xA5 ∷ stop ∷ []) (acks ++ ack ∷ noAck ∷ noAnswer ∷ [])
     (powered but counterAt 0x0200 but bytes [] [] (0x5A ∷ []))
     ∷ [])
 
@@ -191,14 +191,14 @@ fillPage = part (at 0xA6 0x00 0x00 ++ sends (replicate 256 0x5A)) (acks ++ repli
 
 abbrev pub pair9 : Pair
 pair9 = goes (fillPage
-    ∷ part (stop ∷ []) (none ∷ []) (pageFull but beingProgrammed but bytes (replicate 256 0x5A) [] (replicate 256 0x5A))
+    ∷ part (stop ∷ []) (noAnswer ∷ []) (pageFull but beingProgrammed but bytes (replicate 256 0x5A) [] (replicate 256 0x5A))
     ∷ [])
 
 -- spoiled: nothing written
 abbrev pub pair9more : Pair
 pair9more = goes (fillPage
     ∷ part (send 0x5A ∷ []) (noAck ∷ []) (pageFull but onBus (DataLeg User 256 true))
-    ∷ part (stop ∷ []) (none ∷ []) pageFull
+    ∷ part (stop ∷ []) (noAnswer ∷ []) pageFull
     ∷ [])
 
 -- 10. "A 3-byte host message: AC 02 at 02,00 gives its last byte; at 03,00 and FF,00 01 0F.": reading the last byte clears HOST_PUT
@@ -212,9 +212,9 @@ abbrev pub mailed : Device
 mailed = powered but radioSession 1 but mailboxMode 1 but counterAt 0x200B but bytes [] message message
 
 abbrev pub pair10 : Pair
-pair10 = goes (part (present 0 ∷ config 0x0D 1 ∷ []) (good ∷ good ∷ []) (powered but radioSession 1 but mailboxMode 1)
+pair10 = goes (part (present 0 ∷ config 0x0D 1 ∷ []) (goodReply ∷ goodReply ∷ []) (powered but radioSession 1 but mailboxMode 1)
     ∷ part (at 0xA6 0x20 0x06 ++ send 0x01 ∷ stop ∷ [] ++ at 0xA6 0x20 0x08 ++ sends message ++ stop ∷ [])
-    (acks ++ ack ∷ none ∷ [] ++ acks ++ replicate 3 ack ++ none ∷ []) (mailed but hostMessage 3 true)
+    (acks ++ ack ∷ noAnswer ∷ [] ++ acks ++ replicate 3 ack ++ noAnswer ∷ []) (mailed but hostMessage 3 true)
     ∷ part (readMessage 0x02 0x00 ∷ []) (reply (0x00 ∷ 0x33 ∷ []) ∷ []) (mailed but hostMessage 3 false)
     ∷ part (readMessage 0x03 0x00 ∷ readMessage 0xFF 0x00 ∷ []) (error 0x0F ∷ error 0x0F ∷ []) (mailed but hostMessage 3 false)
     ∷ [])
@@ -224,8 +224,8 @@ abbrev pub byteWritten : Device
 byteWritten = powered but counterAt 0x0001 but bytes (0x5A ∷ []) [] (0x5A ∷ [])
 
 abbrev pub pair11 : Pair
-pair11 = goes (part (at 0xA6 0x00 0x00 ++ send 0x5A ∷ stop ∷ programmingEnd ∷ []) (acks ++ ack ∷ none ∷ none ∷ []) byteWritten
-    ∷ part (at 0xA6 0xFF 0xFF ++ start ∷ send 0xA7 ∷ fetch ∷ fetchLast ∷ stop ∷ []) (acks ++ none ∷ ack ∷ byte 0xFF ∷ byte 0x5A ∷ none ∷ []) byteWritten
+pair11 = goes (part (at 0xA6 0x00 0x00 ++ send 0x5A ∷ stop ∷ programmingEnd ∷ []) (acks ++ ack ∷ noAnswer ∷ noAnswer ∷ []) byteWritten
+    ∷ part (at 0xA6 0xFF 0xFF ++ start ∷ send 0xA7 ∷ fetch ∷ fetchLast ∷ stop ∷ []) (acks ++ noAnswer ∷ ack ∷ fetchedByte 0xFF ∷ fetchedByte 0x5A ∷ noAnswer ∷ []) byteWritten
     ∷ [])
 
 -- 12. "Stay Quiet, addressed, in an open transfer: silence, still Ready."
@@ -233,8 +233,8 @@ abbrev pub stayQuiet : Call
 stayQuiet = frame (0x22 ∷ 0x02 ∷ (uid .bytes))
 
 abbrev pub pair12 : Pair
-pair12 = goes (part (start ∷ send 0xA6 ∷ stayQuiet ∷ []) (none ∷ ack ∷ silence ∷ []) (powered but radioState Ready but onBus (WriteLeg User))
-    ∷ part (stop ∷ readBlock 0 ∷ []) (none ∷ block ∷ []) powered
+pair12 = goes (part (start ∷ send 0xA6 ∷ stayQuiet ∷ []) (noAnswer ∷ ack ∷ silence ∷ []) (powered but radioState Ready but onBus (WriteLeg User))
+    ∷ part (stop ∷ readBlock 0 ∷ []) (noAnswer ∷ block ∷ []) powered
     ∷ [])
 
 -- ---- all twelve

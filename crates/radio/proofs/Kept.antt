@@ -27,21 +27,21 @@ use Rattle.tag.specs.declared.Core.{Core}
 use Rattle.tag.specs.Radio.{deselected}
 use Rattle.tag.specs.Mailbox.{disabled, enabled, controlled, radioPut, radioRead}
 use Rattle.reply.specs.declared.RadioSide.{RadioSide}
-use Rattle.reply.specs.Reply.{Said}
-use Rattle.reply.specs.Outcome.{Told, told, withAir, withCore, sideRegisters, sideMailbox, sidePasswords}
+use Rattle.reply.specs.Reply.{ReplyBody}
+use Rattle.reply.specs.Outcome.{CommandResult, commandResult, withAir, withRadioCore, sideRegisters, sideMailbox, sidePasswords}
 use Rattle.frame.specs.declared.Verdict.{Verdict}
 use Rattle.frame.specs.declared.Verdict.the-variants.{Silence, Error, Request}
 use Rattle.frame.specs.Fields.{param}
 use Rattle.frame.specs.Judge.{judge}
 use Rattle.blocks.specs.Blocks.{readOf, statusReply}
 use Rattle.block_writes.specs.Writes.{writeOf, lockOf}
-use Rattle.config.specs.Config.{mailboxAfter, writtenCore, readConfigOf, writeConfigOf, readDynamicOf, writeDynamicOf}
+use Rattle.config.specs.Config.{mailboxAfterWrite, writtenCore, readConfigOf, writeConfigOf, readDynamicOf, writeDynamicOf}
 use Rattle.message.specs.Message as message
-use Rattle.password.specs.Password.{presentOf, writePasswordOf, quietOf, selectOf, resetOf}
-use Rattle.radio.specs.declared.Request.{Request as Fields}
-use Rattle.radio.specs.Claims.{radioInRange, Keeps}
+use Rattle.password.specs.Password.{presentOf, writePasswordOf, stayQuietOf, selectUidOf, resetToReadyOf}
+use Rattle.radio.specs.declared.RequestFields.{RequestFields}
+use Rattle.radio.specs.Claims.{radioInRange, FrameKeepsRange}
 use Rattle.radio.specs.Commands.{requestOf, serveOf}
-use Rattle.radio.specs.Radio.{answered, radioOf}
+use Rattle.radio.specs.Radio.{verdictResult, radioOf}
 
 -- ---- the ranges as facts
 record Fits (vcc : Bool) (t : RadioSide) : Type 0 where
@@ -66,7 +66,7 @@ unfolding coreInRange
 in-range vcc t f = rw (f .air, f .registers, f .mailbox, f .supplied)
 
 -- what a command told is in range, with a memory of n bytes
-record Kept (vcc : Bool) (n : ℕ) (d : Told) : Type 0 where
+record Kept (vcc : Bool) (n : ℕ) (d : CommandResult) : Type 0 where
   side : Fits vcc (d .side)
   size : length (d .memory) ≡ n
 
@@ -76,22 +76,22 @@ unfolding endAllows pick
 no-end e x = refl
 
 module _ (vcc : Bool) (t : RadioSide) (m : List ℕ) (f : Fits vcc t) where
-  abbrev K : Told → Type 0
+  abbrev K : CommandResult → Type 0
   K d = Kept vcc (length m) d
 
-  same : (r : Said) → K (told r t m)
+  same : (r : ReplyBody) → K (commandResult r t m)
   same r = record { side = f; size = refl }
 
-  stored : (r : Said) (at : ℕ) (bs : List ℕ) → K (told r t (sets m at bs))
+  stored : (r : ReplyBody) (at : ℕ) (bs : List ℕ) → K (commandResult r t (sets m at bs))
   stored r at bs = record { side = f; size = length-sets m at bs }
 
   -- the air side changed, its session in range
-  in-air : (r : Said) (a : Air) → airInRange a ≡ true → K (told r (withAir a t) m)
+  in-air : (r : ReplyBody) (a : Air) → airInRange a ≡ true → K (commandResult r (withAir a t) m)
   in-air r a h = record { side = record { air = h; registers = f .registers; mailbox = f .mailbox; supplied = f .supplied }; size = refl }
 
   -- the mailbox changed, and the memory not in length
-  in-mailbox : (r : Said) (b : Mailbox) (m′ : List ℕ) → length m′ ≡ length m → mailboxInRange b ≡ true → (vcc || not (b .enabled)) ≡ true
-      → K (told r (sideMailbox b t) m′)
+  in-mailbox : (r : ReplyBody) (b : Mailbox) (m′ : List ℕ) → length m′ ≡ length m → mailboxInRange b ≡ true → (vcc || not (b .enabled)) ≡ true
+      → K (commandResult r (sideMailbox b t) m′)
   in-mailbox r b m′ l h v = record { side = record { air = f .air; registers = f .registers; mailbox = h; supplied = v }; size = l }
 
   -- ---- blocks
@@ -132,16 +132,16 @@ module _ (vcc : Bool) (t : RadioSide) (m : List ℕ) (f : Fits vcc t) where
       (λ h. pick-case K _ _ _ (λ h. same _)
       (λ h. record { side = record { air = f .air; registers = f .registers; mailbox = f .mailbox; supplied = f .supplied }; size = refl }))
 
-  quiet-kept : K (quietOf t m)
-  unfolding quietOf airInRange
+  quiet-kept : K (stayQuietOf t m)
+  unfolding stayQuietOf airInRange
   quiet-kept = in-air _ _ (f .air)
 
-  reset-kept : K (resetOf t m)
-  unfolding resetOf airInRange
+  reset-kept : K (resetToReadyOf t m)
+  unfolding resetToReadyOf airInRange
   reset-kept = in-air _ _ (f .air)
 
-  select-kept : (own : Bool) → K (selectOf t m own)
-  unfolding selectOf airInRange deselected
+  select-kept : (own : Bool) → K (selectUidOf t m own)
+  unfolding selectUidOf airInRange deselected
   select-kept own =
       pick-case K own _ _ (λ h. in-air _ _ (f .air))
       (λ h. in-air _ _ (pick-case (λ (a : Air). leb (a .session) 4 ≡ true) _ _ _ (λ k. f .air) (λ k. f .air)))
@@ -151,8 +151,8 @@ module _ (vcc : Bool) (t : RadioSide) (m : List ℕ) (f : Fits vcc t) where
   unfolding readConfigOf
   read-config-kept p = pick-case K _ _ _ (λ h. same _) (λ h. same _)
 
-  mailbox-after : (p x : ℕ) → (mailboxInRange (mailboxAfter p x (t .core .mailbox)) ≡ true) × ((vcc || not (mailboxAfter p x (t .core .mailbox) .enabled)) ≡ true)
-  unfolding mailboxAfter
+  mailbox-after : (p x : ℕ) → (mailboxInRange (mailboxAfterWrite p x (t .core .mailbox)) ≡ true) × ((vcc || not (mailboxAfterWrite p x (t .core .mailbox) .enabled)) ≡ true)
+  unfolding mailboxAfterWrite
   mailbox-after p x =
       pick-case (λ (b : Mailbox). (mailboxInRange b ≡ true) × ((vcc || not (b .enabled)) ≡ true)) _ _ _ (λ h. (empty-kept, or-second vcc true refl)) (λ h. (f .mailbox, f .supplied))
 
@@ -206,7 +206,7 @@ module _ (vcc : Bool) (t : RadioSide) (m : List ℕ) (f : Fits vcc t) where
       (f .supplied))
 
   read-message-kept : (p n : ℕ) → K (message.readMessageOf t m p n)
-  unfolding message.readMessageOf message.mailboxAfter
+  unfolding message.readMessageOf message.mailboxAfterRead
   read-message-kept p n =
       pick-case K _ _ _ (λ h. same _)
       (λ h. pick-case K _ _ _ (λ h. same _)
@@ -215,7 +215,7 @@ module _ (vcc : Bool) (t : RadioSide) (m : List ℕ) (f : Fits vcc t) where
       (pick-case (λ (b : Mailbox). (vcc || not (b .enabled)) ≡ true) _ _ _ (λ k. f .supplied) (λ k. f .supplied))))
 
   -- ---- the table, and a frame
-  serve-kept : (q : Fields) (s : List ℕ) → q .first < 256 → K (serveOf q t vcc m s)
+  serve-kept : (q : RequestFields) (s : List ℕ) → q .first < 256 → K (serveOf q t vcc m s)
   unfolding serveOf
   serve-kept q s l =
       pick-case K _ _ _ (λ h. quiet-kept)
@@ -237,13 +237,13 @@ module _ (vcc : Bool) (t : RadioSide) (m : List ℕ) (f : Fits vcc t) where
       (λ h. pick-case K _ _ _ (λ h. present-kept (q .first) s (q .at + 1))
       (λ h. pick-case K _ _ _ (λ h. password-kept (q .first) s (q .at + 1)) (λ h. same _))))))))))))))))))
 
-  answer-kept : (v : Verdict) (u : Uid) (s : List ℕ) → ((i : ℕ) → getD s i 0 < 256) → K (answered v t u vcc m s)
-  unfolding answered param
+  answer-kept : (v : Verdict) (u : Uid) (s : List ℕ) → ((i : ℕ) → getD s i 0 < 256) → K (verdictResult v t u vcc m s)
+  unfolding verdictResult param
   answer-kept Silence u s b = same _
   answer-kept (Error e) u s b = same _
   answer-kept Request u s b = serve-kept (requestOf s u) s (b _)
 
-pub keeps : Keeps
+pub keeps : FrameKeepsRange
 unfolding radioOf
 keeps t u vcc transfer programming m s b h =
     let k = answer-kept vcc t m (fits vcc t h) (judge s (t .air) u (t .core .registers .dynamic) (transfer || programming)) u s b in

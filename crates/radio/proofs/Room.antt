@@ -18,24 +18,24 @@ use Rattle.ranges.specs.Ranges.{mailboxInRange}
 use Rattle.tag.specs.declared.Uid.{Uid}
 use Rattle.tag.specs.declared.Mailbox.{Mailbox}
 use Rattle.reply.specs.declared.RadioSide.{RadioSide}
-use Rattle.reply.specs.Outcome.{Told, told, fails}
+use Rattle.reply.specs.Outcome.{CommandResult, commandResult, fails}
 use Rattle.frame.specs.declared.Verdict.{Verdict}
 use Rattle.frame.specs.declared.Verdict.the-variants.{Silence, Error, Request}
 use Rattle.frame.specs.Judge.{judge}
-use Rattle.blocks.specs.Blocks.{leaves, blockOf, blocksOf, readOf, statusOf, statusesOf, statusReply}
+use Rattle.blocks.specs.Blocks.{leavesArea, blockOf, blocksOf, readOf, statusOf, statusesOf, statusReply}
 use Rattle.block_writes.specs.Writes.{writeOf, lockOf}
 use Rattle.config.specs.Config.{readConfigOf, writeConfigOf, readDynamicOf, writeDynamicOf}
 use Rattle.message.specs.Message.{writeMessageOf, lengthOf, asked, readMessageOf}
-use Rattle.password.specs.Password.{presentOf, writePasswordOf, quietOf, selectOf, resetOf}
-use Rattle.radio.specs.declared.Request.{Request as Fields}
+use Rattle.password.specs.Password.{presentOf, writePasswordOf, stayQuietOf, selectUidOf, resetToReadyOf}
+use Rattle.radio.specs.declared.RequestFields.{RequestFields}
 use Rattle.radio.specs.Claims.{replySize, RepliesFit}
 use Rattle.radio.specs.Commands.{requestOf, serveOf}
-use Rattle.radio.specs.Radio.{answered, radioOf}
+use Rattle.radio.specs.Radio.{verdictResult, radioOf}
 
-abbrev Small : Told → Type 0
+abbrev Small : CommandResult → Type 0
 Small r = replySize (r .reply) ≤ 643
 
-either : (b : Bool) (x y : Told) → Small x → Small y → Small (pick b x y)
+either : (b : Bool) (x y : CommandResult) → Small x → Small y → Small (pick b x y)
 either b x y p q = pick-case Small b x y (λ _. p) (λ _. q)
 
 neither : (a b : Bool) → (a || b) ≡ false → a ≡ false
@@ -61,10 +61,10 @@ statuses-size r session first (suc n) = omega (arith, length-append (statusesOf 
 
 -- ---- the rows: an error or a reply without data is short
 read-small : (t : RadioSide) (m : List ℕ) (option : Bool) (first more : ℕ) → Small (readOf t m option first more)
-unfolding readOf replySize leaves
+unfolding readOf replySize leavesArea
 read-small t m option first more =
     pick-case Small (leb 128 first) _ _ (λ _. omega arith)
-    (λ _. pick-case Small (leaves (t .core .registers .ends) first (first + more)) _ _ (λ _. omega arith)
+    (λ _. pick-case Small (leavesArea (t .core .registers .ends) first (first + more)) _ _ (λ _. omega arith)
     (λ h. either _ _ _ (omega arith) (omega (arith, leb-false 128 (first + more) (neither _ _ h), blocks-size (t .core .registers) (t .air .session) m option first (more + 1)))))
 
 write-small : (t : RadioSide) (m : List ℕ) (first more : ℕ) (s : List ℕ) (at : ℕ) → Small (writeOf t m first more s at)
@@ -129,13 +129,13 @@ password-small : (t : RadioSide) (m : List ℕ) (n : ℕ) (s : List ℕ) (at : �
 unfolding writePasswordOf replySize
 password-small t m n s at = either _ _ _ (omega arith) (either _ _ _ (omega arith) (omega arith))
 
-select-small : (t : RadioSide) (m : List ℕ) (own : Bool) → Small (selectOf t m own)
-unfolding selectOf replySize
+select-small : (t : RadioSide) (m : List ℕ) (own : Bool) → Small (selectUidOf t m own)
+unfolding selectUidOf replySize
 select-small t m own = either _ _ _ (omega arith) (omega arith)
 
 -- ---- the table
-serve-small : (q : Fields) (t : RadioSide) (vcc : Bool) (m s : List ℕ) → mailboxInRange (t .core .mailbox) ≡ true → Small (serveOf q t vcc m s)
-unfolding serveOf quietOf resetOf replySize
+serve-small : (q : RequestFields) (t : RadioSide) (vcc : Bool) (m s : List ℕ) → mailboxInRange (t .core .mailbox) ≡ true → Small (serveOf q t vcc m s)
+unfolding serveOf stayQuietOf resetToReadyOf replySize
 serve-small q t vcc m s r =
     either _ _ _ (omega arith)
     (either _ _ _ (select-small t m (q .own))
@@ -157,8 +157,8 @@ serve-small q t vcc m s r =
     (either _ _ _ (password-small t m (q .first) s (q .at + 1))
     (omega arith))))))))))))))))))
 
-answered-small : (v : Verdict) (t : RadioSide) (u : Uid) (vcc : Bool) (m s : List ℕ) → mailboxInRange (t .core .mailbox) ≡ true → Small (answered v t u vcc m s)
-unfolding answered replySize
+answered-small : (v : Verdict) (t : RadioSide) (u : Uid) (vcc : Bool) (m s : List ℕ) → mailboxInRange (t .core .mailbox) ≡ true → Small (verdictResult v t u vcc m s)
+unfolding verdictResult replySize
 answered-small Silence t u vcc m s r = omega arith
 answered-small (Error e) t u vcc m s r = omega arith
 answered-small Request t u vcc m s r = serve-small (requestOf s u) t vcc m s r

@@ -9,12 +9,12 @@ use Rattle.reply.specs.declared.RadioSide.{RadioSide}
 use Rattle.frame.specs.declared.Verdict.{Verdict}
 use Rattle.frame.proofs.ShutOut.{shut-out-decides, shut-out-answers}
 use Rattle.radio.specs.Claims.{ShutOutChangesNothing}
-use Rattle.radio.specs.Radio.{answered, radioOf}
+use Rattle.radio.specs.Radio.{verdictResult, radioOf}
 
 pub shut-out : ShutOutChangesNothing
-unfolding radioOf answered
+unfolding radioOf verdictResult
 shut-out t u vcc transfer programming m s h =
     let d = t .core .registers .dynamic in
     let e = shut-out-decides s (t .air) u d (transfer || programming) h in
-    ⊎-elim (λ p. inl (ap (λ (v : Verdict). answered v t u vcc m s) (e ∙ p))) (λ p. inr (ap (λ (v : Verdict). answered v t u vcc m s) (e ∙ p)))
+    ⊎-elim (λ p. inl (ap (λ (v : Verdict). verdictResult v t u vcc m s) (e ∙ p))) (λ p. inr (ap (λ (v : Verdict). verdictResult v t u vcc m s) (e ∙ p)))
     (shut-out-answers s (t .air) u d)

@@ -7,26 +7,26 @@ use Rattle.parts.specs.Pick.{pick}
 use Rattle.tag.specs.declared.Uid.{Uid}
 use Rattle.reply.specs.declared.RadioSide.{RadioSide}
 use Rattle.reply.specs.Reply.{nothing}
-use Rattle.reply.specs.Outcome.{Told, told}
+use Rattle.reply.specs.Outcome.{CommandResult, commandResult}
 use Rattle.frame.specs.Fields.{command, optionFlag, paramPlace, ownUid, param}
 use Rattle.blocks.specs.Blocks.{readOf, statusReply}
 use Rattle.block_writes.specs.Writes.{writeOf, lockOf}
 use Rattle.config.specs.Config.{readConfigOf, writeConfigOf, readDynamicOf, writeDynamicOf}
 use Rattle.message.specs.Message.{writeMessageOf, lengthOf, readMessageOf}
-use Rattle.password.specs.Password.{presentOf, writePasswordOf, quietOf, selectOf, resetOf}
-use Rattle.radio.specs.declared.Request.{Request}
+use Rattle.password.specs.Password.{presentOf, writePasswordOf, stayQuietOf, selectUidOf, resetToReadyOf}
+use Rattle.radio.specs.declared.RequestFields.{RequestFields}
 
 -- a frame's fields: command, first two parameter bytes, option, whether its UID is the tag's, the place of its parameters
-abbrev pub requestOf : List ℕ → Uid → Request
+abbrev pub requestOf : List ℕ → Uid → RequestFields
 requestOf s u =
     record { command = command s; first = param s 0; second = param s 1; option = optionFlag s; own = ownUid s u; at = paramPlace s }
 
 -- the command of a request served; s is the frame, for data that stand in it
-unfoldable pub serveOf : Request → RadioSide → Bool → List ℕ → List ℕ → Told
+unfoldable pub serveOf : RequestFields → RadioSide → Bool → List ℕ → List ℕ → CommandResult
 serveOf q t vcc m s =
-    pick (eqb (q .command) 0x02) (quietOf t m)
-    (pick (eqb (q .command) 0x25) (selectOf t m (q .own))
-    (pick (eqb (q .command) 0x26) (resetOf t m)
+    pick (eqb (q .command) 0x02) (stayQuietOf t m)
+    (pick (eqb (q .command) 0x25) (selectUidOf t m (q .own))
+    (pick (eqb (q .command) 0x26) (resetToReadyOf t m)
     -- 20: block; 23: first, count-1
     (pick (eqb (q .command) 0x20) (readOf t m (q .option) (q .first) 0)
     (pick (eqb (q .command) 0x23) (readOf t m (q .option) (q .first) (q .second))
@@ -48,4 +48,4 @@ serveOf q t vcc m s =
     (pick (eqb (q .command) 0xB3) (presentOf t m (q .first) s (q .at + 1))
     (pick (eqb (q .command) 0xB1) (writePasswordOf t m (q .first) s (q .at + 1))
     -- no other is a request
-    (told nothing t m))))))))))))))))))
+    (commandResult nothing t m))))))))))))))))))

@@ -5,20 +5,20 @@ use Prim.Native.Nat.{ℕ}
 use Rattle.tag.specs.declared.Uid.{Uid}
 use Rattle.reply.specs.declared.RadioSide.{RadioSide}
 use Rattle.reply.specs.Reply.{nothing}
-use Rattle.reply.specs.Outcome.{Told, told, fails}
+use Rattle.reply.specs.Outcome.{CommandResult, commandResult, fails}
 use Rattle.frame.specs.declared.Verdict.{Verdict}
 use Rattle.frame.specs.declared.Verdict.the-variants.{Silence, Error, Request}
 use Rattle.frame.specs.Judge.{judge}
 use Rattle.radio.specs.Commands.{requestOf, serveOf}
 
 -- what each verdict comes to: silence, 01h and the code, or the command
-unfoldable pub answered : Verdict → RadioSide → Uid → Bool → List ℕ → List ℕ → Told
-answered Silence t u vcc m s = told nothing t m
-answered (Error e) t u vcc m s = fails e t m
-answered Request t u vcc m s = serveOf (requestOf s u) t vcc m s
+unfoldable pub verdictResult : Verdict → RadioSide → Uid → Bool → List ℕ → List ℕ → CommandResult
+verdictResult Silence t u vcc m s = commandResult nothing t m
+verdictResult (Error e) t u vcc m s = fails e t m
+verdictResult Request t u vcc m s = serveOf (requestOf s u) t vcc m s
 
 -- the frame s, for the tag's radio side t with UID u, VCC, a transfer open, programming, and memory m.
 -- It holds for memory of every length: a byte past its end reads 0, a store past it changes nothing.
-unfoldable pub radioOf : RadioSide → Uid → Bool → Bool → Bool → List ℕ → List ℕ → Told
+unfoldable pub radioOf : RadioSide → Uid → Bool → Bool → Bool → List ℕ → List ℕ → CommandResult
 radioOf t u vcc transfer programming m s =
-    answered (judge s (t .air) u (t .core .registers .dynamic) (transfer || programming)) t u vcc m s
+    verdictResult (judge s (t .air) u (t .core .registers .dynamic) (transfer || programming)) t u vcc m s

@@ -1,16 +1,16 @@
 // The radio side: a frame in, its answer and what it changes out. A layer and no entry point: it refuses nothing.
 ghost use mathlib.Core.Path.{_≡_};
-ghost use Rattle.reply.specs.Outcome.{ended, finish};
+ghost use Rattle.reply.specs.Outcome.{radioResult, finish};
 ghost use Rattle.radio.specs.Commands.{requestOf, serveOf};
 ghost use Rattle.radio.specs.Radio.{radioOf};
 use frame::Verdict;
-use reply::Answer;
-use reply::Outcome;
+use reply::RadioAnswer;
+use reply::RadioOutcome;
 use reply::RadioSide;
 use tag::Uid;
 
 // A frame's fields.
-pub struct Request {
+pub struct RequestFields {
     pub command: u8,
     // The first two bytes of its parameters.
     pub first: u8,
@@ -22,11 +22,11 @@ pub struct Request {
     pub at: u8,
 }
 
-fn fields(s: &[u8], u: Uid) -> Request
+fn fields(s: &[u8], u: Uid) -> RequestFields
     ensures { λ r. ⌜ r ≡ requestOf (now (s .entry)) u ⌝ }
 {
     let at = frame::param_place(s);
-    Request {
+    RequestFields {
         command: frame::command(s),
         first: frame::param(s, 0),
         second: frame::param(s, 1),
@@ -37,8 +37,15 @@ fn fields(s: &[u8], u: Uid) -> Request
 }
 
 // Serves a request.
-fn serve(q: Request, t: RadioSide, vcc: bool, m: &mut [u8], out: &mut [u8], s: &[u8]) -> Outcome
-    ensures { λ r. ⌜ ended r (now (m .exit)) (now (out .exit)) ≡ finish (serveOf q t vcc (now (m .entry)) (now (s .entry))) (now (out .entry)) ⌝ }
+fn serve(
+    q: RequestFields,
+    t: RadioSide,
+    vcc: bool,
+    m: &mut [u8],
+    out: &mut [u8],
+    s: &[u8],
+) -> RadioOutcome
+    ensures { λ r. ⌜ radioResult r (now (m .exit)) (now (out .exit)) ≡ finish (serveOf q t vcc (now (m .entry)) (now (s .entry))) (now (out .entry)) ⌝ }
 {
     let command = q.command;
     let first = q.first;
@@ -63,8 +70,8 @@ fn serve(q: Request, t: RadioSide, vcc: bool, m: &mut [u8], out: &mut [u8], s: &
         0xAC => message::read(t, m, out, first, second),
         0xB3 => password::present(t, m, out, first, s, at + 1),
         0xB1 => password::write(t, m, out, first, s, at + 1),
-        _ => Outcome {
-            answer: Answer::Silence,
+        _ => RadioOutcome {
+            answer: RadioAnswer::Silence,
             side: t,
         },
     }
@@ -80,16 +87,16 @@ pub fn radio(
     m: &mut [u8],
     out: &mut [u8],
     s: &[u8],
-) -> Outcome
-    ensures { λ r. ⌜ ended r (now (m .exit)) (now (out .exit)) ≡ finish (radioOf t u vcc transfer programming (now (m .entry)) (now (s .entry))) (now (out .entry)) ⌝ }
+) -> RadioOutcome
+    ensures { λ r. ⌜ radioResult r (now (m .exit)) (now (out .exit)) ≡ finish (radioOf t u vcc transfer programming (now (m .entry)) (now (s .entry))) (now (out .entry)) ⌝ }
 {
     let d = t.core.registers.dynamic;
     match frame::judge(s, t.air, u, d, transfer | programming) {
-        Verdict::Silence => Outcome {
-            answer: Answer::Silence,
+        Verdict::Silence => RadioOutcome {
+            answer: RadioAnswer::Silence,
             side: t,
         },
-        Verdict::Error(e) => Outcome {
+        Verdict::Error(e) => RadioOutcome {
             answer: reply::error(out, e),
             side: t,
         },

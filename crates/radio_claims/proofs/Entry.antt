@@ -14,8 +14,8 @@ use Rattle.parts.proofs.Lists.{getD-sets-before}
 use Rattle.crc.specs.Crc.{crcBytes, closedAt}
 use Rattle.tag.specs.declared.Tag.{Tag}
 use Rattle.reply.specs.declared.RadioSide.{RadioSide}
-use Rattle.reply.specs.Reply.{Said, body, answerOf, bufferOf}
-use Rattle.reply.specs.Outcome.{Told}
+use Rattle.reply.specs.Reply.{ReplyBody, body, answerOf, bufferOf}
+use Rattle.reply.specs.Outcome.{CommandResult}
 use Rattle.radio.specs.Radio.{radioOf}
 use Rattle.model.specs.declared.Refusal.{Refusal}
 use Rattle.model.specs.declared.Refusal.the-variants.{MemoryLength, ReplyShort, SignalUnknown, OutOfRange}
@@ -24,7 +24,7 @@ use Rattle.model.specs.declared.Answer.the-variants.{Refused, Nothing, Ack, NoA
 use Rattle.model.specs.declared.Signal.{Signal}
 use Rattle.model.specs.declared.Signal.the-variants.{Frame}
 use Rattle.model.specs.Signals.{signalBy}
-use Rattle.model.specs.Step.{Ended, fromRadio, radioSide, withRadio, transferOpen, actOf, stepOf}
+use Rattle.model.specs.Step.{StepResult, fromRadio, radioSide, withRadio, transferOpen, actOf, stepOf}
 use Rattle.radio_claims.specs.Claims.{errorLeaves, ErrorCallsLeave}
 use Rattle.radio_claims.proofs.Errors.{Shape, silent, served, failed, frame-leaves}
 
@@ -50,15 +50,15 @@ unfolding isReply
 refused-not why n h = let e : _≡_ {A = ℕ} 0 1 = ap isReply h in omega arith
 
 -- what a frame told, in the tag t and the buffer o
-told-leaves : (t : Tag) (m o : List ℕ) (after : RadioSide) (r : Told) (n : ℕ) → 0 < length o → Shape after m r
+told-leaves : (t : Tag) (m o : List ℕ) (after : RadioSide) (r : CommandResult) (n : ℕ) → 0 < length o → Shape after m r
     → fromRadio (answerOf (r .reply)) ≡ Reply n → getD (bufferOf (r .reply) o) 0 0 ≡ 0x01
     → (withRadio (r .side) t ≡ withRadio after t) × (r .memory ≡ m)
 unfolding fromRadio answerOf isReply
 told-leaves t m o after r n l (silent h) a b =
-    let e : _≡_ {A = ℕ} 0 1 = ap (λ (x : Said). isReply (fromRadio (answerOf x))) (sym h) ∙ ap isReply a in absurd (omega arith)
+    let e : _≡_ {A = ℕ} 0 1 = ap (λ (x : ReplyBody). isReply (fromRadio (answerOf x))) (sym h) ∙ ap isReply a in absurd (omega arith)
 told-leaves t m o after r n l (served data- h) a b =
-    let e : _≡_ {A = ℕ} 0 1 = sym (first-byte 0 data- o l) ∙ ap (λ (x : Said). getD (bufferOf x o) 0 0) (sym h) ∙ b in absurd (omega arith)
-told-leaves t m o after r n l (failed e h) a b = (ap (λ (x : Told). withRadio (x .side) t) h, ap (λ (x : Told). x .memory) h)
+    let e : _≡_ {A = ℕ} 0 1 = sym (first-byte 0 data- o l) ∙ ap (λ (x : ReplyBody). getD (bufferOf x o) 0 0) (sym h) ∙ b in absurd (omega arith)
+told-leaves t m o after r n l (failed e h) a b = (ap (λ (x : CommandResult). withRadio (x .side) t) h, ap (λ (x : CommandResult). x .memory) h)
 
 frame-code : signalBy 8 0 ≡ Frame
 unfolding signalBy pick
@@ -69,7 +69,7 @@ unfolding stepOf actOf
 error-calls-leave t m o s n =
     let busy = transferOpen t || t .host .programming in
     let after = errorLeaves (radioSide t) (t .uid) busy s in
-    let P : Ended → Type 0 = λ (x : Ended). x .answer ≡ Reply n → getD (x .reply) 0 0 ≡ 0x01 → (x .tag ≡ withRadio after t) × (x .memory ≡ m) in
+    let P : StepResult → Type 0 = λ (x : StepResult). x .answer ≡ Reply n → getD (x .reply) 0 0 ≡ 0x01 → (x .tag ≡ withRadio after t) × (x .memory ≡ m) in
     pick-case P _ _ _ (λ h a b. absurd (refused-not MemoryLength n a))
     (λ h. pick-case P (ltb (length o) 643) _ _ (λ h a b. absurd (refused-not ReplyShort n a))
     (λ long. pick-case P _ _ _ (λ h a b. absurd (refused-not SignalUnknown n a))

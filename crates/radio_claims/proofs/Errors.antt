@@ -10,13 +10,13 @@ use borrow.Author.Tests.{eq-eqb, eqb-true, ltb-true, ltb-false, lt-leb, le-leb}
 use Rattle.parts.specs.Pick.{pick}
 use Rattle.parts.proofs.Picks.{pick-case, pick-true, pick-false}
 use Rattle.tag.specs.declared.Uid.{Uid}
-use Rattle.tag.specs.Radio.{withSession}
+use Rattle.tag.specs.Radio.{withRadioSession}
 use Rattle.tag.specs.Keys.{passwordAt, samePassword, radioPassword}
 use Rattle.errors.specs.declared.RadioError.{RadioError}
 use Rattle.errors.specs.declared.RadioError.the-variants.{NoSuchBlock, ReadLeavesArea, ReadProtected, TooManyBlocks, WriteLeavesArea, WriteForbidden, NotLockable, AlreadyLocked, NoSuchRegister, ConfigurationClosed, EndRefused, NoSuchDynamicRegister, MailboxUnavailable, MailboxDisabled, PastMessage, NoSuchPassword, WrongPassword, PasswordSessionClosed}
 use Rattle.reply.specs.declared.RadioSide.{RadioSide}
-use Rattle.reply.specs.Reply.{Said, nothing, body, good, fault}
-use Rattle.reply.specs.Outcome.{Told, told, fails, withAir}
+use Rattle.reply.specs.Reply.{ReplyBody, nothing, body, good, fault}
+use Rattle.reply.specs.Outcome.{CommandResult, commandResult, fails, withAir}
 use Rattle.frame.specs.declared.Verdict.{Verdict}
 use Rattle.frame.specs.declared.Verdict.the-variants.{Silence, Error, Request}
 use Rattle.frame.specs.Fields.{command, paramPlace, param}
@@ -25,20 +25,20 @@ use Rattle.blocks.specs.Blocks.{readOf, statusReply}
 use Rattle.block_writes.specs.Writes.{writeOf, lockOf}
 use Rattle.config.specs.Config.{readConfigOf, writeConfigOf, readDynamicOf, writeDynamicOf}
 use Rattle.message.specs.Message.{writeMessageOf, lengthOf, readMessageOf}
-use Rattle.password.specs.Password.{presentOf, writePasswordOf, quietOf, selectOf, resetOf}
-use Rattle.radio.specs.declared.Request.{Request as Fields}
+use Rattle.password.specs.Password.{presentOf, writePasswordOf, stayQuietOf, selectUidOf, resetToReadyOf}
+use Rattle.radio.specs.declared.RequestFields.{RequestFields}
 use Rattle.radio.specs.Commands.{requestOf, serveOf}
-use Rattle.radio.specs.Radio.{answered, radioOf}
+use Rattle.radio.specs.Radio.{verdictResult, radioOf}
 use Rattle.radio_claims.specs.Claims.{ErrorsChangeNothing, isRequest, presentsWrong, sessionClosed, errorLeaves, ErrorsLeave}
 
 -- ---- silence, a good reply, or an error that leaves the side `after` and the memory m
-pub data Shape (after : RadioSide) (m : List ℕ) (x : Told) : Type 0 where
+pub data Shape (after : RadioSide) (m : List ℕ) (x : CommandResult) : Type 0 where
   silent : x .reply ≡ nothing → Shape after m x
   served : (data- : List ℕ) → x .reply ≡ good data- → Shape after m x
-  failed : (e : RadioError) → x ≡ told (fault e) after m → Shape after m x
+  failed : (e : RadioError) → x ≡ commandResult (fault e) after m → Shape after m x
 
 -- the same reply has the same first byte; silence is none
-firstOf : Said → ℕ
+firstOf : ReplyBody → ℕ
 firstOf nothing = 2
 firstOf (body b) = getD b 0 2
 
@@ -51,24 +51,24 @@ unfolding firstOf
 not-silent b h = let e : _≡_ {A = ℕ} 2 1 = ap firstOf h in omega arith
 
 -- a reply that begins with 01h is an error
-error-of : (after : RadioSide) (m : List ℕ) (x : Told) (rest : List ℕ) → Shape after m x → x .reply ≡ body (0x01 ∷ rest)
-    → (e : RadioError) × (x ≡ told (fault e) after m)
+error-of : (after : RadioSide) (m : List ℕ) (x : CommandResult) (rest : List ℕ) → Shape after m x → x .reply ≡ body (0x01 ∷ rest)
+    → (e : RadioError) × (x ≡ commandResult (fault e) after m)
 error-of after m x rest (silent h) k = absurd (not-silent rest (sym h ∙ k))
 error-of after m x rest (served data- h) k = absurd (omega (arith, first-same 0 1 data- rest (sym h ∙ k)))
 error-of after m x rest (failed e h) k = (e, h)
 
 -- ---- every row but B3's
 module _ (t : RadioSide) (m : List ℕ) where
-  abbrev K : Told → Type 0
+  abbrev K : CommandResult → Type 0
   K x = Shape t m x
 
   fail : (e : RadioError) → K (fails e t m)
   fail e = failed e refl
 
-  fine : (data- : List ℕ) (side : RadioSide) (m′ : List ℕ) → K (told (good data-) side m′)
+  fine : (data- : List ℕ) (side : RadioSide) (m′ : List ℕ) → K (commandResult (good data-) side m′)
   fine data- side m′ = served data- refl
 
-  still : (side : RadioSide) (m′ : List ℕ) → K (told nothing side m′)
+  still : (side : RadioSide) (m′ : List ℕ) → K (commandResult nothing side m′)
   still side m′ = silent refl
 
   read-shape : (option : Bool) (first more : ℕ) → K (readOf t m option first more)
@@ -126,20 +126,20 @@ module _ (t : RadioSide) (m : List ℕ) where
   unfolding writePasswordOf
   write-password-shape n frame at = pick-case K _ _ _ (λ h. fail NoSuchPassword) (λ h. pick-case K _ _ _ (λ h. fail PasswordSessionClosed) (λ h. fine _ _ _))
 
-  quiet-shape : K (quietOf t m)
-  unfolding quietOf
+  quiet-shape : K (stayQuietOf t m)
+  unfolding stayQuietOf
   quiet-shape = still _ _
 
-  select-shape : (own : Bool) → K (selectOf t m own)
-  unfolding selectOf
+  select-shape : (own : Bool) → K (selectUidOf t m own)
+  unfolding selectUidOf
   select-shape own = pick-case K _ _ _ (λ h. fine _ _ _) (λ h. still _ _)
 
-  reset-shape : K (resetOf t m)
-  unfolding resetOf
+  reset-shape : K (resetToReadyOf t m)
+  unfolding resetToReadyOf
   reset-shape = fine _ _ _
 
   -- the table without B3
-  serve-shape : (q : Fields) (vcc : Bool) (s : List ℕ) → (q .command ≡ 0xB3 → ⊥) → K (serveOf q t vcc m s)
+  serve-shape : (q : RequestFields) (vcc : Bool) (s : List ℕ) → (q .command ≡ 0xB3 → ⊥) → K (serveOf q t vcc m s)
   unfolding serveOf
   serve-shape q vcc s other =
       pick-case K _ _ _ (λ h. quiet-shape)
@@ -161,8 +161,8 @@ module _ (t : RadioSide) (m : List ℕ) where
       (λ h. pick-case K _ _ _ (λ h. absurd (other (eqb-true (q .command) 0xB3 h)))
       (λ h. pick-case K _ _ _ (λ h. write-password-shape (q .first) s (q .at + 1)) (λ h. still _ _))))))))))))))))))
 
-  answer-shape : (v : Verdict) (u : Uid) (vcc : Bool) (s : List ℕ) → (command s ≡ 0xB3 → ⊥) → K (answered v t u vcc m s)
-  unfolding answered
+  answer-shape : (v : Verdict) (u : Uid) (vcc : Bool) (s : List ℕ) → (command s ≡ 0xB3 → ⊥) → K (verdictResult v t u vcc m s)
+  unfolding verdictResult
   answer-shape Silence u vcc s other = still _ _
   answer-shape (Error e) u vcc s other = fail e
   answer-shape Request u vcc s other = serve-shape (requestOf s u) vcc s other
@@ -188,11 +188,11 @@ module _ (t : RadioSide) (u : Uid) (vcc : Bool) (m s : List ℕ) where
       let after = pick (presentsWrong t s) (sessionClosed t) t in
       let and-wrong : Bool → Bool = λ (b : Bool). b && wrong in
       pick-case (Shape after m) (ltb 3 n) _ _
-      (λ h. failed NoSuchPassword (ap (λ (x : RadioSide). told (fault NoSuchPassword) x m)
+      (λ h. failed NoSuchPassword (ap (λ (x : RadioSide). commandResult (fault NoSuchPassword) x m)
       (pick-false (sessionClosed t) t t (presentsWrong t s) (ap and-wrong (lt-leb n _ (omega (arith, ltb-true 3 n h)))) refl)))
       (λ h. pick-case (Shape after m) wrong _ _
-      (λ k. failed WrongPassword (ap (λ (x : RadioSide). told (fault WrongPassword) x m)
-      (pick-true (sessionClosed t) t (withAir (withSession 0 (t .air)) t) (presentsWrong t s) (ap and-wrong (le-leb n _ (omega (arith, ltb-false 3 n h))) ∙ k) refl)))
+      (λ k. failed WrongPassword (ap (λ (x : RadioSide). commandResult (fault WrongPassword) x m)
+      (pick-true (sessionClosed t) t (withAir (withRadioSession 0 (t .air)) t) (presentsWrong t s) (ap and-wrong (le-leb n _ (omega (arith, ltb-false 3 n h))) ∙ k) refl)))
       (λ k. served [] refl))
 
   present-row : command s ≡ 0xB3 → serveOf (requestOf s u) t vcc m s ≡ presentOf t m (param s 0) s (paramPlace s + 1)
@@ -204,8 +204,8 @@ module _ (t : RadioSide) (u : Uid) (vcc : Bool) (m s : List ℕ) where
   request-shape true h = rw (present-row (eqb-true (command s) 0xB3 h)) present-shape
   request-shape false h = serve-shape t m (requestOf s u) vcc s (λ e. false≢true (sym h ∙ eq-eqb (command s) 0xB3 e))
 
-  answer-leaves : (v : Verdict) → Shape (pick (isRequest v && eqb (command s) 0xB3 && presentsWrong t s) (sessionClosed t) t) m (answered v t u vcc m s)
-  unfolding answered isRequest pick
+  answer-leaves : (v : Verdict) → Shape (pick (isRequest v && eqb (command s) 0xB3 && presentsWrong t s) (sessionClosed t) t) m (verdictResult v t u vcc m s)
+  unfolding verdictResult isRequest pick
   answer-leaves Silence = silent refl
   answer-leaves (Error e) = failed e refl
   answer-leaves Request = request-shape (eqb (command s) 0xB3) refl

@@ -20,16 +20,16 @@ use Rattle.areas.specs.Rights.{mayWrite}
 use Rattle.tag.specs.declared.Uid.{Uid}
 use Rattle.errors.specs.declared.RadioError.the-variants.{WriteForbidden}
 use Rattle.reply.specs.declared.RadioSide.{RadioSide}
-use Rattle.reply.specs.Reply.{Said, nothing, body, good, fault}
-use Rattle.reply.specs.Outcome.{Told}
+use Rattle.reply.specs.Reply.{ReplyBody, nothing, body, good, fault}
+use Rattle.reply.specs.Outcome.{CommandResult}
 use Rattle.frame.specs.declared.Verdict.{Verdict}
 use Rattle.frame.specs.Fields.{command, optionFlag, paramPlace, param}
-use Rattle.blocks.specs.Blocks.{leaves, statusOf, blockOf, blocksOf, readOf, statusesOf, statusReply}
+use Rattle.blocks.specs.Blocks.{leavesArea, statusOf, blockOf, blocksOf, readOf, statusesOf, statusReply}
 use Rattle.blocks.proofs.Runs.{block-with, length-with, length-statuses}
 use Rattle.block_writes.specs.Writes.{mayWriteAll, writeOf}
-use Rattle.radio.specs.declared.Request.{Request as Fields}
+use Rattle.radio.specs.declared.RequestFields.{RequestFields}
 use Rattle.radio.specs.Commands.{requestOf, serveOf}
-use Rattle.radio.specs.Radio.{answered, radioOf}
+use Rattle.radio.specs.Radio.{verdictResult, radioOf}
 use Rattle.radio_claims.proofs.Errors.{first-same}
 use Rattle.radio_claims.specs.Claims.{Asks, StatusAgrees, StatusAsWrite, OptionStatusAsWrite}
 
@@ -38,8 +38,8 @@ passed : {A : Type 0} (b : Bool) (x y : A) → b ≡ false → pick b x y ≡ y
 passed b x y h = sym (pick-false x y y b h refl)
 
 -- one block stays in its area
-stays : (e : Ends) (first last : ℕ) → last ≡ first → last < 128 → leaves e first last ≡ false
-unfolding leaves
+stays : (e : Ends) (first last : ℕ) → last ≡ first → last < 128 → leavesArea e first last ≡ false
+unfolding leavesArea
 stays e first last h l =
     ap (λ (b : Bool). b || not (eqb (areaOfBlock e first) (areaOfBlock e last))) (lt-leb 128 last l)
     ∙ ap not (eq-eqb (areaOfBlock e first) (areaOfBlock e last) (ap (areaOfBlock e) (sym h)))
@@ -49,7 +49,7 @@ unfolding mayWriteAll
 write-right r session block = ap (λ (n : ℕ). mayWrite r (Radio session) n) (omega arith)
 
 -- the last test of 21, turned round
-forbids : (b c : Bool) (x y : Told) → c ≡ b → pick (not c) x y .reply ≡ pick b (y .reply) (x .reply)
+forbids : (b c : Bool) (x y : CommandResult) → c ≡ b → pick (not c) x y .reply ≡ pick b (y .reply) (x .reply)
 unfolding pick
 forbids true c x y h = rw h
 forbids false c x y h = rw h
@@ -59,14 +59,14 @@ write-reply : (t : RadioSide) (m : List ℕ) (block : ℕ) (w : List ℕ) (at : 
 unfolding writeOf
 write-reply t m block w at l =
     let r = t .core .registers in
-    ap (λ (x : Told). x .reply)
+    ap (λ (x : CommandResult). x .reply)
     (passed (ltb 3 0) _ _ refl
     ∙ passed (leb 128 block) _ _ (lt-leb 128 block l)
-    ∙ passed (leaves (r .ends) block (block + 0)) _ _ (stays (r .ends) block (block + 0) (omega arith) (omega arith)))
+    ∙ passed (leavesArea (r .ends) block (block + 0)) _ _ (stays (r .ends) block (block + 0) (omega arith) (omega arith)))
     ∙ forbids (mayWrite r (Radio (t .air .session)) block) (mayWriteAll r (t .air .session) block (0 + 1)) _ _ (write-right r (t .air .session) block)
 
 -- the status byte of that block
-agrees : (b : Bool) (x : ℕ) (reply : Said) → x ≡ pick b 0 1 → reply ≡ pick b (good []) (fault WriteForbidden) → StatusAgrees x reply
+agrees : (b : Bool) (x : ℕ) (reply : ReplyBody) → x ≡ pick b 0 1 → reply ≡ pick b (good []) (fault WriteForbidden) → StatusAgrees x reply
 unfolding pick
 agrees true x reply h k = inr (h, k)
 agrees false x reply h k = inl (h, k)
@@ -158,7 +158,7 @@ module _ (r : Registers) (session first : ℕ) where
         (block-with r session m true (first + k) refl) (ap length (sym (blocks-run k)) ∙ length-blocks k)
 
 -- ---- the data of a good reply
-dataOf : Said → List ℕ
+dataOf : ReplyBody → List ℕ
 dataOf nothing = []
 dataOf (body b) = drop 1 b
 
@@ -176,7 +176,7 @@ status-data : (t : RadioSide) (m : List ℕ) (first more : ℕ) (data- : List �
     → (first < 128) × (data- ≡ statusesOf (t .core .registers) (t .air .session) first (Counted first more))
 unfolding statusReply
 status-data t m first more data- =
-    pick-case (λ (x : Told). x .reply ≡ good data- → (first < 128) × (data- ≡ statusesOf (t .core .registers) (t .air .session) first (Counted first more))) (leb 128 first) _ _
+    pick-case (λ (x : CommandResult). x .reply ≡ good data- → (first < 128) × (data- ≡ statusesOf (t .core .registers) (t .air .session) first (Counted first more))) (leb 128 first) _ _
     (λ h k. absurd (no-data _ data- k))
     (λ h k. (leb-false 128 first h, same-data _ data- k))
 
@@ -189,17 +189,17 @@ inside false b h = refl
 
 read-data : (t : RadioSide) (m : List ℕ) (first more : ℕ) (data- : List ℕ) → readOf t m true first more .reply ≡ good data-
     → (first + more < 128) × (data- ≡ blocksOf (t .core .registers) (t .air .session) m true first (more + 1))
-unfolding readOf leaves
+unfolding readOf leavesArea
 read-data t m first more data- =
     let r = t .core .registers in
-    let P : Told → Type 0 = λ (x : Told). x .reply ≡ good data- → (first + more < 128) × (data- ≡ blocksOf r (t .air .session) m true first (more + 1)) in
+    let P : CommandResult → Type 0 = λ (x : CommandResult). x .reply ≡ good data- → (first + more < 128) × (data- ≡ blocksOf r (t .air .session) m true first (more + 1)) in
     pick-case P (leb 128 first) _ _ (λ h k. absurd (no-data _ data- k))
-    (λ h. pick-case P (leaves (r .ends) first (first + more)) _ _ (λ h k. absurd (no-data _ data- k))
+    (λ h. pick-case P (leavesArea (r .ends) first (first + more)) _ _ (λ h k. absurd (no-data _ data- k))
     (λ f. pick-case P _ _ _ (λ h k. absurd (no-data _ data- k))
     (λ h k. (leb-false 128 (first + more) (inside _ _ f), same-data _ data- k))))
 
 -- ---- the rows of the four commands
-module _ (q : Fields) (t : RadioSide) (vcc : Bool) (m s : List ℕ) where
+module _ (q : RequestFields) (t : RadioSide) (vcc : Bool) (m s : List ℕ) where
   status-row : q .command ≡ 0x2C → serveOf q t vcc m s ≡ statusReply t m (q .first) (q .second)
   unfolding serveOf pick
   status-row h = rw h
@@ -219,15 +219,15 @@ module _ (q : Fields) (t : RadioSide) (vcc : Bool) (m s : List ℕ) where
 module _ (t : RadioSide) (u : Uid) (vcc transfer programming : Bool) (m : List ℕ) where
   asked : (c : ℕ) (s : List ℕ) → Asks t u (transfer || programming) c s
       → radioOf t u vcc transfer programming m s ≡ serveOf (requestOf s u) t vcc m s
-  unfolding radioOf answered
-  asked c s a = ap (λ (v : Verdict). answered v t u vcc m s) (a .judged)
+  unfolding radioOf verdictResult
+  asked c s a = ap (λ (v : Verdict). verdictResult v t u vcc m s) (a .judged)
 
   -- 21 on a block of the memory, and the block's status
   write-asked : (w : List ℕ) (block : ℕ) → Asks t u (transfer || programming) 0x21 w → param w 0 ≡ block → block < 128
       → StatusAgrees (statusOf (t .core .registers) (t .air .session) block) (radioOf t u vcc transfer programming m w .reply)
   write-asked w block a e l =
       let wrote = asked 0x21 w a ∙ write-row (requestOf w u) t vcc m w (a .named) ∙ ap (λ (n : ℕ). writeOf t m n 0 w (paramPlace w + 1)) e in
-      subst (λ (x : Said). StatusAgrees (statusOf (t .core .registers) (t .air .session) block) x) (sym (ap (λ (x : Told). x .reply) wrote))
+      subst (λ (x : ReplyBody). StatusAgrees (statusOf (t .core .registers) (t .air .session) block) x) (sym (ap (λ (x : CommandResult). x .reply) wrote))
       (status-write t m block w (paramPlace w + 1) l)
 
   -- a read with the option, of more + 1 blocks
@@ -249,7 +249,7 @@ status-as-write t u vcc transfer programming m s w data- k a b e h l =
     let first = param s 0 in
     let n = Counted first (param s 1) in
     let row = asked t u vcc transfer programming m 0x2C s a ∙ status-row (requestOf s u) t vcc m s (a .named) in
-    let d = status-data t m first (param s 1) data- (sym (ap (λ (x : Told). x .reply) row) ∙ h) in
+    let d = status-data t m first (param s 1) data- (sym (ap (λ (x : CommandResult). x .reply) row) ∙ h) in
     let near : k < n = omega (arith, l, ap length (d .1) ∙ length-statuses r (t .air .session) first n) in
     let at = ap (λ (z : List ℕ). getD z k 0) (d .1) ∙ statuses-at r (t .air .session) first n k near in
     subst (λ (x : ℕ). StatusAgrees x (radioOf t u vcc transfer programming m w .reply)) (sym at)
@@ -263,8 +263,8 @@ option-status-as-write t u vcc transfer programming m s w data- k a o b e h l =
     ⊎-elim
     (λ one.
     let row = asked t u vcc transfer programming m 0x20 s one ∙ read-row (requestOf s u) t vcc m s (one .named) ∙ with-option t m (optionFlag s) (param s 0) 0 o in
-    read-asked t u vcc transfer programming m s w data- (param s 0) 0 k (sym (ap (λ (x : Told). x .reply) row) ∙ h) l b e)
+    read-asked t u vcc transfer programming m s w data- (param s 0) 0 k (sym (ap (λ (x : CommandResult). x .reply) row) ∙ h) l b e)
     (λ many.
     let row = asked t u vcc transfer programming m 0x23 s many ∙ read-more-row (requestOf s u) t vcc m s (many .named) ∙ with-option t m (optionFlag s) (param s 0) (param s 1) o in
-    read-asked t u vcc transfer programming m s w data- (param s 0) (param s 1) k (sym (ap (λ (x : Told). x .reply) row) ∙ h) l b e)
+    read-asked t u vcc transfer programming m s w data- (param s 0) (param s 1) k (sym (ap (λ (x : CommandResult). x .reply) row) ∙ h) l b e)
     a

@@ -9,13 +9,13 @@ use lib.ListN.{length, getD}
 use Rattle.parts.specs.Pick.{pick}
 use Rattle.tag.specs.declared.Uid.{Uid}
 use Rattle.tag.specs.declared.Tag.{Tag}
-use Rattle.tag.specs.Radio.{withSession}
+use Rattle.tag.specs.Radio.{withRadioSession}
 use Rattle.tag.specs.Keys.{passwordAt, samePassword, radioPassword}
 use Rattle.errors.specs.declared.RadioError.{RadioError}
 use Rattle.errors.specs.declared.RadioError.the-variants.{WriteForbidden}
 use Rattle.reply.specs.declared.RadioSide.{RadioSide}
-use Rattle.reply.specs.Reply.{Said, body, good, fault}
-use Rattle.reply.specs.Outcome.{told, fails, withAir}
+use Rattle.reply.specs.Reply.{ReplyBody, body, good, fault}
+use Rattle.reply.specs.Outcome.{commandResult, fails, withAir}
 use Rattle.frame.specs.declared.Verdict.{Verdict}
 use Rattle.frame.specs.declared.Verdict.the-variants.{Silence, Error, Request}
 use Rattle.frame.specs.Fields.{command, optionFlag, paramPlace, param}
@@ -45,7 +45,7 @@ presentsWrong t s =
     && not (samePassword (radioPassword (t .core .passwords) (param s 0)) (passwordAt s (paramPlace s + 1)))
 
 abbrev pub sessionClosed : RadioSide → RadioSide
-sessionClosed t = withAir (withSession 0 (t .air)) t
+sessionClosed t = withAir (withRadioSession 0 (t .air)) t
 
 -- what an error reply leaves: "session closed" by a B3 that is served and wrong, and nothing else changed
 abbrev pub errorLeaves : RadioSide → Uid → Bool → List ℕ → RadioSide
@@ -57,7 +57,7 @@ errorLeaves t u busy s =
 abbrev pub ErrorsLeave : Type 0
 ErrorsLeave = (t : RadioSide) (u : Uid) (vcc transfer programming : Bool) (m s rest : List ℕ)
     → radioOf t u vcc transfer programming m s .reply ≡ body (0x01 ∷ rest)
-    → (e : RadioError) × (radioOf t u vcc transfer programming m s ≡ told (fault e) (errorLeaves t u (transfer || programming) s) m)
+    → (e : RadioError) × (radioOf t u vcc transfer programming m s ≡ commandResult (fault e) (errorLeaves t u (transfer || programming) s) m)
 
 -- the same at the entry: a frame's call that is answered by a reply whose first byte is 01h
 abbrev pub ErrorCallsLeave : Type 0
@@ -73,7 +73,7 @@ pub record Asks (t : RadioSide) (u : Uid) (busy : Bool) (c : ℕ) (s : List ℕ)
   pub named : command s ≡ c
 
 -- a status byte, and 21's reply on that block: 1 and 12h, or 0 and done
-abbrev pub StatusAgrees : ℕ → Said → Type 0
+abbrev pub StatusAgrees : ℕ → ReplyBody → Type 0
 StatusAgrees x reply = ((x ≡ 1) × (reply ≡ fault WriteForbidden)) ⊎ ((x ≡ 0) × (reply ≡ good []))
 
 -- 2C: byte k of its data is the status of block first + k; w asks for 21 on that block

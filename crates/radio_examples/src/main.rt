@@ -2,7 +2,7 @@
 // A line is a letter, a tab and 0, 1 or upper-case hex:
 // V, F, T, D: VCC, the field, a transfer open, programming under way; H: a message that the host puts;
 // R: a frame without its CRC; X: a frame as it stands; and, alone, N: the fresh tag again; E: the CRC of the memory.
-use reply::Answer;
+use reply::RadioAnswer;
 use reply::RadioSide;
 use tag::Tag;
 use tag::Uid;
@@ -151,8 +151,8 @@ fn ask(r: Run, s: &[u8], m: &mut [u8], frame: &mut [u8], out: &mut [u8], close: 
     let after = o.side;
     let run = with_side(r, after);
     match a {
-        Answer::Silence => nothing(run),
-        Answer::Reply(k) => Outcome {
+        RadioAnswer::Silence => nothing(run),
+        RadioAnswer::Reply(k) => Outcome {
             run,
             said: Said::Reply(k),
         },

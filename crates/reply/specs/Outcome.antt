@@ -8,50 +8,50 @@ use Rattle.tag.specs.declared.Passwords.{Passwords}
 use Rattle.tag.specs.declared.Core.{Core}
 use Rattle.tag.specs.Supply.{withRegisters, withMailbox, withPasswords}
 use Rattle.errors.specs.declared.RadioError.{RadioError}
-use Rattle.reply.specs.declared.Answer.{Answer}
+use Rattle.reply.specs.declared.RadioAnswer.{RadioAnswer}
 use Rattle.reply.specs.declared.RadioSide.{RadioSide}
-use Rattle.reply.specs.declared.Outcome.{Outcome}
-use Rattle.reply.specs.Reply.{Said, good, fault, answerOf, bufferOf}
+use Rattle.reply.specs.declared.RadioOutcome.{RadioOutcome}
+use Rattle.reply.specs.Reply.{ReplyBody, good, fault, answerOf, bufferOf}
 
 -- what a command says and leaves
-pub record Told : Type 0 where
-  pub reply : Said
+pub record CommandResult : Type 0 where
+  pub reply : ReplyBody
   pub side : RadioSide
   pub memory : List ℕ
 
-abbrev pub told : Said → RadioSide → List ℕ → Told
-told r s m = record { reply = r; side = s; memory = m }
+abbrev pub commandResult : ReplyBody → RadioSide → List ℕ → CommandResult
+commandResult r s m = record { reply = r; side = s; memory = m }
 
 -- "01h and the code (nothing changed ..)"
-abbrev pub fails : RadioError → RadioSide → List ℕ → Told
-fails e s m = told (fault e) s m
+abbrev pub fails : RadioError → RadioSide → List ℕ → CommandResult
+fails e s m = commandResult (fault e) s m
 
 -- what a function over both lent buffers leaves
-pub record Ended : Type 0 where
-  pub answer : Answer
+pub record RadioResult : Type 0 where
+  pub answer : RadioAnswer
   pub side : RadioSide
   pub memory : List ℕ
   pub buffer : List ℕ
 
-abbrev pub ended : Outcome → List ℕ → List ℕ → Ended
-ended r m o = record { answer = r .answer; side = r .side; memory = m; buffer = o }
+abbrev pub radioResult : RadioOutcome → List ℕ → List ℕ → RadioResult
+radioResult r m o = record { answer = r .answer; side = r .side; memory = m; buffer = o }
 
 -- what a command told, in the reply buffer o
-abbrev pub finish : Told → List ℕ → Ended
+abbrev pub finish : CommandResult → List ℕ → RadioResult
 finish t o = record { answer = answerOf (t .reply); side = t .side; memory = t .memory; buffer = bufferOf (t .reply) o }
 
 -- ---- one part of the side replaced
 abbrev pub withAir : Air → RadioSide → RadioSide
 withAir a s = record { air = a; core = s .core }
 
-abbrev pub withCore : Core → RadioSide → RadioSide
-withCore c s = record { air = s .air; core = c }
+abbrev pub withRadioCore : Core → RadioSide → RadioSide
+withRadioCore c s = record { air = s .air; core = c }
 
 abbrev pub sideRegisters : Registers → RadioSide → RadioSide
-sideRegisters r s = withCore (withRegisters r (s .core)) s
+sideRegisters r s = withRadioCore (withRegisters r (s .core)) s
 
 abbrev pub sideMailbox : Mailbox → RadioSide → RadioSide
-sideMailbox m s = withCore (withMailbox m (s .core)) s
+sideMailbox m s = withRadioCore (withMailbox m (s .core)) s
 
 abbrev pub sidePasswords : Passwords → RadioSide → RadioSide
-sidePasswords p s = withCore (withPasswords p (s .core)) s
+sidePasswords p s = withRadioCore (withPasswords p (s .core)) s

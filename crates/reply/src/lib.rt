@@ -3,9 +3,9 @@ ghost use mathlib.Core.Path.{_≡_};
 ghost use mathlib.Core.List.{[], _∷_};
 ghost use Prim.Native.Nat.{_+_};
 ghost use Rattle.crc.specs.Crc.{closedAt};
-ghost use Rattle.reply.specs.Reply.{good, fault, spoken, speak};
+ghost use Rattle.reply.specs.Reply.{good, fault, replyResult, putReply};
 ghost use Rattle.reply.specs.Outcome.{withAir, sideRegisters, sideMailbox, sidePasswords};
-ghost use Rattle.reply.specs.declared.Answer.the-variants.{Reply};
+ghost use Rattle.reply.specs.declared.RadioAnswer.the-variants.{Reply};
 use errors::RadioError;
 use registers::Registers;
 use tag::Air;
@@ -13,7 +13,7 @@ use tag::Core;
 use tag::Mailbox;
 use tag::Passwords;
 
-pub enum Answer {
+pub enum RadioAnswer {
     Silence,
     // The reply's length, CRC included.
     Reply(usize),
@@ -65,23 +65,23 @@ impl RadioSide {
     }
 }
 
-pub struct Outcome {
-    pub answer: Answer,
+pub struct RadioOutcome {
+    pub answer: RadioAnswer,
     pub side: RadioSide,
 }
 
 // Closes a reply of n bytes that stand in the buffer.
-pub fn close(out: &mut [u8], n: u32) -> Answer
-    ensures { λ r. ⌜ spoken r (now (out .exit)) ≡ spoken (Reply (n + 2)) (closedAt (now (out .entry)) n) ⌝ }
+pub fn close(out: &mut [u8], n: u32) -> RadioAnswer
+    ensures { λ r. ⌜ replyResult r (now (out .exit)) ≡ replyResult (Reply (n + 2)) (closedAt (now (out .entry)) n) ⌝ }
 {
     let at = n as usize;
     crc::close(out, at);
-    Answer::Reply(at + 2)
+    RadioAnswer::Reply(at + 2)
 }
 
 // An error reply.
-pub fn error(out: &mut [u8], e: RadioError) -> Answer
-    ensures { λ r. ⌜ spoken r (now (out .exit)) ≡ speak (fault e) (now (out .entry)) ⌝ }
+pub fn error(out: &mut [u8], e: RadioError) -> RadioAnswer
+    ensures { λ r. ⌜ replyResult r (now (out .exit)) ≡ putReply (fault e) (now (out .entry)) ⌝ }
 {
     parts::put(out, 0, 0x01);
     parts::put(out, 1, e.code());
@@ -89,16 +89,16 @@ pub fn error(out: &mut [u8], e: RadioError) -> Answer
 }
 
 // A good reply without data.
-pub fn done(out: &mut [u8]) -> Answer
-    ensures { λ r. ⌜ spoken r (now (out .exit)) ≡ speak (good []) (now (out .entry)) ⌝ }
+pub fn done(out: &mut [u8]) -> RadioAnswer
+    ensures { λ r. ⌜ replyResult r (now (out .exit)) ≡ putReply (good []) (now (out .entry)) ⌝ }
 {
     parts::put(out, 0, 0x00);
     close(out, 1)
 }
 
 // A good reply of one byte.
-pub fn byte(out: &mut [u8], x: u8) -> Answer
-    ensures { λ r. ⌜ spoken r (now (out .exit)) ≡ speak (good (x ∷ [])) (now (out .entry)) ⌝ }
+pub fn byte(out: &mut [u8], x: u8) -> RadioAnswer
+    ensures { λ r. ⌜ replyResult r (now (out .exit)) ≡ putReply (good (x ∷ [])) (now (out .entry)) ⌝ }
 {
     parts::put(out, 0, 0x00);
     parts::put(out, 1, x);

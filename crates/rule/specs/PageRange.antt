@@ -9,18 +9,18 @@ use Rattle.tag.specs.declared.Core.{Core}
 use Rattle.tag.specs.declared.WireSide.{WireSide}
 use Rattle.tag.specs.declared.Bus.{Bus}
 use Rattle.tag.specs.declared.Bus.the-variants.{Idle, Started, ReadLeg, WriteLeg, LowAddress, DataLeg}
-use Rattle.tag.specs.Layout.{pageAt}
+use Rattle.tag.specs.Layout.{pagePlace}
 use Rattle.rule.specs.Select.{firstOf}
 use Rattle.rule.specs.Rule.{acked}
 
 -- the first k bytes of the page
 abbrev pub page : ℕ → List ℕ → List ℕ
-page k m = bytesAt m pageAt k
+page k m = bytesAt m pagePlace k
 
 -- each of the page's k bytes would be Acked at its place
 unfoldable pub pageAcked : Space → Core → Bool → ℕ → List ℕ → ℕ → Bool
 pageAcked s c session f m zero = true
-pageAcked s c session f m (suc k) = pageAcked s c session f m k && acked s c session f k (page k m) (getD m (pageAt + k) 0)
+pageAcked s c session f m (suc k) = pageAcked s c session f m k && acked s c session f k (page k m) (getD m (pagePlace + k) 0)
 
 -- of a bus with counter c
 unfoldable pub busInRange : Bus → ℕ → Core → Bool → List ℕ → Bool

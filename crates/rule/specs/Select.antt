@@ -6,7 +6,7 @@ use Rattle.parts.specs.Pick.{pick}
 use Rattle.tag.specs.declared.Space.{Space}
 use Rattle.tag.specs.declared.Space.the-variants.{User, System}
 use Rattle.rule.specs.declared.Choice.{Choice}
-use Rattle.rule.specs.declared.Choice.the-variants.{Refused, Reading, Writing}
+use Rattle.rule.specs.declared.Choice.the-variants.{NotAcked, Reading, Writing}
 
 -- "A6h/A7h select user space for write/read, AEh/AFh system space. Another select byte .. NoAck."
 unfoldable pub selectOf : ℕ → Choice
@@ -15,11 +15,11 @@ selectOf x =
     (pick (eqb x 0xA7) (Reading User)
     (pick (eqb x 0xAE) (Writing System)
     (pick (eqb x 0xAF) (Reading System)
-    Refused)))
+    NotAcked)))
 
 -- "or programming under way, or no VCC: NoAck"
 unfoldable pub choose : Bool → Bool → ℕ → Choice
-choose vcc programming x = pick (programming || not vcc) Refused (selectOf x)
+choose vcc programming x = pick (programming || not vcc) NotAcked (selectOf x)
 
 -- "two address bytes, high first .. which set the counter"
 abbrev pub address : ℕ → ℕ → ℕ

@@ -13,7 +13,7 @@ use tag::Space;
 
 // What a select byte comes to.
 pub enum Choice {
-    Refused,
+    NotAcked,
     Reading(Space),
     Writing(Space),
 }
@@ -33,7 +33,7 @@ fn select_of(x: u8) -> Choice
     if x == 0xAF {
         return Choice::Reading(Space::System);
     }
-    Choice::Refused
+    Choice::NotAcked
 }
 
 // The choice of a select byte: none without VCC or while programming.
@@ -41,7 +41,7 @@ pub fn choose(vcc: bool, programming: bool, x: u8) -> Choice
     ensures { λ r. ⌜ r ≡ choose vcc programming x ⌝ }
 {
     if programming | !vcc {
-        return Choice::Refused;
+        return Choice::NotAcked;
     }
     select_of(x)
 }

@@ -14,10 +14,10 @@ use Rattle.tag.specs.declared.Tag.{Tag}
 use Rattle.tag.specs.declared.WireSide.{WireSide}
 use Rattle.ranges.specs.Ranges.{registersInRange, airInRange, mailboxInRange, suppliedInRange, hostInRange, coreInRange, wireInRange, inRange}
 use Rattle.rule.specs.PageRange.{busInRange}
-use Rattle.signal.specs.declared.Answer.{Answer as WireAnswer}
-use Rattle.signal.specs.declared.Answer.the-variants.{Nothing as WireNothing, Ack as WireAck, NoAck as WireNoAck, Byte as WireByte}
+use Rattle.signal.specs.declared.WireAnswer.{WireAnswer}
+use Rattle.signal.specs.declared.WireAnswer.the-variants.{Nothing as WireNothing, Ack as WireAck, NoAck as WireNoAck, Byte as WireByte}
 use Rattle.signal.specs.Signal.{signalOf}
-use Rattle.reply.specs.Reply.{Said as ReplySaid, nothing, body, answerOf}
+use Rattle.reply.specs.Reply.{ReplyBody, nothing, body, answerOf}
 use Rattle.radio.specs.Claims.{replySize}
 use Rattle.radio.specs.Radio.{radioOf}
 use Rattle.radio.proofs.Room.{replies-fit}
@@ -26,16 +26,16 @@ use Rattle.model.specs.declared.Answer.the-variants.{Refused, Nothing, Ack, NoA
 use Rattle.model.specs.declared.Signal.{Signal}
 use Rattle.model.specs.declared.Signal.the-variants.{Wire, Field, Frame}
 use Rattle.model.specs.Signals.{signalBy}
-use Rattle.model.specs.Step.{Ended, fromWire, fromRadio, radioSide, wireSide, transferOpen, tagInRange, actOf, stepOf}
+use Rattle.model.specs.Step.{StepResult, fromWire, fromRadio, radioSide, wireSide, transferOpen, tagInRange, actOf, stepOf}
 use Rattle.text.specs.Hex.{hexText}
 use Rattle.text.specs.Decimal.{decimal}
 use Rattle.text.proofs.HexLaws.{length-hex-text}
 use Rattle.text.proofs.DecimalLaws.{digits-most}
 use Rattle.script.specs.declared.Bench.{Bench}
-use Rattle.script.specs.Line.{Said, bad, signal, frame, longest, lineOf}
+use Rattle.script.specs.Line.{ScriptLine, badLine, signalLine, frameLine, longest, lineOf}
 use Rattle.script.specs.Text.{badText, answerText, lineText}
-use Rattle.script.specs.Bench.{Printed, calls, saidOf, benchOf, nextLine, longestText}
-use Rattle.script.specs.Lines.{Carried, printed}
+use Rattle.script.specs.Bench.{LineResult, benchCall, lineResult, benchOf, nextLine, longestText}
+use Rattle.script.specs.Lines.{BenchState, lineFrom}
 use Rattle.script.specs.Claims.{TextFits, LineCut}
 use Rattle.script.proofs.TextLaws.{length-line}
 
@@ -66,7 +66,7 @@ wire-replied WireAck = omega arith
 wire-replied WireNoAck = omega arith
 wire-replied (WireByte x) = omega arith
 
-radio-replied : (r : ReplySaid) → replySize r ≤ 643 → replied (fromRadio (answerOf r)) ≤ 643
+radio-replied : (r : ReplyBody) → replySize r ≤ 643 → replied (fromRadio (answerOf r)) ≤ 643
 unfolding replied fromRadio answerOf replySize
 radio-replied nothing h = omega arith
 radio-replied (body b) h = h
@@ -79,7 +79,7 @@ act-replied Frame t m o f h =
     radio-replied (radioOf (radioSide t) (t .uid) (t .host .vcc) (transferOpen t) (t .host .programming) m f .reply)
     (replies-fit (radioSide t) (t .uid) (t .host .vcc) (transferOpen t) (t .host .programming) m f (mailbox-fits t m h))
 
-abbrev Short : Ended → Type 0
+abbrev Short : StepResult → Type 0
 Short e = replied (e .answer) ≤ 643
 
 step-replied : (t : Tag) (m o : List ℕ) (code value : ℕ) (f : List ℕ) → Short (stepOf t m o code value f)
@@ -104,16 +104,16 @@ answer-fits (Reply n) o h = omega (arith, length-hex-text (take (n - 2) o), leng
 line-fits : (n : ℕ) (a : List ℕ) → length a ≤ 1282 → length (lineText n a) ≤ longestText
 line-fits n a h = omega (arith, length-line n a, digits-most 20 n)
 
-calls-fit : (b : Bench) (m o : List ℕ) (code value : ℕ) (s : List ℕ) → length (calls b m o code value s .text) ≤ longestText
+calls-fit : (b : Bench) (m o : List ℕ) (code value : ℕ) (s : List ℕ) → length (benchCall b m o code value s .text) ≤ longestText
 calls-fit b m o code value s =
     let e = stepOf (b .tag) m o code value s in
     line-fits (nextLine b) (answerText (e .answer) (e .reply)) (answer-fits (e .answer) (e .reply) (step-replied (b .tag) m o code value s))
 
-said-fits : (x : Said) (b : Bench) (m o : List ℕ) → length (saidOf x b m o .text) ≤ longestText
-unfolding saidOf
-said-fits bad b m o = line-fits (nextLine b) badText (omega arith)
-said-fits (signal code value) b m o = calls-fit b m o code value []
-said-fits (frame f) b m o = calls-fit b m o 8 0 _
+said-fits : (x : ScriptLine) (b : Bench) (m o : List ℕ) → length (lineResult x b m o .text) ≤ longestText
+unfolding lineResult
+said-fits badLine b m o = line-fits (nextLine b) badText (omega arith)
+said-fits (signalLine code value) b m o = calls-fit b m o code value []
+said-fits (frameLine f) b m o = calls-fit b m o 8 0 _
 
 pub text-fits : TextFits
 unfolding benchOf

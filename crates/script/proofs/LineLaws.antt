@@ -14,23 +14,23 @@ use Rattle.parts.proofs.Bools.{and-left}
 use Rattle.crc.specs.Crc.{closed, crcBytes, closedAt}
 use Rattle.crc.proofs.Frames.{closed-at}
 use Rattle.model.specs.Signals.{signalInRange, topValue}
-use Rattle.model.specs.Step.{Ended, stepOf}
+use Rattle.model.specs.Step.{StepResult, stepOf}
 use Rattle.script.specs.declared.Bench.{Bench}
 use Rattle.text.specs.Hex.{allHex}
 use Rattle.script.specs.Text.{badText, answerText}
-use Rattle.script.specs.Bench.{prints, calls}
-use Rattle.script.specs.Line.{Said, bad, signal, frame, alone, level, byteSent, frameSent, tabbed, lineOf}
+use Rattle.script.specs.Bench.{prints, benchCall}
+use Rattle.script.specs.Line.{ScriptLine, badLine, signalLine, frameLine, alone, level, byteSent, frameSent, tabbed, lineOf}
 
-isFrame : Said → Bool
-isFrame bad = false
-isFrame (signal code value) = false
-isFrame (frame s) = true
+isFrame : ScriptLine → Bool
+isFrame badLine = false
+isFrame (signalLine code value) = false
+isFrame (frameLine s) = true
 
 never : {A : Type 0} → false ≡ true → A
 never h = let z : _≡_ {A = ℕ} 0 1 = cc in absurd (omega arith)
 
 -- a reading that says a frame has G
-abbrev Says : Type 0 → Said → Type 0
+abbrev Says : Type 0 → ScriptLine → Type 0
 Says G x = isFrame x ≡ true → G
 
 module _ (G : Type 0) where
@@ -86,7 +86,7 @@ in-line s =
     (λ _ e. never e)))
 
 -- a line that says a frame
-pub framed : (s f : List ℕ) → lineOf s ≡ frame f → Framed s
+pub framed : (s f : List ℕ) → lineOf s ≡ frameLine f → Framed s
 unfolding isFrame
 framed s f e = in-line s (ap isFrame e)
 
@@ -100,10 +100,10 @@ frame-closed p o n l h =
     ∙ take-at (closed p) (drop (0 + length (closed p)) o) (n + 2) k
 
 -- ---- a bad line: code 0 is refused
-abbrev Unmoved : Bench → List ℕ → List ℕ → Ended → Type 0
+abbrev Unmoved : Bench → List ℕ → List ℕ → StepResult → Type 0
 Unmoved b m o e = prints b (e .tag) (e .memory) (e .reply) (answerText (e .answer) (e .reply)) ≡ prints b (b .tag) m o badText
 
-pub bad-call : (b : Bench) (m o : List ℕ) (value : ℕ) (f : List ℕ) → calls b m o 0 value f ≡ prints b (b .tag) m o badText
+pub bad-call : (b : Bench) (m o : List ℕ) (value : ℕ) (f : List ℕ) → benchCall b m o 0 value f ≡ prints b (b .tag) m o badText
 unfolding stepOf signalInRange topValue answerText
 bad-call b m o value f =
     pick-case (Unmoved b m o) _ _ _ (λ _. refl)

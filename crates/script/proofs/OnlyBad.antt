@@ -19,37 +19,37 @@ use Rattle.crc.proofs.Below.{crc-below}
 use Rattle.tag.specs.declared.Tag.{Tag}
 use Rattle.tag.specs.Layout.{memoryBytes, replyBytes}
 use Rattle.tag.specs.Supply.{freshTag}
-use Rattle.signal.specs.declared.Answer.{Answer as WireAnswer}
-use Rattle.signal.specs.declared.Answer.the-variants.{Nothing as WireNothing, Ack as WireAck, NoAck as WireNoAck, Byte as WireByte}
+use Rattle.signal.specs.declared.WireAnswer.{WireAnswer}
+use Rattle.signal.specs.declared.WireAnswer.the-variants.{Nothing as WireNothing, Ack as WireAck, NoAck as WireNoAck, Byte as WireByte}
 use Rattle.signal.specs.Signal.{signalOf}
-use Rattle.reply.specs.Reply.{Said as ReplySaid, nothing, body, answerOf, bufferOf}
+use Rattle.reply.specs.Reply.{ReplyBody, nothing, body, answerOf, bufferOf}
 use Rattle.radio.specs.Radio.{radioOf}
 use Rattle.model.specs.declared.Answer.{Answer}
 use Rattle.model.specs.declared.Answer.the-variants.{Refused, Nothing, Ack, NoAck, Byte, Silence, Reply}
 use Rattle.model.specs.declared.Signal.{Signal}
 use Rattle.model.specs.declared.Signal.the-variants.{Wire, Field, Frame}
 use Rattle.model.specs.Signals.{topValue, signalInRange, signalBy}
-use Rattle.model.specs.Step.{Ended, Left, left, fromWire, fromRadio, radioSide, wireSide, transferOpen, tagInRange, actOf, stepOf, freshOf}
+use Rattle.model.specs.Step.{StepResult, FreshResult, freshResult, fromWire, fromRadio, radioSide, wireSide, transferOpen, tagInRange, actOf, stepOf, freshOf}
 use Rattle.model.specs.Claims.{Fit}
 use Rattle.model.proofs.Kept.{keeps, fresh-fits}
 use Rattle.text.specs.Hex.{hexValue, allHex, hexByte, hexBytes, hexText}
 use Rattle.text.specs.Decimal.{decimal}
 use Rattle.text.proofs.HexLaws.{value-small, length-hex-text}
 use Rattle.script.specs.declared.Bench.{Bench}
-use Rattle.script.specs.Line.{Said, bad, signal, frame, longest, alone, level, byteSent, frameSent, tabbed, lineOf}
+use Rattle.script.specs.Line.{ScriptLine, badLine, signalLine, frameLine, longest, alone, level, byteSent, frameSent, tabbed, lineOf}
 use Rattle.script.specs.Text.{badText, answerText, lineText}
-use Rattle.script.specs.Bench.{Printed, nextLine, prints, calls, saidOf, benchOf, benchUid, startOf}
-use Rattle.script.specs.Lines.{Carried, carried, printed, handedOn, afterLines, beforeLines}
+use Rattle.script.specs.Bench.{LineResult, nextLine, prints, benchCall, lineResult, benchOf, benchUid, benchStartOf}
+use Rattle.script.specs.Lines.{BenchState, benchState, lineFrom, benchAfter, afterLines, beforeLines}
 use Rattle.script.specs.Claims.{BenchFit, StartFits, LineKeepsFit, OnlyBadRefused}
 use Rattle.script.proofs.TextLaws.{length-line}
 
 -- ---- what a line says has its value in range, and a frame's bytes are bytes
-sane : Said → Bool
-sane bad = true
-sane (signal code value) = signalInRange code value
-sane (frame s) = areBytes s
+sane : ScriptLine → Bool
+sane badLine = true
+sane (signalLine code value) = signalInRange code value
+sane (frameLine s) = areBytes s
 
-abbrev Sane : Said → Type 0
+abbrev Sane : ScriptLine → Type 0
 Sane x = sane x ≡ true
 
 alone-sane : (x : ℕ) → Sane (alone x)
@@ -64,7 +64,7 @@ level-sane : (code : ℕ) (s : List ℕ) → signalInRange code 0 ≡ true → s
 unfolding level sane
 level-sane code s z o =
     let x = getD s 0 0 in
-    pick-case Sane (eqb (length s) 1 && (eqb x 0x30 || eqb x 0x31)) (signal code (x - 0x30)) bad
+    pick-case Sane (eqb (length s) 1 && (eqb x 0x30 || eqb x 0x31)) (signalLine code (x - 0x30)) badLine
     (λ h. ⊎-elim
     (λ e. let v : x - 0x30 ≡ 0 = omega (arith, eqb-true x 0x30 e) in rw v z)
     (λ e. let v : x - 0x30 ≡ 1 = omega (arith, eqb-true x 0x31 e) in rw v o)
@@ -77,7 +77,7 @@ byte-below x y = omega (arith, value-small x, value-small y)
 byte-sane : (s : List ℕ) → Sane (byteSent s)
 unfolding byteSent sane signalInRange topValue pick
 byte-sane s =
-    pick-case Sane (eqb (length s) 2 && allHex s) (signal 4 (hexByte (getD s 0 0) (getD s 1 0))) bad
+    pick-case Sane (eqb (length s) 2 && allHex s) (signalLine 4 (hexByte (getD s 0 0) (getD s 1 0))) badLine
     (λ h. le-leb (hexByte (getD s 0 0) (getD s 1 0)) 255 (omega (arith, byte-below (getD s 0 0) (getD s 1 0))))
     (λ _. refl)
 
@@ -90,7 +90,7 @@ bytes-read (x ∷ y ∷ s) = and-both (ltb (hexByte x y) 256) (areBytes (hexByte
 frame-sane : (s : List ℕ) → Sane (frameSent s)
 unfolding frameSent sane
 frame-sane s =
-    pick-case Sane (leb 2 (length s) && eqb (length s % 2) 0 && allHex s) (frame (hexBytes s)) bad
+    pick-case Sane (leb 2 (length s) && eqb (length s % 2) 0 && allHex s) (frameLine (hexBytes s)) badLine
     (λ h. bytes-read s)
     (λ _. refl)
 
@@ -160,7 +160,7 @@ wire-answers WireAck = refl
 wire-answers WireNoAck = refl
 wire-answers (WireByte x) = refl
 
-radio-answers : (r : ReplySaid) → refusal (fromRadio (answerOf r)) ≡ false
+radio-answers : (r : ReplyBody) → refusal (fromRadio (answerOf r)) ≡ false
 unfolding refusal fromRadio answerOf
 radio-answers nothing = refl
 radio-answers (body b) = refl
@@ -204,7 +204,7 @@ same-answer n a b e =
     ∙ line-answer n b
 
 -- ---- the reply buffer keeps its length
-buffer-room : (r : ReplySaid) (o : List ℕ) → length (bufferOf r o) ≡ length o
+buffer-room : (r : ReplyBody) (o : List ℕ) → length (bufferOf r o) ≡ length o
 unfolding bufferOf closedAt
 buffer-room nothing o = refl
 buffer-room (body b) o =
@@ -222,7 +222,7 @@ act-room Frame t m o s = buffer-room (radioOf (radioSide t) (t .uid) (t .host .v
 step-room : (t : Tag) (m o : List ℕ) (code value : ℕ) (s : List ℕ) → length (stepOf t m o code value s .reply) ≡ length o
 unfolding stepOf
 step-room t m o code value s =
-    let P : Ended → Type 0 = λ e. length (e .reply) ≡ length o in
+    let P : StepResult → Type 0 = λ e. length (e .reply) ≡ length o in
     pick-case P _ _ _ (λ _. refl)
     (λ _. pick-case P _ _ _ (λ _. refl)
     (λ _. pick-case P _ _ _ (λ _. refl)
@@ -230,54 +230,54 @@ step-room t m o code value s =
     (λ _. act-room (signalBy code value) t m o s))))
 
 -- ---- a call from a bench that fits
-module _ (c : Carried) (f : BenchFit c) where
+module _ (c : BenchState) (f : BenchFit c) where
   call-answers : (code value : ℕ) (s : List ℕ) → signalInRange code value ≡ true
-      → calls (c .bench) (c .memory) (c .reply) code value s .text ≡ lineText (nextLine (c .bench)) badText → ⊥
+      → benchCall (c .bench) (c .memory) (c .reply) code value s .text ≡ lineText (nextLine (c .bench)) badText → ⊥
   call-answers code value s h e =
       let t = c .bench .tag in
       let r = stepOf t (c .memory) (c .reply) code value s in
       marked (r .answer) (r .reply)
-      (ap (λ (x : Ended). refusal (x .answer)) (served t (c .memory) (c .reply) code value s (f .tag) (f .room) h)
+      (ap (λ (x : StepResult). refusal (x .answer)) (served t (c .memory) (c .reply) code value s (f .tag) (f .room) h)
       ∙ act-answers (signalBy code value) t (c .memory) (c .reply) s)
       (same-answer (nextLine (c .bench)) (answerText (r .answer) (r .reply)) badText e)
 
-  said-answers : (x : Said) → Sane x → saidOf x (c .bench) (c .memory) (c .reply) .text ≡ lineText (nextLine (c .bench)) badText → x ≡ bad
-  unfolding saidOf sane signalInRange topValue pick
-  said-answers bad h e = refl
-  said-answers (signal code value) h e = absurd (call-answers code value [] h e)
-  said-answers (frame s) h e = absurd (call-answers 8 0 (closed s) refl e)
+  said-answers : (x : ScriptLine) → Sane x → lineResult x (c .bench) (c .memory) (c .reply) .text ≡ lineText (nextLine (c .bench)) badText → x ≡ badLine
+  unfolding lineResult sane signalInRange topValue pick
+  said-answers badLine h e = refl
+  said-answers (signalLine code value) h e = absurd (call-answers code value [] h e)
+  said-answers (frameLine s) h e = absurd (call-answers 8 0 (closed s) refl e)
 
-  call-fits : (code value : ℕ) (s : List ℕ) → areBytes s ≡ true → BenchFit (handedOn (calls (c .bench) (c .memory) (c .reply) code value s))
+  call-fits : (code value : ℕ) (s : List ℕ) → areBytes s ≡ true → BenchFit (benchAfter (benchCall (c .bench) (c .memory) (c .reply) code value s))
   call-fits code value s h = record {
     tag = keeps (c .bench .tag) (c .memory) (c .reply) code value s h (f .tag);
     room = omega (arith, f .room, step-room (c .bench .tag) (c .memory) (c .reply) code value s);
   }
 
-  said-fits : (x : Said) → Sane x → BenchFit (handedOn (saidOf x (c .bench) (c .memory) (c .reply)))
-  unfolding saidOf sane areBytes
-  said-fits bad h = record { tag = f .tag; room = f .room }
-  said-fits (signal code value) h = call-fits code value [] refl
-  said-fits (frame s) h = call-fits 8 0 (closed s) (closed-bytes s h)
+  said-fits : (x : ScriptLine) → Sane x → BenchFit (benchAfter (lineResult x (c .bench) (c .memory) (c .reply)))
+  unfolding lineResult sane areBytes
+  said-fits badLine h = record { tag = f .tag; room = f .room }
+  said-fits (signalLine code value) h = call-fits code value [] refl
+  said-fits (frameLine s) h = call-fits 8 0 (closed s) (closed-bytes s h)
 
 -- ---- the claims
 pub start-fits : StartFits
-unfolding startOf freshOf
+unfolding benchStartOf freshOf
 start-fits m o l room =
-    let e = passed (not (eqb (length m) 1024)) _ (left Nothing (freshTag benchUid) (replicate 1024 0)) (ap not (eq-eqb (length m) 1024 l)) in
-    record { tag = subst (λ (x : Left). Fit (x .tag) (x .memory)) (sym e) (fresh-fits benchUid); room = room }
+    let e = passed (not (eqb (length m) 1024)) _ (freshResult Nothing (freshTag benchUid) (replicate 1024 0)) (ap not (eq-eqb (length m) 1024 l)) in
+    record { tag = subst (λ (x : FreshResult). Fit (x .tag) (x .memory)) (sym e) (fresh-fits benchUid); room = room }
 
 pub line-keeps-fit : LineKeepsFit
 unfolding benchOf
 line-keeps-fit c s f = said-fits c f (lineOf s) (line-sane s)
 
-lines-keep-fit : (ls : List (List ℕ)) (c : Carried) → BenchFit c → BenchFit (afterLines c ls)
+lines-keep-fit : (ls : List (List ℕ)) (c : BenchState) → BenchFit c → BenchFit (afterLines c ls)
 unfolding afterLines
 lines-keep-fit [] c f = f
-lines-keep-fit (l ∷ ls) c f = lines-keep-fit ls (handedOn (printed c l)) (line-keeps-fit c l f)
+lines-keep-fit (l ∷ ls) c f = lines-keep-fit ls (benchAfter (lineFrom c l)) (line-keeps-fit c l f)
 
 pub only-bad-refused : OnlyBadRefused
-unfolding benchOf saidOf
+unfolding benchOf lineResult
 only-bad-refused m o l room ls s =
     let c = afterLines (beforeLines m o) ls in
     let f = lines-keep-fit ls (beforeLines m o) (start-fits m o l room) in
-    (λ e. said-answers c f (lineOf s) (line-sane s) e, λ e. ap (λ (x : Said). saidOf x (c .bench) (c .memory) (c .reply)) e)
+    (λ e. said-answers c f (lineOf s) (line-sane s) e, λ e. ap (λ (x : ScriptLine). lineResult x (c .bench) (c .memory) (c .reply)) e)

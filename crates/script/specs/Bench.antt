@@ -6,13 +6,13 @@ use lib.Seq.{sets}
 use Rattle.tag.specs.declared.Uid.{Uid}
 use Rattle.tag.specs.declared.Tag.{Tag}
 use Rattle.crc.specs.Crc.{closed}
-use Rattle.model.specs.Step.{Ended, stepOf, freshOf}
+use Rattle.model.specs.Step.{StepResult, stepOf, freshOf}
 use Rattle.script.specs.declared.Bench.{Bench}
-use Rattle.script.specs.Line.{Said, bad, signal, frame, lineOf}
+use Rattle.script.specs.Line.{ScriptLine, badLine, signalLine, frameLine, lineOf}
 use Rattle.script.specs.Text.{badText, answerText, lineText}
 
 -- what a line leaves: the tag and the number of lines, the memory, the reply buffer, and the text that it prints
-pub record Printed : Type 0 where
+pub record LineResult : Type 0 where
   pub bench : Bench
   pub memory : List ℕ
   pub reply : List ℕ
@@ -30,48 +30,48 @@ nextLine b = (b .number + 1) % 18446744073709551616
 abbrev pub longestText : ℕ
 longestText = 1304
 
-abbrev pub prints : Bench → Tag → List ℕ → List ℕ → List ℕ → Printed
+abbrev pub prints : Bench → Tag → List ℕ → List ℕ → List ℕ → LineResult
 prints b t m o a = record { bench = record { tag = t; number = nextLine b }; memory = m; reply = o; text = lineText (nextLine b) a }
 
 -- a call with the reply buffer o
-abbrev pub calls : Bench → List ℕ → List ℕ → ℕ → ℕ → List ℕ → Printed
-calls b m o code value s =
+abbrev pub benchCall : Bench → List ℕ → List ℕ → ℕ → ℕ → List ℕ → LineResult
+benchCall b m o code value s =
     let e = stepOf (b .tag) m o code value s in
     prints b (e .tag) (e .memory) (e .reply) (answerText (e .answer) (e .reply))
 
 -- the program adds a frame's CRC
-unfoldable pub saidOf : Said → Bench → List ℕ → List ℕ → Printed
-saidOf bad b m o = prints b (b .tag) m o badText
-saidOf (signal code value) b m o = calls b m o code value []
-saidOf (frame s) b m o = calls b m o 8 0 (closed s)
+unfoldable pub lineResult : ScriptLine → Bench → List ℕ → List ℕ → LineResult
+lineResult badLine b m o = prints b (b .tag) m o badText
+lineResult (signalLine code value) b m o = benchCall b m o code value []
+lineResult (frameLine s) b m o = benchCall b m o 8 0 (closed s)
 
 -- the line s
-unfoldable pub benchOf : Bench → List ℕ → List ℕ → List ℕ → Printed
-benchOf b m o s = saidOf (lineOf s) b m o
+unfoldable pub benchOf : Bench → List ℕ → List ℕ → List ℕ → LineResult
+benchOf b m o s = lineResult (lineOf s) b m o
 
 -- ---- what the program's function leaves of the lent buffers: the text stands in `buffer` from place 0 on
-pub record Shown : Type 0 where
+pub record LineBuffers : Type 0 where
   pub bench : Bench
   pub length : ℕ
   pub memory : List ℕ
   pub reply : List ℕ
   pub buffer : List ℕ
 
-abbrev pub shown : Bench → ℕ → List ℕ → List ℕ → List ℕ → Shown
-shown b n m o x = record { bench = b; length = n; memory = m; reply = o; buffer = x }
+abbrev pub lineBuffers : Bench → ℕ → List ℕ → List ℕ → List ℕ → LineBuffers
+lineBuffers b n m o x = record { bench = b; length = n; memory = m; reply = o; buffer = x }
 
-abbrev pub show : Printed → List ℕ → Shown
-show p x = shown (p .bench) (size (p .text)) (p .memory) (p .reply) (sets x 0 (p .text))
+abbrev pub putLine : LineResult → List ℕ → LineBuffers
+putLine p x = lineBuffers (p .bench) (size (p .text)) (p .memory) (p .reply) (sets x 0 (p .text))
 
 -- the start: "fresh with UID 01 02 03 04 05 24 02 E0", before line 1
-pub record Begun : Type 0 where
+pub record BenchStart : Type 0 where
   pub bench : Bench
   pub memory : List ℕ
 
-abbrev pub begun : Bench → List ℕ → Begun
-begun b m = record { bench = b; memory = m }
+abbrev pub benchStart : Bench → List ℕ → BenchStart
+benchStart b m = record { bench = b; memory = m }
 
-unfoldable pub startOf : List ℕ → Begun
-startOf m =
+unfoldable pub benchStartOf : List ℕ → BenchStart
+benchStartOf m =
     let e = freshOf benchUid m in
-    begun (record { tag = e .tag; number = 0 }) (e .memory)
+    benchStart (record { tag = e .tag; number = 0 }) (e .memory)

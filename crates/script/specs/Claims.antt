@@ -5,21 +5,21 @@ use Prim.Native.Nat.{ℕ, _≤_, _<_}
 use lib.ListN.{length, take}
 use Rattle.tag.specs.Layout.{memoryBytes, replyBytes}
 use Rattle.model.specs.Claims.{Fit}
-use Rattle.script.specs.Line.{Said, bad, longest, lineOf}
+use Rattle.script.specs.Line.{ScriptLine, badLine, longest, lineOf}
 use Rattle.script.specs.Text.{badText, lineText}
 use Rattle.script.specs.Bench.{nextLine, prints, longestText}
-use Rattle.script.specs.Lines.{Carried, printed, handedOn, afterLines, beforeLines}
+use Rattle.script.specs.Lines.{BenchState, lineFrom, benchAfter, afterLines, beforeLines}
 
 -- no text is longer, whatever tag and buffers are carried
 abbrev pub TextFits : Type 0
-TextFits = (c : Carried) (s : List ℕ) → length (printed c s .text) ≤ longestText
+TextFits = (c : BenchState) (s : List ℕ) → length (lineFrom c s .text) ≤ longestText
 
 -- of a line that is too long 1,201 characters tell, or more of them: it is bad either way
 abbrev pub LineCut : Type 0
 LineCut = (n : ℕ) → longest < n → (s : List ℕ) → lineOf (take n s) ≡ lineOf s
 
 -- the tag is in range with 1,024 bytes, and there is room for a reply
-pub record BenchFit (c : Carried) : Type 0 where
+pub record BenchFit (c : BenchState) : Type 0 where
   pub tag : Fit (c .bench .tag) (c .memory)
   pub room : replyBytes ≤ length (c .reply)
 
@@ -28,12 +28,12 @@ abbrev pub StartFits : Type 0
 StartFits = (m o : List ℕ) → length m ≡ memoryBytes → replyBytes ≤ length o → BenchFit (beforeLines m o)
 
 abbrev pub LineKeepsFit : Type 0
-LineKeepsFit = (c : Carried) (s : List ℕ) → BenchFit c → BenchFit (handedOn (printed c s))
+LineKeepsFit = (c : BenchState) (s : List ℕ) → BenchFit c → BenchFit (benchAfter (lineFrom c s))
 
 -- "? for a bad line (no change ..)": from the start on, after any lines, the line s prints ? only if it is bad;
 -- and a bad one prints it, and changes nothing but the number of lines
 abbrev pub OnlyBadRefused : Type 0
 OnlyBadRefused = (m o : List ℕ) → length m ≡ memoryBytes → replyBytes ≤ length o → (ls : List (List ℕ)) (s : List ℕ)
     → let c = afterLines (beforeLines m o) ls in
-    (printed c s .text ≡ lineText (nextLine (c .bench)) badText → lineOf s ≡ bad)
-    × (lineOf s ≡ bad → printed c s ≡ prints (c .bench) (c .bench .tag) (c .memory) (c .reply) badText)
+    (lineFrom c s .text ≡ lineText (nextLine (c .bench)) badText → lineOf s ≡ badLine)
+    × (lineOf s ≡ badLine → lineFrom c s ≡ prints (c .bench) (c .bench .tag) (c .memory) (c .reply) badText)

@@ -10,54 +10,54 @@ use Rattle.script.specs.declared.reading.Reading.the-variants.{Bad, Sign
 use Rattle.text.specs.Hex.{allHex, hexByte, hexBytes}
 
 -- a bad line, a signal's code and value, or a frame without CRC
-pub data Said : Type 0 where
-  bad : Said
-  signal : ℕ → ℕ → Said
-  frame : List ℕ → Said
+pub data ScriptLine : Type 0 where
+  badLine : ScriptLine
+  signalLine : ℕ → ℕ → ScriptLine
+  frameLine : List ℕ → ScriptLine
 
 -- "? for a bad line (no change; also one over 1,200 characters)"
 abbrev pub longest : ℕ
 longest = 1200
 
 -- a letter alone: S Start, P Stop, D programming end
-unfoldable pub alone : ℕ → Said
+unfoldable pub alone : ℕ → ScriptLine
 alone x =
-    pick (eqb x 0x53) (signal 3 0)
-    (pick (eqb x 0x50) (signal 6 0)
-    (pick (eqb x 0x44) (signal 7 0)
-    bad))
+    pick (eqb x 0x53) (signalLine 3 0)
+    (pick (eqb x 0x50) (signalLine 6 0)
+    (pick (eqb x 0x44) (signalLine 7 0)
+    badLine))
 
 -- "0/1"
-unfoldable pub level : ℕ → List ℕ → Said
-level code s = pick (eqb (length s) 1 && (eqb (getD s 0 0) 0x30 || eqb (getD s 0 0) 0x31)) (signal code (getD s 0 0 - 0x30)) bad
+unfoldable pub level : ℕ → List ℕ → ScriptLine
+level code s = pick (eqb (length s) 1 && (eqb (getD s 0 0) 0x30 || eqb (getD s 0 0) 0x31)) (signalLine code (getD s 0 0 - 0x30)) badLine
 
 -- "two hex digits"
-unfoldable pub byteSent : List ℕ → Said
-byteSent s = pick (eqb (length s) 2 && allHex s) (signal 4 (hexByte (getD s 0 0) (getD s 1 0))) bad
+unfoldable pub byteSent : List ℕ → ScriptLine
+byteSent s = pick (eqb (length s) 2 && allHex s) (signalLine 4 (hexByte (getD s 0 0) (getD s 1 0))) badLine
 
 -- "the frame, a byte or more, without CRC"
-unfoldable pub frameSent : List ℕ → Said
-frameSent s = pick (leb 2 (length s) && eqb (length s % 2) 0 && allHex s) (frame (hexBytes s)) bad
+unfoldable pub frameSent : List ℕ → ScriptLine
+frameSent s = pick (leb 2 (length s) && eqb (length s % 2) 0 && allHex s) (frameLine (hexBytes s)) badLine
 
 -- a letter, a tab and s: V VCC, F field, B byte sent, G byte fetched, R frame
-unfoldable pub tabbed : ℕ → List ℕ → Said
+unfoldable pub tabbed : ℕ → List ℕ → ScriptLine
 tabbed x s =
     pick (eqb x 0x56) (level 1 s)
     (pick (eqb x 0x46) (level 2 s)
     (pick (eqb x 0x42) (byteSent s)
     (pick (eqb x 0x47) (level 5 s)
     (pick (eqb x 0x52) (frameSent s)
-    bad))))
+    badLine))))
 
-unfoldable pub lineOf : List ℕ → Said
+unfoldable pub lineOf : List ℕ → ScriptLine
 lineOf s =
-    pick (ltb longest (length s)) bad
+    pick (ltb longest (length s)) badLine
     (pick (eqb (length s) 1) (alone (getD s 0 0))
     (pick (eqb (getD s 1 0) 0x09) (tabbed (getD s 0 0) (drop 2 s))
-    bad))
+    badLine))
 
 -- ---- what the program's reading of a line says; s is what follows the tab
-unfoldable pub saidBy : Reading → List ℕ → Said
-saidBy Bad s = bad
-saidBy (Signal code value) s = signal code value
-saidBy Frame s = frame (hexBytes s)
+unfoldable pub lineBy : Reading → List ℕ → ScriptLine
+lineBy Bad s = badLine
+lineBy (Signal code value) s = signalLine code value
+lineBy Frame s = frameLine (hexBytes s)

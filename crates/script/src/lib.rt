@@ -10,7 +10,7 @@ ghost use Rattle.crc.specs.Crc.{closed};
 ghost use Rattle.text.specs.Hex.{hexBytes};
 ghost use Rattle.script.specs.declared.Bench.{Bench};
 ghost use Rattle.script.specs.Text.{badText};
-ghost use Rattle.script.specs.Bench.{begun, startOf, nextLine, longestText, prints, shown, show, calls, benchOf};
+ghost use Rattle.script.specs.Bench.{benchStart, benchStartOf, nextLine, longestText, prints, lineBuffers, putLine, benchCall, benchOf};
 use model::Answer;
 use model::Refusal;
 use reading::Reading;
@@ -25,14 +25,14 @@ pub struct Bench {
 }
 
 // What a line leaves beside both lent buffers: its text has this length.
-pub struct Outcome {
+pub struct LineOutcome {
     pub bench: Bench,
     pub length: usize,
 }
 
 // The fresh tag, before line 1.
 pub fn start(m: &mut [u8]) -> Bench
-    ensures { λ r. ⌜ begun r (now (m .exit)) ≡ startOf (now (m .entry)) ⌝ }
+    ensures { λ r. ⌜ benchStart r (now (m .exit)) ≡ benchStartOf (now (m .entry)) ⌝ }
 {
     let uid = Uid {
         bytes: [0x01, 0x02, 0x03, 0x04, 0x05, 0x24, 0x02, 0xE0],
@@ -58,8 +58,8 @@ fn call(
     value: u16,
     frame: &[u8],
     text: &mut [u8],
-) -> Outcome
-    ensures { λ r. ⌜ shown (r .bench) (r .length) (now (m .exit)) (now (reply .exit)) (now (text .exit)) ≡ show (calls b (now (m .entry)) (now (reply .entry)) code value (now (frame .entry))) (now (text .entry)) ⌝ }
+) -> LineOutcome
+    ensures { λ r. ⌜ lineBuffers (r .bench) (r .length) (now (m .exit)) (now (reply .exit)) (now (text .exit)) ≡ putLine (benchCall b (now (m .entry)) (now (reply .entry)) code value (now (frame .entry))) (now (text .entry)) ⌝ }
 {
     let t = b.tag;
     let o = model::step(t, m, reply, code, value, frame);
@@ -67,7 +67,7 @@ fn call(
     let tag = o.tag;
     let number = next_line(b);
     let length = printing::put_line(text, number, answer, reply);
-    Outcome {
+    LineOutcome {
         bench: Bench { tag, number },
         length,
     }
@@ -94,7 +94,7 @@ struct Arguments {
 
 // Of a bad line the code is 0, which is no signal's: a call with it would be refused, change nothing and print ?.
 fn arguments_of(s: &[u8], frame: &mut [u8; 602]) -> Arguments
-    ensures { λ r. ⌜ ((b : Bench) (m o : List ℕ) → calls b m o (r .code) (r .value) (take (r .length) (now (frame .exit))) ≡ benchOf b m o (now (s .entry))) ⌝ }
+    ensures { λ r. ⌜ ((b : Bench) (m o : List ℕ) → benchCall b m o (r .code) (r .value) (take (r .length) (now (frame .exit))) ≡ benchOf b m o (now (s .entry))) ⌝ }
     ensures { λ r. ⌜ r .length ≤ length (now (frame .exit)) ⌝ }
 {
     match reading::read(s) {
@@ -117,22 +117,22 @@ fn arguments_of(s: &[u8], frame: &mut [u8; 602]) -> Arguments
 }
 
 // A bad line is no call: it prints ? and changes nothing but the number of lines.
-fn bad_line(b: Bench, reply: &[u8; 643], text: &mut [u8]) -> Outcome
-    ensures { λ r. ⌜ ((m : List ℕ) → shown (r .bench) (r .length) m (now (reply .entry)) (now (text .exit)) ≡ show (prints b (b .tag) m (now (reply .entry)) badText) (now (text .entry))) ⌝ }
+fn bad_line(b: Bench, reply: &[u8; 643], text: &mut [u8]) -> LineOutcome
+    ensures { λ r. ⌜ ((m : List ℕ) → lineBuffers (r .bench) (r .length) m (now (reply .entry)) (now (text .exit)) ≡ putLine (prints b (b .tag) m (now (reply .entry)) badText) (now (text .entry))) ⌝ }
 {
     let tag = b.tag;
     let number = next_line(b);
     let answer = Answer::Refused(Refusal::SignalUnknown);
     let length = printing::put_line(text, number, answer, reply);
-    Outcome {
+    LineOutcome {
         bench: Bench { tag, number },
         length,
     }
 }
 
 // A line without its line feed. Its text stands in `text` from place 0 on.
-pub fn line(b: Bench, m: &mut [u8], reply: &mut [u8; 643], s: &[u8], text: &mut [u8]) -> Outcome
-    ensures { λ r. ⌜ shown (r .bench) (r .length) (now (m .exit)) (now (reply .exit)) (now (text .exit)) ≡ show (benchOf b (now (m .entry)) (now (reply .entry)) (now (s .entry))) (now (text .entry)) ⌝ }
+pub fn line(b: Bench, m: &mut [u8], reply: &mut [u8; 643], s: &[u8], text: &mut [u8]) -> LineOutcome
+    ensures { λ r. ⌜ lineBuffers (r .bench) (r .length) (now (m .exit)) (now (reply .exit)) (now (text .exit)) ≡ putLine (benchOf b (now (m .entry)) (now (reply .entry)) (now (s .entry))) (now (text .entry)) ⌝ }
     ensures { λ r. ⌜ r .length ≤ longestText ⌝ }
 {
     let mut frame = [0u8; 602];

@@ -1,7 +1,7 @@
 // What a line says.
 ghost use mathlib.Core.Path.{_≡_};
 ghost use lib.ListN.{getD, drop};
-ghost use Rattle.script.specs.Line.{saidBy, alone, level, byteSent, frameSent, tabbed, lineOf};
+ghost use Rattle.script.specs.Line.{lineBy, alone, level, byteSent, frameSent, tabbed, lineOf};
 
 pub enum Reading {
     Bad,
@@ -13,7 +13,7 @@ pub enum Reading {
 
 // A letter without a value.
 fn alone(s: &[u8]) -> Reading
-    ensures { λ r. ⌜ saidBy r (drop 2 (now (s .entry))) ≡ alone (getD (now (s .entry)) 0 0) ⌝ }
+    ensures { λ r. ⌜ lineBy r (drop 2 (now (s .entry))) ≡ alone (getD (now (s .entry)) 0 0) ⌝ }
 {
     match parts::byte_at(s, 0) {
         b'S' => Reading::Signal { code: 3, value: 0 },
@@ -25,7 +25,7 @@ fn alone(s: &[u8]) -> Reading
 
 // 0 or 1.
 fn level(code: u8, s: &[u8]) -> Reading
-    ensures { λ r. ⌜ saidBy r (now (s .entry)) ≡ level code (now (s .entry)) ⌝ }
+    ensures { λ r. ⌜ lineBy r (now (s .entry)) ≡ level code (now (s .entry)) ⌝ }
 {
     let x = parts::byte_at(s, 0);
     if (s.len() == 1) & ((x == b'0') | (x == b'1')) {
@@ -39,7 +39,7 @@ fn level(code: u8, s: &[u8]) -> Reading
 
 // Two hex digits.
 fn byte_sent(s: &[u8]) -> Reading
-    ensures { λ r. ⌜ saidBy r (now (s .entry)) ≡ byteSent (now (s .entry)) ⌝ }
+    ensures { λ r. ⌜ lineBy r (now (s .entry)) ≡ byteSent (now (s .entry)) ⌝ }
 {
     let hex = text::all_hex(s);
     if (s.len() == 2) & hex {
@@ -54,7 +54,7 @@ fn byte_sent(s: &[u8]) -> Reading
 
 // A frame, a byte or more.
 fn frame_sent(s: &[u8]) -> Reading
-    ensures { λ r. ⌜ saidBy r (now (s .entry)) ≡ frameSent (now (s .entry)) ⌝ }
+    ensures { λ r. ⌜ lineBy r (now (s .entry)) ≡ frameSent (now (s .entry)) ⌝ }
 {
     let hex = text::all_hex(s);
     if (2 <= s.len()) & (s.len() % 2 == 0) & hex {
@@ -65,7 +65,7 @@ fn frame_sent(s: &[u8]) -> Reading
 
 // A letter, and what follows its tab.
 fn tabbed(letter: u8, s: &[u8]) -> Reading
-    ensures { λ r. ⌜ saidBy r (now (s .entry)) ≡ tabbed letter (now (s .entry)) ⌝ }
+    ensures { λ r. ⌜ lineBy r (now (s .entry)) ≡ tabbed letter (now (s .entry)) ⌝ }
 {
     match letter {
         b'V' => level(1, s),
@@ -79,7 +79,7 @@ fn tabbed(letter: u8, s: &[u8]) -> Reading
 
 // A line without its line feed.
 pub fn read(s: &[u8]) -> Reading
-    ensures { λ r. ⌜ saidBy r (drop 2 (now (s .entry))) ≡ lineOf (now (s .entry)) ⌝ }
+    ensures { λ r. ⌜ lineBy r (drop 2 (now (s .entry))) ≡ lineOf (now (s .entry)) ⌝ }
 {
     if 1200 < s.len() {
         return Reading::Bad;

@@ -3,26 +3,26 @@ ghost use mathlib.Core.Path.{_≡_};
 ghost use mathlib.Core.Bool.{false};
 ghost use Rattle.tag.specs.declared.Bus.the-variants.{DataLeg};
 ghost use Rattle.rule.specs.Select.{choose, address};
-ghost use Rattle.signal.specs.declared.Answer.the-variants.{NoAck};
-ghost use Rattle.signal.specs.Signal.{says, sideLine, selectBy, dataOf, sendAt};
+ghost use Rattle.signal.specs.declared.WireAnswer.the-variants.{NoAck};
+ghost use Rattle.signal.specs.Signal.{wireResult, sideLine, selectBy, dataOf, sendAt};
 use rule::Choice;
-use signal::Answer;
-use signal::Outcome;
+use signal::WireAnswer;
+use signal::WireOutcome;
 use tag::Bus;
 use tag::Space;
 use tag::WireSide;
 
 // The first byte sent after a Start.
-fn select(w: WireSide, m: &[u8], x: u8) -> Outcome
-    ensures { λ r. ⌜ says (r .answer) (r .side) (now (m .entry)) ≡ selectBy (choose (w .host .vcc) (w .host .programming) x) w (now (m .entry)) ⌝ }
+fn select(w: WireSide, m: &[u8], x: u8) -> WireOutcome
+    ensures { λ r. ⌜ wireResult (r .answer) (r .side) (now (m .entry)) ≡ selectBy (choose (w .host .vcc) (w .host .programming) x) w (now (m .entry)) ⌝ }
 {
     match rule::choose(w.host.vcc, w.host.programming, x) {
-        Choice::Refused => Outcome {
-            answer: Answer::NoAck,
+        Choice::NotAcked => WireOutcome {
+            answer: WireAnswer::NoAck,
             side: signal::with_bus(w, Bus::Idle),
         },
-        Choice::Reading(space) => Outcome {
-            answer: Answer::Ack,
+        Choice::Reading(space) => WireOutcome {
+            answer: WireAnswer::Ack,
             side: signal::with_bus(
                 w,
                 Bus::ReadLeg {
@@ -32,16 +32,16 @@ fn select(w: WireSide, m: &[u8], x: u8) -> Outcome
                 },
             ),
         },
-        Choice::Writing(space) => Outcome {
-            answer: Answer::Ack,
+        Choice::Writing(space) => WireOutcome {
+            answer: WireAnswer::Ack,
             side: signal::with_bus(w, Bus::WriteLeg(space)),
         },
     }
 }
 
 // A data byte of a leg that is not spoiled.
-fn data(space: Space, k: u16, w: WireSide, m: &mut [u8], x: u8) -> Outcome
-    ensures { λ r. ⌜ says (r .answer) (r .side) (now (m .exit)) ≡ dataOf space k w (now (m .entry)) x ⌝ }
+fn data(space: Space, k: u16, w: WireSide, m: &mut [u8], x: u8) -> WireOutcome
+    ensures { λ r. ⌜ wireResult (r .answer) (r .side) (now (m .exit)) ≡ dataOf space k w (now (m .entry)) x ⌝ }
 {
     let counter = w.host.counter;
     let first = rule::first_of(counter, k);
@@ -54,8 +54,8 @@ fn data(space: Space, k: u16, w: WireSide, m: &mut [u8], x: u8) -> Outcome
             count: count,
             spoiled: false,
         };
-        return Outcome {
-            answer: Answer::Ack,
+        return WireOutcome {
+            answer: WireAnswer::Ack,
             side: signal::with_line(w, next, leg),
         };
     }
@@ -64,30 +64,30 @@ fn data(space: Space, k: u16, w: WireSide, m: &mut [u8], x: u8) -> Outcome
         count: k,
         spoiled: true,
     };
-    Outcome {
-        answer: Answer::NoAck,
+    WireOutcome {
+        answer: WireAnswer::NoAck,
         side: signal::with_bus(w, spoiled),
     }
 }
 
 // A data byte, NoAcked in a spoiled leg.
-fn send_data(space: Space, k: u16, spoiled: bool, w: WireSide, m: &mut [u8], x: u8) -> Outcome
-    ensures { λ r. ⌜ says (r .answer) (r .side) (now (m .exit)) ≡ sendAt (DataLeg space k spoiled) w (now (m .entry)) x ⌝ }
+fn send_data(space: Space, k: u16, spoiled: bool, w: WireSide, m: &mut [u8], x: u8) -> WireOutcome
+    ensures { λ r. ⌜ wireResult (r .answer) (r .side) (now (m .exit)) ≡ sendAt (DataLeg space k spoiled) w (now (m .entry)) x ⌝ }
 {
     if spoiled {
-        return Outcome {
-            answer: Answer::NoAck,
+        return WireOutcome {
+            answer: WireAnswer::NoAck,
             side: w,
         };
     }
     data(space, k, w, m, x)
 }
 
-fn no_ack(w: WireSide) -> Outcome
+fn no_ack(w: WireSide) -> WireOutcome
     ensures { λ r. ⌜ r ≡ record { answer = NoAck; side = w } ⌝ }
 {
-    Outcome {
-        answer: Answer::NoAck,
+    WireOutcome {
+        answer: WireAnswer::NoAck,
         side: w,
     }
 }
@@ -105,15 +105,15 @@ fn low_address(space: Space, high: u8, w: WireSide, x: u8) -> WireSide
 }
 
 // A byte sent.
-pub fn send_at(b: Bus, w: WireSide, m: &mut [u8], x: u8) -> Outcome
-    ensures { λ r. ⌜ says (r .answer) (r .side) (now (m .exit)) ≡ sendAt b w (now (m .entry)) x ⌝ }
+pub fn send_at(b: Bus, w: WireSide, m: &mut [u8], x: u8) -> WireOutcome
+    ensures { λ r. ⌜ wireResult (r .answer) (r .side) (now (m .exit)) ≡ sendAt b w (now (m .entry)) x ⌝ }
 {
     match b {
         Bus::Idle => no_ack(w),
         Bus::Started(transfer) => select(w, m, x),
         Bus::ReadLeg { space, over, last } => no_ack(w),
-        Bus::WriteLeg(space) => Outcome {
-            answer: Answer::Ack,
+        Bus::WriteLeg(space) => WireOutcome {
+            answer: WireAnswer::Ack,
             side: signal::with_bus(
                 w,
                 Bus::LowAddress {
@@ -122,8 +122,8 @@ pub fn send_at(b: Bus, w: WireSide, m: &mut [u8], x: u8) -> Outcome
                 },
             ),
         },
-        Bus::LowAddress { space, high } => Outcome {
-            answer: Answer::Ack,
+        Bus::LowAddress { space, high } => WireOutcome {
+            answer: WireAnswer::Ack,
             side: low_address(space, high, w, x),
         },
         Bus::DataLeg {

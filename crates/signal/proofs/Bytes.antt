@@ -15,15 +15,15 @@ use Rattle.tag.specs.declared.Uid.{Uid}
 use Rattle.tag.specs.Bus.{isOpen}
 use Rattle.tag.specs.Keys.{passwordAt, samePassword}
 use Rattle.rule.specs.declared.Choice.{Choice}
-use Rattle.rule.specs.declared.Choice.the-variants.{Refused, Reading, Writing}
+use Rattle.rule.specs.declared.Choice.the-variants.{NotAcked, Reading, Writing}
 use Rattle.rule.specs.PageRange.{page}
-use Rattle.leg.specs.Effect.{Left, Due, none, clears, writes, started, stopped, settle, legWritten, userWritten, systemWritten, passwordWritten}
-use Rattle.signal.specs.declared.Signal.the-variants.{Start, Send, Fetch, Stop, Vcc, ProgrammingEnd}
-use Rattle.signal.specs.Signal.{Ended, sideBus, dueOf, startAt, startOf, stopAt, selectBy, dataOf, sendAt, fetchAt, signalOf}
+use Rattle.leg.specs.Effect.{LegResult, Due, nothingDue, clears, writes, started, stopped, settle, legWritten, userWritten, systemWritten, passwordWritten}
+use Rattle.signal.specs.declared.WireSignal.the-variants.{Start, Send, Fetch, Stop, Vcc, ProgrammingEnd}
+use Rattle.signal.specs.Signal.{WireResult, sideBus, dueOf, startAt, startOf, stopAt, selectBy, dataOf, sendAt, fetchAt, signalOf}
 use Rattle.signal.specs.Claims.{sentByte, KeepsBytes}
 
 -- ---- the end of a leg
-abbrev S : Left → Type 0
+abbrev S : LegResult → Type 0
 S d = Below (d .memory)
 
 module _ (w : WireSide) (m : List ℕ) (h : Below m) where
@@ -46,7 +46,7 @@ module _ (w : WireSide) (m : List ℕ) (h : Below m) where
 
   start-small : (d : Due) → S (settle started d w m)
   unfolding settle
-  start-small none = h
+  start-small nothingDue = h
   start-small clears = h
   start-small (writes s f bs) = h
 
@@ -54,20 +54,20 @@ module _ (w : WireSide) (m : List ℕ) (h : Below m) where
   unfolding dueOf settle
   due-small Idle c = h
   due-small (Started o) c = h
-  due-small (ReadLeg s over last) c = pick-case (λ (d : Due). S (settle stopped d w m)) last clears none (λ t. h) (λ t. h)
+  due-small (ReadLeg s over last) c = pick-case (λ (d : Due). S (settle stopped d w m)) last clears nothingDue (λ t. h) (λ t. h)
   due-small (WriteLeg s) c = h
   due-small (LowAddress s y) c = h
   due-small (DataLeg s n spoiled) c =
-      pick-case (λ (d : Due). S (settle stopped d w m)) _ none _ (λ t. h) (λ t. leg-small s _ (page n m) (run-below m 768 n h))
+      pick-case (λ (d : Due). S (settle stopped d w m)) _ nothingDue _ (λ t. h) (λ t. leg-small s _ (page n m) (run-below m 768 n h))
 
 -- ---- a signal
-abbrev E : Ended → Type 0
+abbrev E : WireResult → Type 0
 E e = Below (e .memory)
 
 module _ (w : WireSide) (m : List ℕ) (h : Below m) where
   select-small : (c : Choice) → E (selectBy c w m)
   unfolding selectBy
-  select-small Refused = h
+  select-small NotAcked = h
   select-small (Reading s) = h
   select-small (Writing s) = h
 

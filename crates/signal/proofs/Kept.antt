@@ -30,15 +30,15 @@ use Rattle.ranges.specs.Ranges.{registersInRange, mailboxInRange, coreInRange, 
 use Rattle.ranges.proofs.MailboxKept.{empty-kept, host-read-kept, host-put-kept, controlled-kept}
 use Rattle.ranges.proofs.RegistersKept.{dynamic-kept, reload-kept}
 use Rattle.rule.specs.declared.Choice.{Choice}
-use Rattle.rule.specs.declared.Choice.the-variants.{Refused, Reading, Writing}
+use Rattle.rule.specs.declared.Choice.the-variants.{NotAcked, Reading, Writing}
 use Rattle.rule.specs.Select.{choose, selectOf, firstOf}
 use Rattle.rule.specs.Rule.{mailboxAcked, userAcked, spaceAcked, acked, writtenAll}
 use Rattle.rule.specs.PageRange.{page, pageAcked, busInRange}
-use Rattle.leg.specs.Effect.{Left, Due, none, clears, writes, started, stopped, settle, legWritten, userWritten, systemWritten, passwordWritten, left, withCore, withSession, programming}
-use Rattle.signal.specs.declared.Signal.{Signal}
-use Rattle.signal.specs.declared.Signal.the-variants.{Start, Send, Fetch, Stop, Vcc, ProgrammingEnd}
-use Rattle.signal.specs.Signal.{Ended, sideBus, sideLine, dueOf, startAt, startOf, stopAt, selectBy, dataOf, sendAt, fetchAt, programmed, signalOf}
-use Rattle.signal.specs.Claims.{Keeps}
+use Rattle.leg.specs.Effect.{LegResult, Due, nothingDue, clears, writes, started, stopped, settle, legWritten, userWritten, systemWritten, passwordWritten, legResult, withWireCore, withI2cSession, programming}
+use Rattle.signal.specs.declared.WireSignal.{WireSignal}
+use Rattle.signal.specs.declared.WireSignal.the-variants.{Start, Send, Fetch, Stop, Vcc, ProgrammingEnd}
+use Rattle.signal.specs.Signal.{WireResult, sideBus, sideLine, dueOf, startAt, startOf, stopAt, selectBy, dataOf, sendAt, fetchAt, programmed, signalOf}
+use Rattle.signal.specs.Claims.{SignalKeepsRange}
 use Rattle.rule.proofs.Page.{acked-room, acked-space, page-last}
 use Rattle.signal.proofs.Page.{first-next, page-more, of-mailbox, free, registers-kept}
 
@@ -139,11 +139,11 @@ module _ (w : WireSide) (f : Fits w) where
   started-fits v = record { registers = f .registers; mailbox = f .mailbox; room = refl; alone = f .alone; supplied = rw v }
 
   -- RF_PUT cleared
-  read-fits : Fits (withCore (withMailbox (hostRead (w .core .mailbox)) (w .core)) w)
+  read-fits : Fits (withWireCore (withMailbox (hostRead (w .core .mailbox)) (w .core)) w)
   read-fits = record { registers = f .registers; mailbox = host-read-kept (w .core .mailbox) (f .mailbox); room = f .room; alone = f .alone; supplied = f .supplied }
 
 -- ---- a leg's writes, on a side with an idle bus and VCC
-abbrev L : Left → Type 0
+abbrev L : LegResult → Type 0
 L d = Kept (d .side) (d .memory)
 
 module _ (w₀ : WireSide) (m : List ℕ) (g : Fits (sideBus Idle w₀)) (size : length m ≡ 1024) (v : w₀ .host .vcc ≡ true) where
@@ -152,14 +152,14 @@ module _ (w₀ : WireSide) (m : List ℕ) (g : Fits (sideBus Idle w₀)) (size :
 
   -- programming starts, the registers and the I2C password as they may be
   programs : (c : Core) (m′ : List ℕ) → registersInRange (c .registers) ≡ true → mailboxInRange (c .mailbox) ≡ true → length m′ ≡ 1024
-      → L (left (programming (withCore c w)) m′)
+      → L (legResult (programming (withWireCore c w)) m′)
   unfolding isOpen pageBytes busInRange
   programs c m′ r b l =
       record { side = record { registers = r; mailbox = b; room = refl; alone = refl; supplied = rw v }; bus = refl; size = l }
 
   -- the core changed, the host side not but for the session
   changes : (o : Bool) (c : Core) (m′ : List ℕ) → registersInRange (c .registers) ≡ true → mailboxInRange (c .mailbox) ≡ true → length m′ ≡ 1024
-      → L (left (withSession o (withCore c w)) m′)
+      → L (legResult (withI2cSession o (withWireCore c w)) m′)
   unfolding isOpen pageBytes busInRange
   changes o c m′ r b l =
       record { side = record { registers = r; mailbox = b; room = refl; alone = g .alone; supplied = rw v }; bus = refl; size = l }
@@ -171,7 +171,7 @@ module _ (w₀ : WireSide) (m : List ℕ) (g : Fits (sideBus Idle w₀)) (size :
   b₀ = w₀ .core .mailbox
 
   put-kept : (n f : ℕ) (bs : List ℕ) → length bs ≡ suc n → n < 256 → mailboxAcked b₀ f ≡ true
-      → L (left (withCore (withMailbox (hostPut (length bs) b₀) (w₀ .core)) w) (sets m 512 bs))
+      → L (legResult (withWireCore (withMailbox (hostPut (length bs) b₀) (w₀ .core)) w) (sets m 512 bs))
   put-kept n f bs e l a =
       let q = free b₀ f a in
       changes (w₀ .host .session) (withMailbox (hostPut (length bs) b₀) (w₀ .core)) (sets m 512 bs) (g .registers)
@@ -190,7 +190,7 @@ module _ (w₀ : WireSide) (m : List ℕ) (g : Fits (sideBus Idle w₀)) (size :
       (λ h3. put-kept n f bs e l (of-mailbox (w₀ .core) (w₀ .host .session) f n h1 h2 h3 a))))
 
   -- the password leg
-  same-kept : L (left w m)
+  same-kept : L (legResult w m)
   same-kept = changes (w₀ .host .session) (w₀ .core) m (g .registers) (g .mailbox) size
 
   password-kept : (bs : List ℕ) → L (passwordWritten w m bs)
@@ -217,7 +217,7 @@ module _ (w₀ : WireSide) (m : List ℕ) (g : Fits (sideBus Idle w₀)) (size :
   leg-kept System n f a = system-kept (suc n) f a
 
 -- ---- a signal
-abbrev K : Ended → Type 0
+abbrev K : WireResult → Type 0
 K e = Kept (e .side) (e .memory)
 
 module _ (w : WireSide) (m : List ℕ) (k : Kept w m) where
@@ -232,21 +232,21 @@ module _ (w : WireSide) (m : List ℕ) (k : Kept w m) where
   -- a Start
   start-kept : w .host .vcc ≡ true → (d : Due) → L (settle started d (sideBus (Started (isOpen (w .host .bus))) w) m)
   unfolding settle busInRange
-  start-kept v none = record { side = started-fits w (k .side) v; bus = refl; size = k .size }
+  start-kept v nothingDue = record { side = started-fits w (k .side) v; bus = refl; size = k .size }
   start-kept v clears = record { side = read-fits _ (started-fits w (k .side) v); bus = refl; size = k .size }
   start-kept v (writes s f bs) = record { side = started-fits w (k .side) v; bus = refl; size = k .size }
 
   -- a select
   select-by : Leg w → (c : Choice) → K (selectBy c w m)
   unfolding selectBy pageBytes busInRange
-  select-by l Refused = idle
+  select-by l NotAcked = idle
   select-by l (Reading s) = moved l (w .host .counter) (ReadLeg s false false) refl refl
   select-by l (Writing s) = moved l (w .host .counter) (WriteLeg s) refl refl
 
   select-kept : (x : ℕ) → K (selectBy (choose (w .host .vcc) (w .host .programming) x) w m)
   unfolding choose selectBy
   select-kept x =
-      pick-case (λ (c : Choice). K (selectBy c w m)) (w .host .programming || not (w .host .vcc)) Refused (selectOf x) (λ h. idle)
+      pick-case (λ (c : Choice). K (selectBy c w m)) (w .host .programming || not (w .host .vcc)) NotAcked (selectOf x) (λ h. idle)
       (λ h.
       let n = neither (w .host .programming) (not (w .host .vcc)) h in
       select-by (record { vcc = not-false (w .host .vcc) (n .1); still = n .0 }) (selectOf x))
@@ -309,7 +309,7 @@ module _ (w : WireSide) (m : List ℕ) (k : Kept w m) where
   writes-kept s zero f v z a = absurd (true≢false z)
   writes-kept s (suc n) f v z a = leg-kept w m (idle-fits w (k .side)) (k .size) v s n f a
 
-  nothing-due : L (settle stopped none (sideBus Idle w) m)
+  nothing-due : L (settle stopped nothingDue (sideBus Idle w) m)
   unfolding settle busInRange
   nothing-due = record { side = idle-fits w (k .side); bus = refl; size = k .size }
 
@@ -321,11 +321,11 @@ module _ (w : WireSide) (m : List ℕ) (k : Kept w m) where
   unfolding dueOf
   due-kept Idle e = nothing-due
   due-kept (Started o) e = nothing-due
-  due-kept (ReadLeg s over last) e = pick-case (λ (d : Due). L (settle stopped d (sideBus Idle w) m)) last clears none (λ h. clear-due) (λ h. nothing-due)
+  due-kept (ReadLeg s over last) e = pick-case (λ (d : Due). L (settle stopped d (sideBus Idle w) m)) last clears nothingDue (λ h. clear-due) (λ h. nothing-due)
   due-kept (WriteLeg s) e = nothing-due
   due-kept (LowAddress s h) e = nothing-due
   due-kept (DataLeg s n spoiled) e =
-      pick-case (λ (d : Due). L (settle stopped d (sideBus Idle w) m)) (spoiled || eqb n 0) none _ (λ h. nothing-due)
+      pick-case (λ (d : Due). L (settle stopped d (sideBus Idle w) m)) (spoiled || eqb n 0) nothingDue _ (λ h. nothing-due)
       (λ h. writes-kept s n _ (leg-is s n spoiled e .vcc) (neither spoiled (eqb n 0) h .1) (page-is s n spoiled e))
 
   -- supply
@@ -371,7 +371,7 @@ module _ (w : WireSide) (m : List ℕ) (k : Kept w m) where
         size = k .size;
       }
 
-  signal-kept : (u : Uid) (s : Signal) → K (signalOf w u m s)
+  signal-kept : (u : Uid) (s : WireSignal) → K (signalOf w u m s)
   unfolding signalOf startOf startAt stopAt
   signal-kept u Start = pick-case K (w .host .vcc) _ _ (λ v. start-kept v (dueOf (w .host .bus) (w .host .counter) m)) (λ v. k)
   signal-kept u (Send x) = send-kept (w .host .bus) x refl
@@ -380,7 +380,7 @@ module _ (w : WireSide) (m : List ℕ) (k : Kept w m) where
   signal-kept u (Vcc on) = vcc-kept on
   signal-kept u ProgrammingEnd = programmed-kept
 
-pub keeps : Keeps
+pub keeps : SignalKeepsRange
 keeps w u m s r =
     let k = signal-kept w m (record { side = fits w (r .side); bus = r .bus; size = r .size }) u s in
     record { side = in-range _ (k .side); bus = k .bus; size = k .size }

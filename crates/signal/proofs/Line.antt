@@ -18,17 +18,17 @@ use Rattle.tag.specs.Keys.{passwordAt, samePassword}
 use Rattle.tag.specs.Supply.{vccAt}
 use Rattle.ranges.specs.Ranges.{suppliedInRange}
 use Rattle.rule.specs.declared.Choice.{Choice}
-use Rattle.rule.specs.declared.Choice.the-variants.{Refused, Reading, Writing}
-use Rattle.leg.specs.Effect.{Left, Due, none, clears, writes, started, stopped, settle, legWritten, userWritten, systemWritten, passwordWritten}
-use Rattle.signal.specs.declared.Signal.the-variants.{Start, Send, Fetch, Stop, Vcc, ProgrammingEnd}
-use Rattle.signal.specs.Signal.{Ended, sideBus, dueOf, startAt, startOf, stopAt, selectBy, dataOf, sendAt, fetchAt, signalOf}
+use Rattle.rule.specs.declared.Choice.the-variants.{NotAcked, Reading, Writing}
+use Rattle.leg.specs.Effect.{LegResult, Due, nothingDue, clears, writes, started, stopped, settle, legWritten, userWritten, systemWritten, passwordWritten}
+use Rattle.signal.specs.declared.WireSignal.the-variants.{Start, Send, Fetch, Stop, Vcc, ProgrammingEnd}
+use Rattle.signal.specs.Signal.{WireResult, sideBus, dueOf, startAt, startOf, stopAt, selectBy, dataOf, sendAt, fetchAt, signalOf}
 use Rattle.signal.specs.Claims.{KeepsCounter, RegistersStay}
 use Rattle.signal.proofs.Kept.{inactive}
 
 -- ---- the end of a leg
 module _ (w : WireSide) (m : List ℕ) where
   -- the line is as it was
-  abbrev Same : Left → Type 0
+  abbrev Same : LegResult → Type 0
   Same d = (d .side .host .bus ≡ w .host .bus) × (d .side .host .counter ≡ w .host .counter)
 
   user-same : (f : ℕ) (bs : List ℕ) → Same (userWritten w m f bs)
@@ -51,19 +51,19 @@ module _ (w : WireSide) (m : List ℕ) where
 
   stop-same : (d : Due) → Same (settle stopped d w m)
   unfolding settle
-  stop-same none = (refl, refl)
+  stop-same nothingDue = (refl, refl)
   stop-same clears = (refl, refl)
   stop-same (writes s f bs) = leg-same s f bs
 
   start-same : (d : Due) → Same (settle started d w m)
   unfolding settle
-  start-same none = (refl, refl)
+  start-same nothingDue = (refl, refl)
   start-same clears = (refl, refl)
   start-same (writes s f bs) = (refl, refl)
 
   start-registers : (d : Due) → settle started d w m .side .core .registers ≡ w .core .registers
   unfolding settle
-  start-registers none = refl
+  start-registers nothingDue = refl
   start-registers clears = refl
   start-registers (writes s f bs) = refl
 
@@ -71,13 +71,13 @@ module _ (w : WireSide) (m : List ℕ) where
 below : (n : ℕ) → n % 65536 < 65536
 below n = omega arith
 
-abbrev C : Ended → Type 0
+abbrev C : WireResult → Type 0
 C e = e .side .host .counter < 65536
 
 module _ (w : WireSide) (m : List ℕ) (h : w .host .counter < 65536) where
   select-counter : (c : Choice) → C (selectBy c w m)
   unfolding selectBy
-  select-counter Refused = h
+  select-counter NotAcked = h
   select-counter (Reading s) = h
   select-counter (Writing s) = h
 
@@ -128,12 +128,12 @@ keeps-counter w u m ProgrammingEnd h = h
 
 -- ---- the registers
 module _ (w : WireSide) (m : List ℕ) where
-  abbrev R : Ended → Type 0
+  abbrev R : WireResult → Type 0
   R e = e .side .core .registers ≡ w .core .registers
 
   select-registers : (c : Choice) → R (selectBy c w m)
   unfolding selectBy
-  select-registers Refused = refl
+  select-registers NotAcked = refl
   select-registers (Reading s) = refl
   select-registers (Writing s) = refl
 

@@ -10,8 +10,8 @@ use Rattle.tag.specs.Layout.{memoryBytes}
 use Rattle.tag.specs.Bus.{isOpen}
 use Rattle.ranges.specs.Ranges.{suppliedInRange, wireInRange}
 use Rattle.rule.specs.PageRange.{busInRange}
-use Rattle.signal.specs.declared.Signal.{Signal}
-use Rattle.signal.specs.declared.Signal.the-variants.{Start, Send, Fetch, Stop, Vcc, ProgrammingEnd}
+use Rattle.signal.specs.declared.WireSignal.{WireSignal}
+use Rattle.signal.specs.declared.WireSignal.the-variants.{Start, Send, Fetch, Stop, Vcc, ProgrammingEnd}
 use Rattle.signal.specs.Signal.{signalOf}
 
 -- 01's ranges of the wire side, its page bytes and the lent memory
@@ -21,16 +21,16 @@ pub record InRange (w : WireSide) (m : List ℕ) : Type 0 where
   pub size : length m ≡ memoryBytes
 
 -- every signal keeps them
-abbrev pub Keeps : Type 0
-Keeps = (w : WireSide) (u : Uid) (m : List ℕ) (s : Signal)
+abbrev pub SignalKeepsRange : Type 0
+SignalKeepsRange = (w : WireSide) (u : Uid) (m : List ℕ) (s : WireSignal)
     → InRange w m → InRange (signalOf w u m s .side) (signalOf w u m s .memory)
 
 -- every signal keeps the counter below 65536
 abbrev pub KeepsCounter : Type 0
-KeepsCounter = (w : WireSide) (u : Uid) (m : List ℕ) (s : Signal) → w .host .counter < 65536 → signalOf w u m s .side .host .counter < 65536
+KeepsCounter = (w : WireSide) (u : Uid) (m : List ℕ) (s : WireSignal) → w .host .counter < 65536 → signalOf w u m s .side .host .counter < 65536
 
 -- the byte that a signal sends, or 0
-unfoldable pub sentByte : Signal → ℕ
+unfoldable pub sentByte : WireSignal → ℕ
 sentByte Start = 0
 sentByte (Send x) = x
 sentByte (Fetch ack) = 0
@@ -40,10 +40,10 @@ sentByte ProgrammingEnd = 0
 
 -- every signal keeps the memory's bytes below 256
 abbrev pub KeepsBytes : Type 0
-KeepsBytes = (w : WireSide) (u : Uid) (m : List ℕ) (s : Signal) → sentByte s < 256
+KeepsBytes = (w : WireSide) (u : Uid) (m : List ℕ) (s : WireSignal) → sentByte s < 256
     → ((i : ℕ) → getD m i 0 < 256) → (i : ℕ) → getD (signalOf w u m s .memory) i 0 < 256
 
 -- a signal that leaves a transfer open changes no register, RF_MNGT_Dyn among them
 abbrev pub RegistersStay : Type 0
-RegistersStay = (w : WireSide) (u : Uid) (m : List ℕ) (s : Signal) → suppliedInRange (w .host) (w .core .mailbox .enabled) ≡ true
+RegistersStay = (w : WireSide) (u : Uid) (m : List ℕ) (s : WireSignal) → suppliedInRange (w .host) (w .core .mailbox .enabled) ≡ true
     → isOpen (signalOf w u m s .side .host .bus) ≡ true → signalOf w u m s .side .core .registers ≡ w .core .registers

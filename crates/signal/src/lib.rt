@@ -2,14 +2,14 @@
 ghost use mathlib.Core.Path.{_≡_};
 ghost use Rattle.parts.specs.Pick.{pick};
 ghost use Rattle.tag.specs.declared.Bus.the-variants.{DataLeg};
-ghost use Rattle.leg.specs.Effect.{left, stopped, lastFetched, settle};
-ghost use Rattle.signal.specs.declared.Answer.the-variants.{Nothing};
-ghost use Rattle.signal.specs.Signal.{says, sideBus, sideLine, dueOf, startAt, startOf, stopAt};
+ghost use Rattle.leg.specs.Effect.{legResult, stopped, lastFetched, settle};
+ghost use Rattle.signal.specs.declared.WireAnswer.the-variants.{Nothing};
+ghost use Rattle.signal.specs.Signal.{wireResult, sideBus, sideLine, dueOf, startAt, startOf, stopAt};
 use tag::Bus;
 use tag::Space;
 use tag::WireSide;
 
-pub enum Signal {
+pub enum WireSignal {
     Start,
     // A byte sent.
     Send(u8),
@@ -21,15 +21,15 @@ pub enum Signal {
     ProgrammingEnd,
 }
 
-pub enum Answer {
+pub enum WireAnswer {
     Nothing,
     Ack,
     NoAck,
     Byte(u8),
 }
 
-pub struct Outcome {
-    pub answer: Answer,
+pub struct WireOutcome {
+    pub answer: WireAnswer,
     pub side: WireSide,
 }
 
@@ -65,7 +65,7 @@ fn end_read(w: WireSide, last: bool) -> WireSide
 
 // A Start on a powered bus: the leg ends, its writes dropped.
 fn start_at(b: Bus, w: WireSide, m: &[u8]) -> WireSide
-    ensures { λ r. ⌜ says Nothing r (now (m .entry)) ≡ startAt b w (now (m .entry)) ⌝ }
+    ensures { λ r. ⌜ wireResult Nothing r (now (m .entry)) ≡ startAt b w (now (m .entry)) ⌝ }
 {
     let next = with_bus(w, Bus::Started(tag::is_open(b)));
     match b {
@@ -83,7 +83,7 @@ fn start_at(b: Bus, w: WireSide, m: &[u8]) -> WireSide
 }
 
 pub fn start(w: WireSide, m: &[u8]) -> WireSide
-    ensures { λ r. ⌜ says Nothing r (now (m .entry)) ≡ startOf w (now (m .entry)) ⌝ }
+    ensures { λ r. ⌜ wireResult Nothing r (now (m .entry)) ≡ startOf w (now (m .entry)) ⌝ }
 {
     let host = w.host;
     let bus = host.bus;
@@ -95,7 +95,7 @@ pub fn start(w: WireSide, m: &[u8]) -> WireSide
 
 // The Stop of a write leg past its address; the bus is idle already.
 fn stop_write(w: WireSide, m: &mut [u8], space: Space, count: u16, spoiled: bool) -> WireSide
-    ensures { λ r. ⌜ left r (now (m .exit)) ≡ settle stopped (dueOf (DataLeg space count spoiled) (w .host .counter) (now (m .entry))) w (now (m .entry)) ⌝ }
+    ensures { λ r. ⌜ legResult r (now (m .exit)) ≡ settle stopped (dueOf (DataLeg space count spoiled) (w .host .counter) (now (m .entry))) w (now (m .entry)) ⌝ }
 {
     if spoiled | (count == 0) {
         return w;
@@ -106,7 +106,7 @@ fn stop_write(w: WireSide, m: &mut [u8], space: Space, count: u16, spoiled: bool
 
 // A Stop: the leg ends, its writes done.
 pub fn stop_at(b: Bus, w: WireSide, m: &mut [u8]) -> WireSide
-    ensures { λ r. ⌜ says Nothing r (now (m .exit)) ≡ stopAt b w (now (m .entry)) ⌝ }
+    ensures { λ r. ⌜ wireResult Nothing r (now (m .exit)) ≡ stopAt b w (now (m .entry)) ⌝ }
 {
     let next = with_bus(w, Bus::Idle);
     match b {

@@ -10,11 +10,11 @@ use lib.ListN.{length, take, length-append, length-take}
 use lib.Seq.{append-snoc}
 use Rattle.parts.specs.Pick.{pick}
 use Rattle.parts.proofs.Picks.{pick-false, pick-case}
-use Rattle.script.specs.Bench.{Printed}
-use Rattle.script.specs.Lines.{Carried, printed, handedOn}
+use Rattle.script.specs.Bench.{LineResult}
+use Rattle.script.specs.Lines.{BenchState, lineFrom, benchAfter}
 use Rattle.stream.specs.Lines.{byteBefore, linesOf, byteBeforeFull, fullLinesOf, bytesBeforeFull}
 use Rattle.stream.specs.Output.{textsOf, outputOf}
-use Rattle.stream.specs.Step.{Fed, fed, keptMost, keep, textRoom, fedOf, endOf}
+use Rattle.stream.specs.Step.{PieceResult, pieceResult, keptMost, keep, textRoom, pieceBy, endOf}
 use Rattle.stream.specs.Flow.{Flow, flow, following, flowOf}
 use Rattle.stream.specs.Claim.{bufferText, piecesOf, allOf, joined, Roomy, Streams, Live, NeverCut, GoesOn}
 use Rattle.stream.proofs.Steps.{printed-cut, line-kept, step-case, text-le, goes-on}
@@ -40,32 +40,32 @@ before-byte h b [] = before-some (h ++ b ∷ []) (omega (arith, length-append h 
 before-byte h b (l ∷ ls) = ap (λ (x : List ℕ). x ∷ ls) (append-snoc h b l)
 
 -- a line of which only 1,201 bytes were kept
-before-kept : (c : Carried) (h : List ℕ) (ls : List (List ℕ)) → textsOf c (bytesBefore (keep h) ls) ≡ textsOf c (bytesBefore h ls)
+before-kept : (c : BenchState) (h : List ℕ) (ls : List (List ℕ)) → textsOf c (bytesBefore (keep h) ls) ≡ textsOf c (bytesBefore h ls)
 unfolding bytesBefore textsOf pick
 before-kept c [] [] = refl
 before-kept c (b ∷ h) [] =
     ap (textsOf c) (before-some (keep (b ∷ h)) (omega (arith, length-take keptMost (b ∷ h))))
-    ∙ ap (λ (a : Printed). a .text ++ []) (printed-cut keptMost (omega arith) c (b ∷ h))
+    ∙ ap (λ (a : LineResult). a .text ++ []) (printed-cut keptMost (omega arith) c (b ∷ h))
     ∙ ap (textsOf c) (sym (before-some (b ∷ h) (omega arith)))
-before-kept c h (l ∷ ls) = ap (λ (a : Printed). a .text ++ textsOf (handedOn a) ls) (line-kept c h l)
+before-kept c h (l ∷ ls) = ap (λ (a : LineResult). a .text ++ textsOf (benchAfter a) ls) (line-kept c h l)
 
 -- ---- all that is written up to the end: what is held is a line if it has a byte
 abbrev whole : Flow → List ℕ
 whole r = r .text ++ textsOf (r .carried) (bytesBefore (r .held) [])
 
 abbrev Whole : List ℕ → Type 0
-Whole s = (c : Carried) (h : List ℕ) → whole (flowOf c h s) ≡ textsOf c (bytesBefore h (linesOf s))
+Whole s = (c : BenchState) (h : List ℕ) → whole (flowOf c h s) ≡ textsOf c (bytesBefore h (linesOf s))
 
-flow-whole-at : (b : ℕ) (s : List ℕ) → Whole s → (c : Carried) (h : List ℕ) (x : Bool) → eqb b 10 ≡ x
+flow-whole-at : (b : ℕ) (s : List ℕ) → Whole s → (c : BenchState) (h : List ℕ) (x : Bool) → eqb b 10 ≡ x
     → whole (flowOf c h (b ∷ s)) ≡ textsOf c (bytesBefore h (pick x ([] ∷ linesOf s) (byteBefore b (linesOf s))))
 unfolding pick bytesBefore textsOf
 flow-whole-at b s ih c h true e =
-    let a = printed c h in
-    let r = flowOf (handedOn a) [] s in
+    let a = lineFrom c h in
+    let r = flowOf (benchAfter a) [] s in
     ap whole (flow-lf c h b s e)
     ∙ append-assoc (a .text) (r .text) (textsOf (r .carried) (bytesBefore (r .held) []))
-    ∙ ap (λ (t : List ℕ). a .text ++ t) (ih (handedOn a) [] ∙ ap (textsOf (handedOn a)) (before-nil (linesOf s)))
-    ∙ ap (λ (l : List ℕ). printed c l .text ++ textsOf (handedOn (printed c l)) (linesOf s)) (sym (append-nil h))
+    ∙ ap (λ (t : List ℕ). a .text ++ t) (ih (benchAfter a) [] ∙ ap (textsOf (benchAfter a)) (before-nil (linesOf s)))
+    ∙ ap (λ (l : List ℕ). lineFrom c l .text ++ textsOf (benchAfter (lineFrom c l)) (linesOf s)) (sym (append-nil h))
 flow-whole-at b s ih c h false e =
     ap whole (flow-byte c h b s e)
     ∙ ih c (keep (h ++ b ∷ []))
@@ -78,23 +78,23 @@ flow-whole [] c h = refl
 flow-whole (b ∷ s) c h = flow-whole-at b s (flow-whole s) c h (eqb b 10) refl
 
 -- the end of the input
-end-text-at : (room : ℕ) (c : Carried) (h : List ℕ) (x : Bool) → textRoom ≤ room → eqb (length h) 0 ≡ x
-    → pick x (fed c [] 0 []) (fedOf room c h (10 ∷ [])) .text ≡ textsOf c (pick x [] (h ∷ []))
-unfolding pick textsOf fedOf
+end-text-at : (room : ℕ) (c : BenchState) (h : List ℕ) (x : Bool) → textRoom ≤ room → eqb (length h) 0 ≡ x
+    → pick x (pieceResult c [] 0 []) (pieceBy room c h (10 ∷ [])) .text ≡ textsOf c (pick x [] (h ∷ []))
+unfolding pick textsOf pieceBy
 end-text-at room c h true g e = refl
 end-text-at room c h false g e =
-    step-case (λ (r : Fed). r .text ≡ textsOf c (h ∷ [])) room c h 10 []
+    step-case (λ (r : PieceResult). r .text ≡ textsOf c (h ∷ [])) room c h 10 []
     (λ _ l. absurd (omega arith))
     (λ _ _. refl)
     (λ z. absurd (false≢true (sym z)))
 
-end-text : (room : ℕ) (c : Carried) (h : List ℕ) → textRoom ≤ room → endOf room c h .text ≡ textsOf c (bytesBefore h [])
+end-text : (room : ℕ) (c : BenchState) (h : List ℕ) → textRoom ≤ room → endOf room c h .text ≡ textsOf c (bytesBefore h [])
 unfolding endOf bytesBefore
 end-text room c h g = end-text-at room c h (eqb (length h) 0) g refl
 
-end-le : (room : ℕ) (c : Carried) (h : List ℕ) → length (endOf room c h .text) ≤ room
+end-le : (room : ℕ) (c : BenchState) (h : List ℕ) → length (endOf room c h .text) ≤ room
 unfolding endOf
-end-le room c h = pick-case (λ (r : Fed). length (r .text) ≤ room) (eqb (length h) 0) _ _ (λ _. omega arith) (λ _. text-le (10 ∷ []) room c h)
+end-le room c h = pick-case (λ (r : PieceResult). length (r .text) ≤ room) (eqb (length h) 0) _ _ (λ _. omega arith) (λ _. text-le (10 ∷ []) room c h)
 
 pub streams : Streams
 unfolding allOf
@@ -118,22 +118,22 @@ unfolding bytesBeforeFull byteBeforeFull
 full-byte h b [] = refl
 full-byte h b (l ∷ ls) = ap (λ (x : List ℕ). x ∷ ls) (append-snoc h b l)
 
-full-kept : (c : Carried) (h : List ℕ) (ls : List (List ℕ)) → textsOf c (bytesBeforeFull (keep h) ls) ≡ textsOf c (bytesBeforeFull h ls)
+full-kept : (c : BenchState) (h : List ℕ) (ls : List (List ℕ)) → textsOf c (bytesBeforeFull (keep h) ls) ≡ textsOf c (bytesBeforeFull h ls)
 unfolding bytesBeforeFull textsOf
 full-kept c h [] = refl
-full-kept c h (l ∷ ls) = ap (λ (a : Printed). a .text ++ textsOf (handedOn a) ls) (line-kept c h l)
+full-kept c h (l ∷ ls) = ap (λ (a : LineResult). a .text ++ textsOf (benchAfter a) ls) (line-kept c h l)
 
 abbrev Full : List ℕ → Type 0
-Full s = (c : Carried) (h : List ℕ) → flowOf c h s .text ≡ textsOf c (bytesBeforeFull h (fullLinesOf s))
+Full s = (c : BenchState) (h : List ℕ) → flowOf c h s .text ≡ textsOf c (bytesBeforeFull h (fullLinesOf s))
 
-flow-full-at : (b : ℕ) (s : List ℕ) → Full s → (c : Carried) (h : List ℕ) (x : Bool) → eqb b 10 ≡ x
+flow-full-at : (b : ℕ) (s : List ℕ) → Full s → (c : BenchState) (h : List ℕ) (x : Bool) → eqb b 10 ≡ x
     → flowOf c h (b ∷ s) .text ≡ textsOf c (bytesBeforeFull h (pick x ([] ∷ fullLinesOf s) (byteBeforeFull b (fullLinesOf s))))
 unfolding pick bytesBeforeFull textsOf
 flow-full-at b s ih c h true e =
-    let a = printed c h in
+    let a = lineFrom c h in
     ap (λ (r : Flow). r .text) (flow-lf c h b s e)
-    ∙ ap (λ (t : List ℕ). a .text ++ t) (ih (handedOn a) [] ∙ ap (textsOf (handedOn a)) (full-nil (fullLinesOf s)))
-    ∙ ap (λ (l : List ℕ). printed c l .text ++ textsOf (handedOn (printed c l)) (fullLinesOf s)) (sym (append-nil h))
+    ∙ ap (λ (t : List ℕ). a .text ++ t) (ih (benchAfter a) [] ∙ ap (textsOf (benchAfter a)) (full-nil (fullLinesOf s)))
+    ∙ ap (λ (l : List ℕ). lineFrom c l .text ++ textsOf (benchAfter (lineFrom c l)) (fullLinesOf s)) (sym (append-nil h))
 flow-full-at b s ih c h false e =
     ap (λ (r : Flow). r .text) (flow-byte c h b s e)
     ∙ ih c (keep (h ++ b ∷ []))
@@ -153,7 +153,7 @@ live o roomy c ps =
 
 pub never-cut : NeverCut
 never-cut o c h s =
-    let r = fedOf (length o) c h s in
+    let r = pieceBy (length o) c h s in
     buffer-is o (r .text) (text-le s (length o) c h)
     ∙ sym (ap (λ (f : Flow). f .text) (step-flows s (length o) c h))
     ∙ flow-full (take (r .used) s) c h

@@ -12,9 +12,9 @@ use Rattle.parts.specs.Pick.{pick}
 use Rattle.parts.specs.Bytes.{bytesAt}
 use Rattle.parts.proofs.Picks.{pick-true, pick-false}
 use Rattle.parts.proofs.Lists.{bytesAt-part, length-bytesAt}
-use Rattle.script.specs.Lines.{Carried, printed}
+use Rattle.script.specs.Lines.{BenchState, lineFrom}
 use Rattle.text.proofs.HexLaws.{take-clip}
-use Rattle.stream.specs.Step.{fed, keptMost, keep, fedOf, endOf}
+use Rattle.stream.specs.Step.{pieceResult, keptMost, keep, pieceBy, endOf}
 use Rattle.stream.proofs.Steps.{printed-cut}
 
 -- ---- bytes added to the unfinished line
@@ -32,11 +32,11 @@ held k s have n hk hh e =
     ∙ ap (λ (j : ℕ). take j (take have k ++ s)) whole
 
 -- ---- the end of the input
-pub end-none : (room : ℕ) (c : Carried) (h : List ℕ) → length h ≡ 0 → endOf room c h ≡ fed c [] 0 []
+pub end-none : (room : ℕ) (c : BenchState) (h : List ℕ) → length h ≡ 0 → endOf room c h ≡ pieceResult c [] 0 []
 unfolding endOf
 end-none room c h e = sym (pick-true _ _ _ (eqb (length h) 0) (eq-eqb (length h) 0 e) refl)
 
-pub end-some : (room : ℕ) (c : Carried) (h : List ℕ) → (length h ≡ 0 → ⊥) → endOf room c h ≡ fedOf room c h (10 ∷ [])
+pub end-some : (room : ℕ) (c : BenchState) (h : List ℕ) → (length h ≡ 0 → ⊥) → endOf room c h ≡ pieceBy room c h (10 ∷ [])
 unfolding endOf
 end-some room c h e = sym (pick-false _ _ _ (eqb (length h) 0) (ne-eqb (length h) 0 e) refl)
 
@@ -45,13 +45,13 @@ pub joins : (have r : ℕ) (s x y : List ℕ) → (have ≡ 0 → ⊥) → have 
 unfolding pick
 joins have r s x y z l e = rw (ne-eqb have 0 z, ne-eqb r 0 (λ n. z (omega arith))) e
 
-whole-line-at : (c : Carried) (k s : List ℕ) (have : ℕ) (x : Bool) → eqb have 0 ≡ x
-    → printed c (pick x s (keep (take have k ++ s))) ≡ printed c (take have k ++ s)
+whole-line-at : (c : BenchState) (k s : List ℕ) (have : ℕ) (x : Bool) → eqb have 0 ≡ x
+    → lineFrom c (pick x s (keep (take have k ++ s))) ≡ lineFrom c (take have k ++ s)
 unfolding pick
-whole-line-at c k s have true e = ap (λ (n : ℕ). printed c (take n k ++ s)) (sym (eqb-true have 0 e))
+whole-line-at c k s have true e = ap (λ (n : ℕ). lineFrom c (take n k ++ s)) (sym (eqb-true have 0 e))
 whole-line-at c k s have false e = printed-cut keptMost (omega arith) c (take have k ++ s)
 
-pub whole-line : (c : Carried) (k s : List ℕ) (have : ℕ) → printed c (pick (eqb have 0) s (keep (take have k ++ s))) ≡ printed c (take have k ++ s)
+pub whole-line : (c : BenchState) (k s : List ℕ) (have : ℕ) → lineFrom c (pick (eqb have 0) s (keep (take have k ++ s))) ≡ lineFrom c (take have k ++ s)
 whole-line c k s have = whole-line-at c k s have (eqb have 0) refl
 
 -- a count past the end is the end

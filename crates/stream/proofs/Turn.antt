@@ -11,9 +11,9 @@ use lib.ListN.{length, take, drop, length-append, length-take, length-drop, take
 use lib.Seq.{sets, sets-eq, take-all, take-at, drop-at, drop-drop, drop-length}
 use Rattle.script.specs.declared.Bench.{Bench}
 use Rattle.text.specs.Line.{lineLength}
-use Rattle.script.specs.Bench.{Printed, Shown, shown, show}
-use Rattle.script.specs.Lines.{Carried, carried, printed, handedOn}
-use Rattle.stream.specs.Step.{Fed, fed, ahead, keptMost, keep, fedOf, Stepped, stepped, puts}
+use Rattle.script.specs.Bench.{LineResult, LineBuffers, lineBuffers, putLine}
+use Rattle.script.specs.Lines.{BenchState, benchState, lineFrom, benchAfter}
+use Rattle.stream.specs.Step.{PieceResult, pieceResult, ahead, keptMost, keep, pieceBy, StreamBuffers, streamBuffers, puts}
 use Rattle.stream.proofs.Steps.{ahead-ahead, lineAt, line-step, stop-step, line-le}
 
 -- ---- a text put into the rest of a buffer
@@ -46,13 +46,13 @@ module _ (at : ℕ) (out t ys : List ℕ) (room : at + length t ≤ length out)
   put-drop : drop (at + length t) (putMid at (length out - at) out ys) ≡ drop (length t) (drop at out)
   put-drop = ap (drop (at + length t)) put-is ∙ drop-at (take at out ++ t) (drop (length t) (drop at out)) (at + length t) long
 
-same-ahead : (i j r q : ℕ) (x y : List ℕ) (c u : Carried) (s v : List ℕ) → i ≡ j → r ≡ q → x ≡ y → c ≡ u → s ≡ v
-    → ahead i x (fedOf r c [] s) ≡ ahead j y (fedOf q u [] v)
+same-ahead : (i j r q : ℕ) (x y : List ℕ) (c u : BenchState) (s v : List ℕ) → i ≡ j → r ≡ q → x ≡ y → c ≡ u → s ≡ v
+    → ahead i x (pieceBy r c [] s) ≡ ahead j y (pieceBy q u [] v)
 same-ahead i j r q x y c u s v ei er ex ec es = rw (ei, er, ex, ec, es)
 
 -- ---- before each turn: what was used and written, and then what is left, is the whole call
-pub record Goes (c₀ : Carried) (h₀ s out₀ : List ℕ) (c : Carried) (kept out : List ℕ) (n from at end : ℕ) : Type 0 where
-  pub so-far : fedOf (length out₀) c₀ h₀ s ≡ ahead from (take at out) (fedOf (length out₀ - at) c (take n kept) (drop from s))
+pub record Goes (c₀ : BenchState) (h₀ s out₀ : List ℕ) (c : BenchState) (kept out : List ℕ) (n from at end : ℕ) : Type 0 where
+  pub so-far : pieceBy (length out₀) c₀ h₀ s ≡ ahead from (take at out) (pieceBy (length out₀ - at) c (take n kept) (drop from s))
   pub rest : drop at out ≡ drop at out₀
   pub out-len : length out ≡ length out₀
   pub fits : at ≤ length out₀
@@ -60,10 +60,10 @@ pub record Goes (c₀ : Carried) (h₀ s out₀ : List ℕ) (c : Carried) (kept 
   pub next : end ≡ from + lineLength (drop from s)
   pub within : end ≤ length s
 
-pub begins : (c : Carried) (kept s out : List ℕ) (n end : ℕ) → n ≤ keptMost → end ≡ 0 + lineLength s → Goes c (take n kept) s out c kept out n 0 0 end
+pub begins : (c : BenchState) (kept s out : List ℕ) (n end : ℕ) → n ≤ keptMost → end ≡ 0 + lineLength s → Goes c (take n kept) s out c kept out n 0 0 end
 begins c kept s out n end few e =
     let z : length out - 0 ≡ length out = omega arith in
-    let y : 0 + fedOf (length out) c (take n kept) s .used ≡ fedOf (length out) c (take n kept) s .used = omega arith in
+    let y : 0 + pieceBy (length out) c (take n kept) s .used ≡ pieceBy (length out) c (take n kept) s .used = omega arith in
     record {
       so-far = rw (z, y);
       rest = refl;
@@ -74,24 +74,24 @@ begins c kept s out n end few e =
       within = omega (arith, line-le s);
     }
 
-module _ (c₀ : Carried) (h₀ s out₀ : List ℕ) (c : Carried) (kept out : List ℕ) (n from at end : ℕ)
+module _ (c₀ : BenchState) (h₀ s out₀ : List ℕ) (c : BenchState) (kept out : List ℕ) (n from at end : ℕ)
     (g : Goes c₀ h₀ s out₀ c kept out n from at end) where
   k : lineLength (drop from s) ≡ end - from
   k = omega (arith, g .next)
 
   -- a line: its text, by the call of end_line
   pub turns : (b : Bench) (len : ℕ) (m′ o′ kept′ ys : List ℕ) (end′ : ℕ) → end < length s → 1304 ≤ length out - at
-      → shown b len m′ o′ ys ≡ show (printed c (take n kept ++ take (end - from) (drop from s))) (take (length out - at) (drop at out))
+      → lineBuffers b len m′ o′ ys ≡ putLine (lineFrom c (take n kept ++ take (end - from) (drop from s))) (take (length out - at) (drop at out))
       → len ≤ 1304 → length ys ≡ length (take (length out - at) (drop at out))
       → end′ ≡ end + 1 + lineLength (drop (end + 1) s)
-      → Goes c₀ h₀ s out₀ (carried b m′ o′) kept′ (putMid at (length out - at) out ys) 0 (end + 1) (at + len) end′
+      → Goes c₀ h₀ s out₀ (benchState b m′ o′) kept′ (putMid at (length out - at) out ys) 0 (end + 1) (at + len) end′
   turns b len m′ o′ kept′ ys end′ less room e short hy next =
       let h = take n kept in
       let d = drop from s in
-      let a = printed c (h ++ take (end - from) d) in
-      let el : len ≡ length (a .text) = ap (λ (x : Shown). x .length) e in
-      let ey : ys ≡ sets (take (length out - at) (drop at out)) 0 (a .text) = ap (λ (x : Shown). x .buffer) e in
-      let es : handedOn a ≡ carried b m′ o′ = ap (λ (x : Shown). carried (x .bench) (x .memory) (x .reply)) (sym e) in
+      let a = lineFrom c (h ++ take (end - from) d) in
+      let el : len ≡ length (a .text) = ap (λ (x : LineBuffers). x .length) e in
+      let ey : ys ≡ sets (take (length out - at) (drop at out)) 0 (a .text) = ap (λ (x : LineBuffers). x .buffer) e in
+      let es : benchAfter a ≡ benchState b m′ o′ = ap (λ (x : LineBuffers). benchState (x .bench) (x .memory) (x .reply)) (sym e) in
       let r : at + length (a .text) ≤ length out = omega (arith, g .fits, g .out-len) in
       let i : from + suc (end - from) ≡ end + 1 = omega (arith, k) in
       let q : length out₀ - at - length (a .text) ≡ length out₀ - (at + len) = omega arith in
@@ -100,10 +100,10 @@ module _ (c₀ : Carried) (h₀ s out₀ : List ℕ) (c : Carried) (kept out : L
             g .so-far
             ∙ ap (ahead from (take at out))
             (line-step d (length out₀ - at) c h (omega (arith, k, length-drop from s, g .next)) (omega (arith, g .out-len))
-            ∙ ap (λ (j : ℕ). lineAt (length out₀ - at) d j (printed c (h ++ take j d))) k)
-            ∙ ahead-ahead from (suc (end - from)) (take at out) (a .text) (fedOf (length out₀ - at - length (a .text)) (handedOn a) [] (drop (suc (end - from)) d))
+            ∙ ap (λ (j : ℕ). lineAt (length out₀ - at) d j (lineFrom c (h ++ take j d))) k)
+            ∙ ahead-ahead from (suc (end - from)) (take at out) (a .text) (pieceBy (length out₀ - at - length (a .text)) (benchAfter a) [] (drop (suc (end - from)) d))
             ∙ same-ahead (from + suc (end - from)) (end + 1) (length out₀ - at - length (a .text)) (length out₀ - (at + len))
-            (take at out ++ a .text) (take (at + len) (putMid at (length out - at) out ys)) (handedOn a) (carried b m′ o′) (drop (suc (end - from)) d) (drop (end + 1) s)
+            (take at out ++ a .text) (take (at + len) (putMid at (length out - at) out ys)) (benchAfter a) (benchState b m′ o′) (drop (suc (end - from)) d) (drop (end + 1) s)
             i q
             (sym (ap (λ (j : ℕ). take (at + j) (putMid at (length out - at) out ys)) el ∙ put-take at out (a .text) ys r ey))
             es
@@ -124,13 +124,13 @@ module _ (c₀ : Carried) (h₀ s out₀ : List ℕ) (c : Carried) (kept out : L
   -- no line feed is left, or no room: what follows is kept
   pub ends : (h : List ℕ) → (ltb end (length s) && leb 1304 (length out - at)) ≡ false
       → h ≡ keep (take n kept ++ take (end - from) (drop from s))
-      → stepped (c .bench) (c .memory) (c .reply) h end at out ≡ puts (fedOf (length out₀) c₀ h₀ s) out₀
+      → streamBuffers (c .bench) (c .memory) (c .reply) h end at out ≡ puts (pieceBy (length out₀) c₀ h₀ s) out₀
   ends h stop e =
       let d = drop from s in
       let p = take at out in
       let lp : length p ≡ at = omega (arith, length-take at out, g .fits, g .out-len) in
       let i : from + lineLength d ≡ end = sym (g .next) in
-      let w : fedOf (length out₀) c₀ h₀ s ≡ fed c h end p =
+      let w : pieceBy (length out₀) c₀ h₀ s ≡ pieceResult c h end p =
       g .so-far
       ∙ ap (ahead from p)
       (stop-step d (length out₀ - at) c (take n kept) (omega (arith, length-take n kept, g .few))
@@ -141,7 +141,7 @@ module _ (c₀ : Carried) (h₀ s out₀ : List ℕ) (c : Carried) (kept out : L
       ∙ ap (λ (j : ℕ). p ++ drop j out₀) (zero-and lp)
       ∙ ap (λ (z : List ℕ). p ++ z) (sym (g .rest))
       ∙ take-append-drop at out in
-      sym (ap (λ (f : Fed). puts f out₀) w ∙ rw (lp, same))
+      sym (ap (λ (f : PieceResult). puts f out₀) w ∙ rw (lp, same))
     where
       second : (x y : Bool) → (x && y) ≡ false → x ≡ true → y ≡ false
       second true y f t = f

@@ -3,20 +3,20 @@ use mathlib.Core.List.{List, [], _∷_, _++_}
 use Prim.Native.Nat.{ℕ}
 use lib.ListN.{replicate}
 use Rattle.tag.specs.Layout.{memoryBytes, replyBytes}
-use Rattle.script.specs.Lines.{Carried, printed, handedOn, beforeLines}
+use Rattle.script.specs.Lines.{BenchState, lineFrom, benchAfter, beforeLines}
 use Rattle.stream.specs.Lines.{linesOf}
 
 -- the texts of lines, one after the other; what each hands on goes to the next
-unfoldable pub textsOf : Carried → List (List ℕ) → List ℕ
+unfoldable pub textsOf : BenchState → List (List ℕ) → List ℕ
 textsOf c [] = []
-textsOf c (l ∷ ls) = printed c l .text ++ textsOf (handedOn (printed c l)) ls
+textsOf c (l ∷ ls) = lineFrom c l .text ++ textsOf (benchAfter (lineFrom c l)) ls
 
 -- the output for the input s
-abbrev pub outputOf : Carried → List ℕ → List ℕ
+abbrev pub outputOf : BenchState → List ℕ → List ℕ
 outputOf c s = textsOf c (linesOf s)
 
 -- "It starts fresh": both lent buffers are zeros before line 1
-abbrev pub freshStart : Carried
+abbrev pub freshStart : BenchState
 freshStart = beforeLines (replicate memoryBytes 0) (replicate replyBytes 0)
 
 abbrev pub benchOutput : List ℕ → List ℕ

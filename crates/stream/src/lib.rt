@@ -5,14 +5,14 @@ ghost use Prim.Native.Nat.{_≤_, min};
 ghost use lib.Dec.{eqb};
 ghost use lib.ListN.{length, take};
 ghost use Rattle.parts.specs.Pick.{pick};
-ghost use Rattle.script.specs.Bench.{shown, show};
-ghost use Rattle.script.specs.Lines.{carried, printed};
-ghost use Rattle.stream.specs.Step.{keptMost, keep, textRoom, fedOf, endOf, stepped, puts};
+ghost use Rattle.script.specs.Bench.{lineBuffers, putLine};
+ghost use Rattle.script.specs.Lines.{benchState, lineFrom};
+ghost use Rattle.stream.specs.Step.{keptMost, keep, textRoom, pieceBy, endOf, streamBuffers, puts};
 use script::Bench;
-use script::Outcome;
+use script::LineOutcome;
 
 // What a step leaves beside the lent buffers: the unfinished line has `have` bytes.
-pub struct Taken {
+pub struct StreamOutcome {
     pub bench: Bench,
     pub have: usize,
     // Bytes of the piece that it used.
@@ -81,9 +81,9 @@ fn end_line(
     have: usize,
     s: &[u8],
     text: &mut [u8],
-) -> Outcome
+) -> LineOutcome
     requires { ⌜ have ≤ keptMost ⌝ }
-    ensures { λ r. ⌜ shown (r .bench) (r .length) (now (m .exit)) (now (reply .exit)) (now (text .exit)) ≡ show (printed (carried b (now (m .entry)) (now (reply .entry))) (take have (now (kept .entry)) ++ now (s .entry))) (now (text .entry)) ⌝ }
+    ensures { λ r. ⌜ lineBuffers (r .bench) (r .length) (now (m .exit)) (now (reply .exit)) (now (text .exit)) ≡ putLine (lineFrom (benchState b (now (m .entry)) (now (reply .entry))) (take have (now (kept .entry)) ++ now (s .entry))) (now (text .entry)) ⌝ }
     ensures { λ r. ⌜ r .length ≤ textRoom ⌝ }
 {
     let n = join(kept, have, s);
@@ -102,8 +102,8 @@ pub fn step(
     have: usize,
     s: &[u8],
     out: &mut [u8],
-) -> Taken
-    ensures { λ r. ⌜ stepped (r .bench) (now (m .exit)) (now (reply .exit)) (take (r .have) (now (kept .exit))) (r .used) (r .wrote) (now (out .exit)) ≡ puts (fedOf (length (now (out .entry))) (carried b (now (m .entry)) (now (reply .entry))) (take have (now (kept .entry))) (now (s .entry))) (now (out .entry)) ⌝ }
+) -> StreamOutcome
+    ensures { λ r. ⌜ streamBuffers (r .bench) (now (m .exit)) (now (reply .exit)) (take (r .have) (now (kept .exit))) (r .used) (r .wrote) (now (out .exit)) ≡ puts (pieceBy (length (now (out .entry))) (benchState b (now (m .entry)) (now (reply .entry))) (take have (now (kept .entry))) (now (s .entry))) (now (out .entry)) ⌝ }
     ensures { λ r. ⌜ (r .used ≤ length (now (s .entry))) × (r .wrote ≤ length (now (out .entry))) ⌝ }
 {
     let mut bench = b;
@@ -120,7 +120,7 @@ pub fn step(
         end = text::line_end(s, from);
     }
     let rest = hold(kept, n, &s[from..end]);
-    Taken {
+    StreamOutcome {
         bench,
         have: rest,
         used: end,
@@ -136,13 +136,13 @@ pub fn end(
     kept: &mut [u8; 1201],
     have: usize,
     out: &mut [u8],
-) -> Taken
-    ensures { λ r. ⌜ stepped (r .bench) (now (m .exit)) (now (reply .exit)) (take (r .have) (now (kept .exit))) (r .used) (r .wrote) (now (out .exit)) ≡ puts (endOf (length (now (out .entry))) (carried b (now (m .entry)) (now (reply .entry))) (take have (now (kept .entry)))) (now (out .entry)) ⌝ }
+) -> StreamOutcome
+    ensures { λ r. ⌜ streamBuffers (r .bench) (now (m .exit)) (now (reply .exit)) (take (r .have) (now (kept .exit))) (r .used) (r .wrote) (now (out .exit)) ≡ puts (endOf (length (now (out .entry))) (benchState b (now (m .entry)) (now (reply .entry))) (take have (now (kept .entry)))) (now (out .entry)) ⌝ }
     ensures { λ r. ⌜ r .wrote ≤ length (now (out .entry)) ⌝ }
 {
     let held = kept_count(kept, have);
     if held == 0 {
-        return Taken {
+        return StreamOutcome {
             bench: b,
             have: 0,
             used: 0,

@@ -8,11 +8,11 @@ userBytes = 512
 abbrev pub blocks : ℕ
 blocks = 128
 
-abbrev pub mailboxAt : ℕ
-mailboxAt = 512
+abbrev pub mailboxPlace : ℕ
+mailboxPlace = 512
 
-abbrev pub pageAt : ℕ
-pageAt = 768
+abbrev pub pagePlace : ℕ
+pagePlace = 768
 
 abbrev pub memoryBytes : ℕ
 memoryBytes = 1024

@@ -20,8 +20,8 @@ abbrev pub withState : RadioState → Air → Air
 withState x a = record { field = a .field; radio = x; session = a .session }
 
 -- the open radio session: 0 none, 1 to 4 for passwords 0 to 3
-abbrev pub withSession : ℕ → Air → Air
-withSession n a = record { field = a .field; radio = a .radio; session = n }
+abbrev pub withRadioSession : ℕ → Air → Air
+withRadioSession n a = record { field = a .field; radio = a .radio; session = n }
 
 -- "own UID Selected"
 abbrev pub selected : Air → Air

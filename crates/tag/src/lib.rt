@@ -1,7 +1,7 @@
 // The tag's state by value: what a field change touches, what is the wire's alone, and what both sides share.
 ghost use mathlib.Core.Path.{_≡_};
 ghost use Prim.Native.Nat.{_≤_};
-ghost use Rattle.tag.specs.Radio.{isQuiet, isSelected, withSession, selected, deselected, quieted, reset, outOfField, fieldOff, fieldOn, fieldAt};
+ghost use Rattle.tag.specs.Radio.{isQuiet, isSelected, withRadioSession, selected, deselected, quieted, reset, outOfField, fieldOff, fieldOn, fieldAt};
 ghost use Rattle.tag.specs.Mailbox.{controlByte, lengthByte, emptyMailbox, disabled, enabled, controlled, hostPut, radioPut, hostRead, radioRead, weight};
 ghost use Rattle.tag.specs.Keys.{passwordAt, uidAt, samePassword, sameUid, uidByte, radioPassword, withRadioPassword, withI2cPassword, freshPasswords};
 ghost use Rattle.tag.specs.Bus.{isOpen, isActive, pageBytes, nextAddress};
@@ -68,7 +68,7 @@ impl Air {
     }
 
     pub fn with_session(self, n: u8) -> Air
-        ensures { λ r. ⌜ r ≡ withSession n self ⌝ }
+        ensures { λ r. ⌜ r ≡ withRadioSession n self ⌝ }
     {
         let mut a = self;
         a.session = n;

@@ -19,10 +19,10 @@ use Rattle.tag.specs.Bus.{nextAddress}
 use Rattle.rule.specs.Select.{firstOf}
 use Rattle.rule.specs.Rule.{acked}
 use Rattle.rule.specs.PageRange.{page}
-use Rattle.signal.specs.declared.Answer.the-variants.{Ack, NoAck}
-use Rattle.signal.specs.Signal.{says, sideLine, dataOf, sendAt, fetchAt, signalOf}
-use Rattle.transfer.specs.Legs.{Send, Fetch, wireSignal, Move, send, fetch}
-use Rattle.transfer.specs.Whole.{Ran, ran, before, bytesSent, replies, onward, accepted}
+use Rattle.signal.specs.declared.WireAnswer.the-variants.{Ack, NoAck}
+use Rattle.signal.specs.Signal.{wireResult, sideLine, dataOf, sendAt, fetchAt, signalOf}
+use Rattle.transfer.specs.Legs.{NotedSend, NotedFetch, wireSignal, Move, moveSend, moveFetch}
+use Rattle.transfer.specs.Whole.{TransferResult, transferResult, before, bytesSent, replies, onward, accepted}
 use Rattle.transfer.specs.Claim.{runOf}
 use Rattle.rule.proofs.Page.{acked-room}
 use Rattle.signal.proofs.Page.{first-next}
@@ -46,17 +46,17 @@ module _ (w : WireSide) (u : Uid) (s : Space) (f : ℕ) where
     judged : (b : Bool) → takes k e x ≡ b → acked s (w .core) (w .host .session) (firstOf c k) k (page k m) x ≡ b
     judged b h = rw (g .page-is, g .first) h
 
-    send-data : stepOf (sideLine c (DataLeg s k false) w) u m (Send x) ≡ dataOf s k (sideLine c (DataLeg s k false) w) m x
+    send-data : stepOf (sideLine c (DataLeg s k false) w) u m (NotedSend x) ≡ dataOf s k (sideLine c (DataLeg s k false) w) m x
     unfolding signalOf wireSignal sendAt pick
     send-data = refl
 
     taken : takes k e x ≡ true
-        → stepOf (sideLine c (DataLeg s k false) w) u m (Send x) ≡ says Ack (sideLine (nextAddress c) (DataLeg s (suc k) false) w) (set m (768 + k) x)
+        → stepOf (sideLine c (DataLeg s k false) w) u m (NotedSend x) ≡ wireResult Ack (sideLine (nextAddress c) (DataLeg s (suc k) false) w) (set m (768 + k) x)
     unfolding dataOf
     taken h = send-data ∙ sym (pick-true _ _ _ _ (judged true h) refl)
 
     spoils : takes k e x ≡ false
-        → stepOf (sideLine c (DataLeg s k false) w) u m (Send x) ≡ says NoAck (sideLine c (DataLeg s k true) w) m
+        → stepOf (sideLine c (DataLeg s k false) w) u m (NotedSend x) ≡ wireResult NoAck (sideLine c (DataLeg s k true) w) m
     unfolding dataOf
     spoils h = send-data ∙ sym (pick-false _ _ _ _ (judged false h) refl)
 
@@ -69,12 +69,12 @@ module _ (w : WireSide) (u : Uid) (s : Space) (f : ℕ) where
     }
 
   -- j of the bytes in ms are Acked, with k on the page
-  abbrev pub dataRan : List ℕ → ℕ → ℕ → List Move → ℕ → Ran
+  abbrev pub dataRan : List ℕ → ℕ → ℕ → List Move → ℕ → TransferResult
   dataRan m c k ms j =
-      ran (replies j [] ms) (sideLine (onward j c) (DataLeg s (k + j) (ltb j (length (bytesSent ms)))) w) (sets m (768 + k) (take j (bytesSent ms)))
+      transferResult (replies j [] ms) (sideLine (onward j c) (DataLeg s (k + j) (ltb j (length (bytesSent ms)))) w) (sets m (768 + k) (take j (bytesSent ms)))
 
   one-more : (m : List ℕ) (c k x : ℕ) (ms : List Move) (j : ℕ)
-      → before (Ack ∷ []) (dataRan (set m (768 + k) x) (nextAddress c) (suc k) ms j) ≡ dataRan m c k (send x ∷ ms) (suc j)
+      → before (Ack ∷ []) (dataRan (set m (768 + k) x) (nextAddress c) (suc k) ms j) ≡ dataRan m c k (moveSend x ∷ ms) (suc j)
   unfolding bytesSent replies onward
   one-more m c k x ms j =
       let a : suc k + j ≡ k + suc j = omega arith in
@@ -87,20 +87,20 @@ module _ (w : WireSide) (u : Uid) (s : Space) (f : ℕ) where
 
   data-more : (x : ℕ) (ms : List Move) → Law ms → (m : List ℕ) (c k : ℕ) (e : List ℕ) → Has m c k e
       → (b : Bool) → takes k e x ≡ b
-      → runOf (sideLine c (DataLeg s k false) w) u m (signals (send x ∷ ms))
-      ≡ dataRan m c k (send x ∷ ms) (pick b (suc (accepted s w f (e ++ x ∷ []) (bytesSent ms))) 0)
+      → runOf (sideLine c (DataLeg s k false) w) u m (signals (moveSend x ∷ ms))
+      ≡ dataRan m c k (moveSend x ∷ ms) (pick b (suc (accepted s w f (e ++ x ∷ []) (bytesSent ms))) 0)
   unfolding signals bytesSent pick replies onward signalOf wireSignal sendAt fetchAt
   data-more x ms ih m c k e g true q =
-      first-then _ u m (Send x) (signals ms) _ _ (taken m c k e x g q)
+      first-then _ u m (NotedSend x) (signals ms) _ _ (taken m c k e x g q)
       (ih (set m (768 + k) x) (nextAddress c) (suc k) (e ++ x ∷ []) (has-more m c k e x g (acked-room s (w .core) (w .host .session) f k e x q)))
       ∙ one-more m c k x ms _
   data-more x ms ih m c k e g false q =
-      first-then _ u m (Send x) (signals ms) _ _ (spoils m c k e x g q) (still _ u m (λ x. refl) (λ a. refl) ms)
+      first-then _ u m (NotedSend x) (signals ms) _ _ (spoils m c k e x g q) (still _ u m (λ x. refl) (λ a. refl) ms)
       ∙ rw (add-zero, lt-ltb 0 (suc (length (bytesSent ms))) (omega arith))
 
   pub data-run : (ms : List Move) → Law ms
   unfolding runOf signals bytesSent accepted replies onward signalOf wireSignal fetchAt
   data-run [] m c k e g = rw add-zero
-  data-run (send x ∷ ms) m c k e g = data-more x ms (data-run ms) m c k e g (takes k e x) refl ∙ rw (g .count)
-  data-run (fetch a ∷ ms) m c k e g =
-      first-then (sideLine c (DataLeg s k false) w) u m (Fetch a) (signals ms) _ _ refl (data-run ms m c k e g)
+  data-run (moveSend x ∷ ms) m c k e g = data-more x ms (data-run ms) m c k e g (takes k e x) refl ∙ rw (g .count)
+  data-run (moveFetch a ∷ ms) m c k e g =
+      first-then (sideLine c (DataLeg s k false) w) u m (NotedFetch a) (signals ms) _ _ refl (data-run ms m c k e g)

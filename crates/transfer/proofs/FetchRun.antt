@@ -10,38 +10,38 @@ use Rattle.tag.specs.declared.WireSide.{WireSide}
 use Rattle.tag.specs.declared.Uid.{Uid}
 use Rattle.tag.specs.Bus.{nextAddress}
 use Rattle.leg.specs.Fetch.{fetched, isLast}
-use Rattle.signal.specs.declared.Answer.the-variants.{Byte}
-use Rattle.signal.specs.Signal.{says, sideLine, sendAt, fetchAt, signalOf}
-use Rattle.transfer.specs.Legs.{Send, Fetch, wireSignal, Move, send, fetch}
-use Rattle.transfer.specs.Whole.{ran, served, replies, onward, bytesFetched, lastAmong}
+use Rattle.signal.specs.declared.WireAnswer.the-variants.{Byte}
+use Rattle.signal.specs.Signal.{wireResult, sideLine, sendAt, fetchAt, signalOf}
+use Rattle.transfer.specs.Legs.{NotedSend, NotedFetch, wireSignal, Move, moveSend, moveFetch}
+use Rattle.transfer.specs.Whole.{transferResult, served, replies, onward, bytesFetched, lastAmong}
 use Rattle.transfer.specs.Claim.{runOf}
 use Rattle.transfer.proofs.Run.{stepOf, signals, first-then, still}
 
 -- the host has NoAcked
 unfoldable pub over : List Move → Bool
 over [] = false
-over (send x ∷ ms) = over ms
-over (fetch true ∷ ms) = over ms
-over (fetch false ∷ ms) = true
+over (moveSend x ∷ ms) = over ms
+over (moveFetch true ∷ ms) = over ms
+over (moveFetch false ∷ ms) = true
 
 fetch-step : (s : Space) (l : Bool) (c : ℕ) (w : WireSide) (u : Uid) (m : List ℕ) (a : Bool)
-    → stepOf (sideLine c (ReadLeg s false l) w) u m (Fetch a)
-    ≡ says (Byte (fetched s (w .core) (w .host .session) u m c)) (sideLine (nextAddress c) (ReadLeg s (not a) (l || isLast s (w .core .mailbox) c)) w) m
+    → stepOf (sideLine c (ReadLeg s false l) w) u m (NotedFetch a)
+    ≡ wireResult (Byte (fetched s (w .core) (w .host .session) u m c)) (sideLine (nextAddress c) (ReadLeg s (not a) (l || isLast s (w .core .mailbox) c)) w) m
 unfolding signalOf wireSignal fetchAt pick
 fetch-step s l c w u m a = refl
 
 pub fetch-run : (ms : List Move) (w : WireSide) (u : Uid) (m : List ℕ) (s : Space) (c : ℕ) (l : Bool)
     → runOf (sideLine c (ReadLeg s false l) w) u m (signals ms)
-    ≡ ran (replies 0 (bytesFetched s w u m c (served ms)) ms) (sideLine (onward (served ms) c) (ReadLeg s (over ms) (l || lastAmong s w c (served ms))) w) m
+    ≡ transferResult (replies 0 (bytesFetched s w u m c (served ms)) ms) (sideLine (onward (served ms) c) (ReadLeg s (over ms) (l || lastAmong s w c (served ms))) w) m
 unfolding runOf signals replies served onward bytesFetched lastAmong over signalOf wireSignal sendAt fetchAt pick
 fetch-run [] w u m s c l = rw or-false
-fetch-run (send x ∷ ms) w u m s c l =
-    first-then (sideLine c (ReadLeg s false l) w) u m (Send x) (signals ms) _ _ refl (fetch-run ms w u m s c l)
-fetch-run (fetch true ∷ ms) w u m s c l =
-    first-then (sideLine c (ReadLeg s false l) w) u m (Fetch true) (signals ms) _ _ (fetch-step s l c w u m true)
+fetch-run (moveSend x ∷ ms) w u m s c l =
+    first-then (sideLine c (ReadLeg s false l) w) u m (NotedSend x) (signals ms) _ _ refl (fetch-run ms w u m s c l)
+fetch-run (moveFetch true ∷ ms) w u m s c l =
+    first-then (sideLine c (ReadLeg s false l) w) u m (NotedFetch true) (signals ms) _ _ (fetch-step s l c w u m true)
     (fetch-run ms w u m s (nextAddress c) (l || isLast s (w .core .mailbox) c))
     ∙ rw (or-assoc l (isLast s (w .core .mailbox) c))
-fetch-run (fetch false ∷ ms) w u m s c l =
-    first-then (sideLine c (ReadLeg s false l) w) u m (Fetch false) (signals ms) _ _ (fetch-step s l c w u m false)
+fetch-run (moveFetch false ∷ ms) w u m s c l =
+    first-then (sideLine c (ReadLeg s false l) w) u m (NotedFetch false) (signals ms) _ _ (fetch-step s l c w u m false)
     (still _ u m (λ x. refl) (λ a. refl) ms)
     ∙ rw or-false

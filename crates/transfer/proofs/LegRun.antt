@@ -18,15 +18,15 @@ use Rattle.tag.specs.declared.WireSide.{WireSide}
 use Rattle.tag.specs.declared.Uid.{Uid}
 use Rattle.tag.specs.Bus.{nextAddress}
 use Rattle.rule.specs.declared.Choice.{Choice}
-use Rattle.rule.specs.declared.Choice.the-variants.{Refused, Reading, Writing}
+use Rattle.rule.specs.declared.Choice.the-variants.{NotAcked, Reading, Writing}
 use Rattle.rule.specs.Select.{choose, address, firstOf}
 use Rattle.rule.specs.Rule.{acked}
 use Rattle.rule.specs.PageRange.{page}
-use Rattle.leg.specs.Effect.{none, writes}
-use Rattle.signal.specs.declared.Answer.the-variants.{Ack, NoAck, Byte}
-use Rattle.signal.specs.Signal.{Ended, says, sideBus, sideLine, dueOf, selectBy, sendAt, fetchAt, signalOf}
-use Rattle.transfer.specs.Legs.{Noted, Send, Fetch, wireSignal, Move, send, fetch}
-use Rattle.transfer.specs.Whole.{Ran, ran, bytesSent, served, replies, onward, lastAmong, accepted, Leg, answering, idleLeg, readLeg, dataLeg, writeLeg, selected, legOf, filled}
+use Rattle.leg.specs.Effect.{nothingDue, writes}
+use Rattle.signal.specs.declared.WireAnswer.the-variants.{Ack, NoAck, Byte}
+use Rattle.signal.specs.Signal.{WireResult, wireResult, sideBus, sideLine, dueOf, selectBy, sendAt, fetchAt, signalOf}
+use Rattle.transfer.specs.Legs.{Noted, NotedSend, NotedFetch, wireSignal, Move, moveSend, moveFetch}
+use Rattle.transfer.specs.Whole.{TransferResult, transferResult, bytesSent, served, replies, onward, lastAmong, accepted, Leg, answering, idleLeg, readLeg, dataLeg, writeLeg, selectedLeg, legOf, filled}
 use Rattle.transfer.specs.Claim.{runOf}
 use Rattle.rule.proofs.Page.{acked-room}
 use Rattle.signal.proofs.Page.{first-next}
@@ -36,12 +36,12 @@ use Rattle.transfer.proofs.FetchRun.{over, fetch-run}
 use Rattle.transfer.proofs.DataRun.{data-run}
 
 -- the run r is the leg e, from wire side w and bytes m
-pub record Goes (w : WireSide) (m : List ℕ) (r : Ran) (e : Leg) : Type 0 where
+pub record Goes (w : WireSide) (m : List ℕ) (r : TransferResult) (e : Leg) : Type 0 where
   pub bus : Bus
-  pub run : r ≡ ran (e .answers) (sideLine (e .counter) bus w) (filled e m)
+  pub run : r ≡ transferResult (e .answers) (sideLine (e .counter) bus w) (filled e m)
   pub due : dueOf bus (e .counter) (filled e m) ≡ e .due
 
-more : (w : WireSide) (u : Uid) (m : List ℕ) (v : WireSide) (s : Noted) (n : List Noted) (x : Ended) (e : Leg) → stepOf v u m s ≡ x → x .memory ≡ m
+more : (w : WireSide) (u : Uid) (m : List ℕ) (v : WireSide) (s : Noted) (n : List Noted) (x : WireResult) (e : Leg) → stepOf v u m s ≡ x → x .memory ≡ m
     → Goes w m (runOf (x .side) u m n) e → Goes w m (runOf v u m (s ∷ n)) (answering (x .answer) e)
 more w u m v s n x e h k g =
     record { bus = g .bus; run = first-then v u m s n x _ h (ap (λ (m : List ℕ). runOf (x .side) u m n) k ∙ g .run); due = g .due }
@@ -80,7 +80,7 @@ first-there f h = omega arith
 
 due-data : (s : Space) (f g : ℕ) (m xs : List ℕ) (j : ℕ) → g ≡ f → length m ≡ 1024 → j ≤ 256 → j ≤ length xs
     → (b : Bool) → ltb j (length xs) ≡ b
-    → pick (b || eqb j 0) none (writes s g (page j (sets m 768 (take j xs)))) ≡ pick (b || eqb j 0) none (writes s f xs)
+    → pick (b || eqb j 0) nothingDue (writes s g (page j (sets m 768 (take j xs)))) ≡ pick (b || eqb j 0) nothingDue (writes s f xs)
 unfolding pick
 due-data s f g m xs j v h r l true q = refl
 due-data s f g m xs j v h r l false q =
@@ -109,7 +109,7 @@ module _ (w : WireSide) (u : Uid) (m : List ℕ) (whole : length m ≡ 1024) whe
   lowLeg s h [] ms = idleLeg 0 w ms
   lowLeg s h (l ∷ xs) ms = dataLeg s (address h l) xs (accepted s w (address h l) [] xs) (suc (accepted s w (address h l) [] xs)) ms
 
-  low-fetch : (s : Space) (h : ℕ) (xs : List ℕ) (a : Bool) (ms : List Move) → lowLeg s h xs (fetch a ∷ ms) ≡ answering (Byte 0xFF) (lowLeg s h xs ms)
+  low-fetch : (s : Space) (h : ℕ) (xs : List ℕ) (a : Bool) (ms : List Move) → lowLeg s h xs (moveFetch a ∷ ms) ≡ answering (Byte 0xFF) (lowLeg s h xs ms)
   unfolding lowLeg replies
   low-fetch s h [] a ms = refl
   low-fetch s h (l ∷ xs) a ms = refl
@@ -120,31 +120,31 @@ module _ (w : WireSide) (u : Uid) (m : List ℕ) (whole : length m ≡ 1024) whe
 
   low-goes-fetch : (s : Space) (h : ℕ) (xs : List ℕ) (a : Bool) (ms : List Move)
       → Goes w m (runOf (sideBus (LowAddress s h) w) u m (signals ms)) (lowLeg s h xs ms)
-      → Goes w m (runOf (sideBus (LowAddress s h) w) u m (Fetch a ∷ signals ms)) (lowLeg s h xs (fetch a ∷ ms))
+      → Goes w m (runOf (sideBus (LowAddress s h) w) u m (NotedFetch a ∷ signals ms)) (lowLeg s h xs (moveFetch a ∷ ms))
   unfolding signalOf wireSignal fetchAt
   low-goes-fetch s h xs a ms g =
-      rw (low-fetch s h xs a ms) (more w u m (sideBus (LowAddress s h) w) (Fetch a) (signals ms) _ _ refl refl g)
+      rw (low-fetch s h xs a ms) (more w u m (sideBus (LowAddress s h) w) (NotedFetch a) (signals ms) _ _ refl refl g)
 
   low-goes-sent : (s : Space) (h l : ℕ) (ms : List Move)
-      → Goes w m (runOf (sideBus (LowAddress s h) w) u m (Send l ∷ signals ms)) (lowLeg s h (l ∷ bytesSent ms) (send l ∷ ms))
+      → Goes w m (runOf (sideBus (LowAddress s h) w) u m (NotedSend l ∷ signals ms)) (lowLeg s h (l ∷ bytesSent ms) (moveSend l ∷ ms))
   unfolding lowLeg replies signalOf wireSignal sendAt
   low-goes-sent s h l ms =
-      more w u m (sideBus (LowAddress s h) w) (Send l) (signals ms) _ _ refl refl (data-goes s (address h l) (omega arith) ms)
+      more w u m (sideBus (LowAddress s h) w) (NotedSend l) (signals ms) _ _ refl refl (data-goes s (address h l) (omega arith) ms)
 
   low-goes : (s : Space) (h : ℕ) (ms : List Move) → Goes w m (runOf (sideBus (LowAddress s h) w) u m (signals ms)) (lowLeg s h (bytesSent ms) ms)
   unfolding signals bytesSent
   low-goes s h [] = low-goes-nil s h
-  low-goes s h (fetch a ∷ ms) = low-goes-fetch s h (bytesSent ms) a ms (low-goes s h ms)
-  low-goes s h (send l ∷ ms) = low-goes-sent s h l ms
+  low-goes s h (moveFetch a ∷ ms) = low-goes-fetch s h (bytesSent ms) a ms (low-goes s h ms)
+  low-goes s h (moveSend l ∷ ms) = low-goes-sent s h l ms
 
   -- past a write select
-  write-fetch : (s : Space) (xs : List ℕ) (a : Bool) (ms : List Move) → writeLeg s w xs (fetch a ∷ ms) ≡ answering (Byte 0xFF) (writeLeg s w xs ms)
+  write-fetch : (s : Space) (xs : List ℕ) (a : Bool) (ms : List Move) → writeLeg s w xs (moveFetch a ∷ ms) ≡ answering (Byte 0xFF) (writeLeg s w xs ms)
   unfolding writeLeg replies
   write-fetch s [] a ms = refl
   write-fetch s (h ∷ []) a ms = refl
   write-fetch s (h ∷ l ∷ xs) a ms = refl
 
-  write-sent : (s : Space) (h : ℕ) (xs : List ℕ) (ms : List Move) → writeLeg s w (h ∷ xs) (send h ∷ ms) ≡ answering Ack (lowLeg s h xs ms)
+  write-sent : (s : Space) (h : ℕ) (xs : List ℕ) (ms : List Move) → writeLeg s w (h ∷ xs) (moveSend h ∷ ms) ≡ answering Ack (lowLeg s h xs ms)
   unfolding writeLeg lowLeg replies
   write-sent s h [] ms = refl
   write-sent s h (l ∷ xs) ms = refl
@@ -155,21 +155,21 @@ module _ (w : WireSide) (u : Uid) (m : List ℕ) (whole : length m ≡ 1024) whe
 
   write-goes-fetch : (s : Space) (xs : List ℕ) (a : Bool) (ms : List Move)
       → Goes w m (runOf (sideBus (WriteLeg s) w) u m (signals ms)) (writeLeg s w xs ms)
-      → Goes w m (runOf (sideBus (WriteLeg s) w) u m (Fetch a ∷ signals ms)) (writeLeg s w xs (fetch a ∷ ms))
+      → Goes w m (runOf (sideBus (WriteLeg s) w) u m (NotedFetch a ∷ signals ms)) (writeLeg s w xs (moveFetch a ∷ ms))
   unfolding signalOf wireSignal fetchAt
-  write-goes-fetch s xs a ms g = rw (write-fetch s xs a ms) (more w u m (sideBus (WriteLeg s) w) (Fetch a) (signals ms) _ _ refl refl g)
+  write-goes-fetch s xs a ms g = rw (write-fetch s xs a ms) (more w u m (sideBus (WriteLeg s) w) (NotedFetch a) (signals ms) _ _ refl refl g)
 
   write-goes-sent : (s : Space) (h : ℕ) (ms : List Move)
-      → Goes w m (runOf (sideBus (WriteLeg s) w) u m (Send h ∷ signals ms)) (writeLeg s w (h ∷ bytesSent ms) (send h ∷ ms))
+      → Goes w m (runOf (sideBus (WriteLeg s) w) u m (NotedSend h ∷ signals ms)) (writeLeg s w (h ∷ bytesSent ms) (moveSend h ∷ ms))
   unfolding signalOf wireSignal sendAt
   write-goes-sent s h ms =
-      rw (write-sent s h (bytesSent ms) ms) (more w u m (sideBus (WriteLeg s) w) (Send h) (signals ms) _ _ refl refl (low-goes s h ms))
+      rw (write-sent s h (bytesSent ms) ms) (more w u m (sideBus (WriteLeg s) w) (NotedSend h) (signals ms) _ _ refl refl (low-goes s h ms))
 
   write-goes : (s : Space) (ms : List Move) → Goes w m (runOf (sideBus (WriteLeg s) w) u m (signals ms)) (writeLeg s w (bytesSent ms) ms)
   unfolding signals bytesSent
   write-goes s [] = write-goes-nil s
-  write-goes s (fetch a ∷ ms) = write-goes-fetch s (bytesSent ms) a ms (write-goes s ms)
-  write-goes s (send h ∷ ms) = write-goes-sent s h ms
+  write-goes s (moveFetch a ∷ ms) = write-goes-fetch s (bytesSent ms) a ms (write-goes s ms)
+  write-goes s (moveSend h ∷ ms) = write-goes-sent s h ms
 
   -- past a read select
   read-goes : (s : Space) (ms : List Move) → Goes w m (runOf (sideBus (ReadLeg s false false) w) u m (signals ms)) (readLeg s w u m (served ms) ms)
@@ -181,22 +181,22 @@ module _ (w : WireSide) (u : Uid) (m : List ℕ) (whole : length m ≡ 1024) whe
   }
 
   select-goes : (o : Bool) (x : ℕ) (ms : List Move) (c : Choice) → choose (w .host .vcc) (w .host .programming) x ≡ c
-      → Goes w m (runOf (sideBus (Started o) w) u m (Send x ∷ signals ms)) (selected c w u m ms)
-  unfolding selected selectBy dueOf signalOf wireSignal sendAt fetchAt
-  select-goes o x ms Refused h =
-      more w u m (sideBus (Started o) w) (Send x) (signals ms) (says NoAck (sideBus Idle w) m) _
+      → Goes w m (runOf (sideBus (Started o) w) u m (NotedSend x ∷ signals ms)) (selectedLeg c w u m ms)
+  unfolding selectedLeg selectBy dueOf signalOf wireSignal sendAt fetchAt
+  select-goes o x ms NotAcked h =
+      more w u m (sideBus (Started o) w) (NotedSend x) (signals ms) (wireResult NoAck (sideBus Idle w) m) _
       (ap (λ (c : Choice). selectBy c (sideBus (Started o) w) m) h) refl
       (record { bus = Idle; run = still (sideBus Idle w) u m (λ x. refl) (λ a. refl) ms; due = refl })
   select-goes o x ms (Reading s) h =
-      more w u m (sideBus (Started o) w) (Send x) (signals ms) (says Ack (sideBus (ReadLeg s false false) w) m) _
+      more w u m (sideBus (Started o) w) (NotedSend x) (signals ms) (wireResult Ack (sideBus (ReadLeg s false false) w) m) _
       (ap (λ (c : Choice). selectBy c (sideBus (Started o) w) m) h) refl (read-goes s ms)
   select-goes o x ms (Writing s) h =
-      more w u m (sideBus (Started o) w) (Send x) (signals ms) (says Ack (sideBus (WriteLeg s) w) m) _
+      more w u m (sideBus (Started o) w) (NotedSend x) (signals ms) (wireResult Ack (sideBus (WriteLeg s) w) m) _
       (ap (λ (c : Choice). selectBy c (sideBus (Started o) w) m) h) refl (write-goes s ms)
 
   -- the leg
   pub leg-goes : (o : Bool) (ms : List Move) → Goes w m (runOf (sideBus (Started o) w) u m (signals ms)) (legOf w u m ms)
   unfolding runOf signals replies legOf dueOf signalOf wireSignal fetchAt
   leg-goes o [] = record { bus = Started o; run = refl; due = refl }
-  leg-goes o (fetch a ∷ ms) = more w u m (sideBus (Started o) w) (Fetch a) (signals ms) _ _ refl refl (leg-goes o ms)
-  leg-goes o (send x ∷ ms) = select-goes o x ms (choose (w .host .vcc) (w .host .programming) x) refl
+  leg-goes o (moveFetch a ∷ ms) = more w u m (sideBus (Started o) w) (NotedFetch a) (signals ms) _ _ refl refl (leg-goes o ms)
+  leg-goes o (moveSend x ∷ ms) = select-goes o x ms (choose (w .host .vcc) (w .host .programming) x) refl

@@ -15,13 +15,13 @@ use Rattle.tag.specs.declared.Uid.{Uid}
 use Rattle.tag.specs.Bus.{isOpen}
 use Rattle.tag.specs.Supply.{vccOff, vccAt}
 use Rattle.rule.specs.declared.Choice.{Choice}
-use Rattle.rule.specs.declared.Choice.the-variants.{Refused, Reading, Writing}
+use Rattle.rule.specs.declared.Choice.the-variants.{NotAcked, Reading, Writing}
 use Rattle.rule.specs.Select.{selectOf, choose}
-use Rattle.leg.specs.Effect.{Left, left, stopped, started, unpowered, Due, none, clears, writes, settle}
-use Rattle.signal.specs.declared.Answer.the-variants.{Nothing, NoAck}
-use Rattle.signal.specs.Signal.{Ended, says, sideBus, dueOf, startAt, startOf, stopAt, selectBy, sendAt, fetchAt, signalOf}
-use Rattle.transfer.specs.Legs.{Noted, Start, Send, Fetch, Stop, VccOff, wireSignal, isRefused, Move, send, fetch, Finish, atStop, atVccOff, atRefusal, Legs, leg, last, parse}
-use Rattle.transfer.specs.Whole.{Ran, ran, before, Leg, selected, legOf, counting, filled, lastLeg, legsOf, transferOf}
+use Rattle.leg.specs.Effect.{LegResult, legResult, stopped, started, powerLost, Due, nothingDue, clears, writes, settle}
+use Rattle.signal.specs.declared.WireAnswer.the-variants.{Nothing, NoAck}
+use Rattle.signal.specs.Signal.{WireResult, wireResult, sideBus, dueOf, startAt, startOf, stopAt, selectBy, sendAt, fetchAt, signalOf}
+use Rattle.transfer.specs.Legs.{Noted, NotedStart, NotedSend, NotedFetch, NotedStop, NotedVccOff, wireSignal, selectRefused, Move, moveSend, moveFetch, Finish, atStop, atVccOff, atRefusal, Legs, leg, last, parse}
+use Rattle.transfer.specs.Whole.{TransferResult, transferResult, before, Leg, selectedLeg, legOf, counting, filled, lastLeg, legsOf, transferOf}
 use Rattle.transfer.specs.Claim.{runOf, Ready, Demand2}
 use Rattle.transfer.proofs.Run.{stepOf, signals, run-then, first-then, still}
 use Rattle.transfer.proofs.LegRun.{Goes, leg-goes}
@@ -29,44 +29,44 @@ use Rattle.transfer.proofs.Parse.{endSignals, render, refuses, done, pa
 
 -- ---- the end of a leg, by what is due
 start-bus : (d : Due) (b : Bus) (w : WireSide) (m : List ℕ)
-    → settle started d (sideBus b w) m ≡ left (sideBus b (settle started d w m .side)) (settle started d w m .memory)
+    → settle started d (sideBus b w) m ≡ legResult (sideBus b (settle started d w m .side)) (settle started d w m .memory)
 unfolding settle
-start-bus none b w m = refl
+start-bus nothingDue b w m = refl
 start-bus clears b w m = refl
 start-bus (writes s f xs) b w m = refl
 
 start-host : (d : Due) (w : WireSide) (m : List ℕ) → settle started d w m .side .host ≡ w .host
 unfolding settle
-start-host none w m = refl
+start-host nothingDue w m = refl
 start-host clears w m = refl
 start-host (writes s f xs) w m = refl
 
 start-memory : (d : Due) (w : WireSide) (m : List ℕ) → settle started d w m .memory ≡ m
 unfolding settle
-start-memory none w m = refl
+start-memory nothingDue w m = refl
 start-memory clears w m = refl
 start-memory (writes s f xs) w m = refl
 
 off-any : (d : Due) (b : Bus) (w : WireSide) (m : List ℕ)
-    → left (vccOff (sideBus b w)) m ≡ left (vccOff (settle unpowered d w m .side)) (settle unpowered d w m .memory)
+    → legResult (vccOff (sideBus b w)) m ≡ legResult (vccOff (settle powerLost d w m .side)) (settle powerLost d w m .memory)
 unfolding settle
-off-any none b w m = refl
+off-any nothingDue b w m = refl
 off-any clears b w m = refl
 off-any (writes s f xs) b w m = refl
 
 -- what a signal gives that answers nothing
-abbrev pub quiet : Left → Ended
-quiet r = says Nothing (r .side) (r .memory)
+abbrev pub quiet : LegResult → WireResult
+quiet r = wireResult Nothing (r .side) (r .memory)
 
 starts : (b : Bus) (w : WireSide) (u : Uid) (m : List ℕ) (d : Due) → w .host .vcc ≡ true → dueOf b (w .host .counter) m ≡ d
-    → stepOf (sideBus b w) u m Start ≡ says Nothing (sideBus (Started (isOpen b)) (settle started d w m .side)) (settle started d w m .memory)
+    → stepOf (sideBus b w) u m NotedStart ≡ wireResult Nothing (sideBus (Started (isOpen b)) (settle started d w m .side)) (settle started d w m .memory)
 unfolding signalOf wireSignal startOf startAt
 starts b w u m d v h =
     sym (pick-true _ _ _ (w .host .vcc) v
     (sym (ap (λ (d : Due). quiet (settle started d (sideBus (Started (isOpen b)) w) m)) h ∙ ap quiet (start-bus d (Started (isOpen b)) w m))))
 
 stops : (b : Bus) (w : WireSide) (u : Uid) (m : List ℕ) (d : Due) → dueOf b (w .host .counter) m ≡ d
-    → stepOf (sideBus b w) u m Stop ≡ quiet (settle stopped d (sideBus Idle w) m)
+    → stepOf (sideBus b w) u m NotedStop ≡ quiet (settle stopped d (sideBus Idle w) m)
 unfolding signalOf wireSignal stopAt
 stops b w u m d h = ap (λ (d : Due). quiet (settle stopped d (sideBus Idle w) m)) h
 
@@ -75,14 +75,14 @@ unfolding vccAt
 off-at w v = sym (pick-false _ _ _ false refl (pick-true _ _ _ (w .host .vcc) v refl))
 
 offs : (b : Bus) (w : WireSide) (u : Uid) (m : List ℕ) (d : Due) → w .host .vcc ≡ true
-    → stepOf (sideBus b w) u m VccOff ≡ says Nothing (vccOff (settle unpowered d w m .side)) (settle unpowered d w m .memory)
+    → stepOf (sideBus b w) u m NotedVccOff ≡ wireResult Nothing (vccOff (settle powerLost d w m .side)) (settle powerLost d w m .memory)
 unfolding signalOf wireSignal
-offs b w u m d v = ap (λ (x : WireSide). says Nothing x m) (off-at (sideBus b w) v) ∙ ap quiet (off-any d b w m)
+offs b w u m d v = ap (λ (x : WireSide). wireResult Nothing x m) (off-at (sideBus b w) v) ∙ ap quiet (off-any d b w m)
 
 -- ---- a leg whose select is not Acked
-refused-by : (c : Choice) → isRefused c ≡ true → c ≡ Refused
-unfolding isRefused
-refused-by Refused h = refl
+refused-by : (c : Choice) → selectRefused c ≡ true → c ≡ NotAcked
+unfolding selectRefused
+refused-by NotAcked h = refl
 refused-by (Reading s) h = absurd (false≢true h)
 refused-by (Writing s) h = absurd (false≢true h)
 
@@ -91,37 +91,37 @@ unfolding choose pick
 choose-ready x v p h k = rw (h, k)
 
 refused-run : (w : WireSide) (u : Uid) (m : List ℕ) (o : Bool) (x : ℕ) (ms : List Move) (c : Choice)
-    → choose (w .host .vcc) (w .host .programming) x ≡ c → c ≡ Refused
-    → runOf (sideBus (Started o) w) u m (Send x ∷ signals ms) ≡ ran (selected c w u m ms .answers) (sideBus Idle w) m
-unfolding selected selectBy signalOf wireSignal sendAt fetchAt
+    → choose (w .host .vcc) (w .host .programming) x ≡ c → c ≡ NotAcked
+    → runOf (sideBus (Started o) w) u m (NotedSend x ∷ signals ms) ≡ transferResult (selectedLeg c w u m ms .answers) (sideBus Idle w) m
+unfolding selectedLeg selectBy signalOf wireSignal sendAt fetchAt
 refused-run w u m o x ms c q h =
-    first-then (sideBus (Started o) w) u m (Send x) (signals ms) (says NoAck (sideBus Idle w) m) _
+    first-then (sideBus (Started o) w) u m (NotedSend x) (signals ms) (wireResult NoAck (sideBus Idle w) m) _
     (ap (λ (c : Choice). selectBy c (sideBus (Started o) w) m) (q ∙ h)) (still (sideBus Idle w) u m (λ x. refl) (λ a. refl) ms)
-    ∙ ap (λ (c : Choice). ran (selected c w u m ms .answers) (sideBus Idle w) m) (sym h)
+    ∙ ap (λ (c : Choice). transferResult (selectedLeg c w u m ms .answers) (sideBus Idle w) m) (sym h)
 
 refused-leg : (w : WireSide) (u : Uid) (m : List ℕ) (o : Bool) → Ready w m → (ms : List Move) → refuses true ms ≡ true
-    → runOf (sideBus (Started o) w) u m (signals ms) ≡ ran (legOf w u m ms .answers) (sideBus Idle w) m
+    → runOf (sideBus (Started o) w) u m (signals ms) ≡ transferResult (legOf w u m ms .answers) (sideBus Idle w) m
 unfolding refuses legOf signals signalOf wireSignal fetchAt
 refused-leg w u m o y [] h = absurd (false≢true h)
-refused-leg w u m o y (fetch a ∷ ms) h = first-then (sideBus (Started o) w) u m (Fetch a) (signals ms) _ _ refl (refused-leg w u m o y ms h)
-refused-leg w u m o y (send x ∷ ms) h =
+refused-leg w u m o y (moveFetch a ∷ ms) h = first-then (sideBus (Started o) w) u m (NotedFetch a) (signals ms) _ _ refl (refused-leg w u m o y ms h)
+refused-leg w u m o y (moveSend x ∷ ms) h =
     refused-run w u m o x ms (choose (w .host .vcc) (w .host .programming) x) refl
     (choose-ready x (w .host .vcc) (w .host .programming) (y .vcc) (y .still) ∙ refused-by _ h)
 
 -- ---- the last leg
 last-stop : (w : WireSide) (u : Uid) (m : List ℕ) (e : Leg) (n : List Noted) (v : WireSide) → Goes w m (runOf v u m n) e
-    → runOf v u m (n ++ Stop ∷ []) ≡ lastLeg atStop e w m
+    → runOf v u m (n ++ NotedStop ∷ []) ≡ lastLeg atStop e w m
 unfolding lastLeg runOf
 last-stop w u m e n v g =
-    run-then n (Stop ∷ []) v u m _ (g .run)
-    ∙ ap (λ (x : Ended). ran (e .answers ++ x .answer ∷ []) (x .side) (x .memory)) (stops (g .bus) (counting e w) u (filled e m) (e .due) (g .due))
+    run-then n (NotedStop ∷ []) v u m _ (g .run)
+    ∙ ap (λ (x : WireResult). transferResult (e .answers ++ x .answer ∷ []) (x .side) (x .memory)) (stops (g .bus) (counting e w) u (filled e m) (e .due) (g .due))
 
 last-off : (w : WireSide) (u : Uid) (m : List ℕ) (e : Leg) (n : List Noted) (v : WireSide) → w .host .vcc ≡ true → Goes w m (runOf v u m n) e
-    → runOf v u m (n ++ VccOff ∷ []) ≡ lastLeg atVccOff e w m
+    → runOf v u m (n ++ NotedVccOff ∷ []) ≡ lastLeg atVccOff e w m
 unfolding lastLeg runOf
 last-off w u m e n v h g =
-    run-then n (VccOff ∷ []) v u m _ (g .run)
-    ∙ ap (λ (x : Ended). ran (e .answers ++ x .answer ∷ []) (x .side) (x .memory)) (offs (g .bus) (counting e w) u (filled e m) (e .due) h)
+    run-then n (NotedVccOff ∷ []) v u m _ (g .run)
+    ∙ ap (λ (x : WireResult). transferResult (e .answers ++ x .answer ∷ []) (x .side) (x .memory)) (offs (g .bus) (counting e w) u (filled e m) (e .due) h)
 
 last-refused : (w : WireSide) (u : Uid) (m : List ℕ) (o : Bool) → Ready w m → (ms : List Move) → refuses true ms ≡ true
     → runOf (sideBus (Started o) w) u m (signals ms ++ []) ≡ lastLeg atRefusal (legOf w u m ms) w m
@@ -144,16 +144,16 @@ start-ready w m e y = record {
   bytes = ap (λ (m : List ℕ). length m) (start-memory (e .due) (counting e w) (filled e m)) ∙ length-sets m 768 (e .page) ∙ y .bytes;
 }
 
-leg-run : (w : WireSide) (u : Uid) (m : List ℕ) (o : Bool) → Ready w m → (ms : List Move) (n : List Noted) (rest : WireSide → List ℕ → Ran)
+leg-run : (w : WireSide) (u : Uid) (m : List ℕ) (o : Bool) → Ready w m → (ms : List Move) (n : List Noted) (rest : WireSide → List ℕ → TransferResult)
     → ((w : WireSide) (m : List ℕ) (o : Bool) → Ready w m → runOf (sideBus (Started o) w) u m n ≡ rest w m)
     → (e : Leg) → Goes w m (runOf (sideBus (Started o) w) u m (signals ms)) e
-    → runOf (sideBus (Started o) w) u m (signals ms ++ Start ∷ n)
+    → runOf (sideBus (Started o) w) u m (signals ms ++ NotedStart ∷ n)
     ≡ before (e .answers ++ Nothing ∷ [])
     (rest (settle started (e .due) (counting e w) (filled e m) .side) (settle started (e .due) (counting e w) (filled e m) .memory))
 leg-run w u m o y ms n rest ih e g =
     let r = settle started (e .due) (counting e w) (filled e m) in
-    run-then (signals ms) (Start ∷ n) (sideBus (Started o) w) u m _ (g .run)
-    ∙ ap (before (e .answers)) (first-then (sideBus (g .bus) (counting e w)) u (filled e m) Start n _ _
+    run-then (signals ms) (NotedStart ∷ n) (sideBus (Started o) w) u m _ (g .run)
+    ∙ ap (before (e .answers)) (first-then (sideBus (g .bus) (counting e w)) u (filled e m) NotedStart n _ _
     (starts (g .bus) (counting e w) u (filled e m) (e .due) (y .vcc) (g .due))
     (ih (r .side) (r .memory) (isOpen (g .bus)) (start-ready w m e y)))
     ∙ rw (append-assoc (e .answers) (Nothing ∷ []))

@@ -10,11 +10,11 @@ use Rattle.tag.specs.declared.Uid.{Uid}
 use Rattle.tag.specs.Layout.{memoryBytes}
 use Rattle.signal.specs.Signal.{sideBus, signalOf}
 use Rattle.transfer.specs.Legs.{Noted, wireSignal, finished}
-use Rattle.transfer.specs.Whole.{Ran, ran, before, transferOf}
+use Rattle.transfer.specs.Whole.{TransferResult, transferResult, before, transferOf}
 
 -- a list of signals, one by one
-unfoldable pub runOf : WireSide → Uid → List ℕ → List Noted → Ran
-runOf w u m [] = ran [] w m
+unfoldable pub runOf : WireSide → Uid → List ℕ → List Noted → TransferResult
+runOf w u m [] = transferResult [] w m
 runOf w u m (s ∷ n) =
     let e = signalOf w u m (wireSignal s) in
     before (e .answer ∷ []) (runOf (e .side) u (e .memory) n)

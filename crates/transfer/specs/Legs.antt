@@ -4,48 +4,48 @@ use mathlib.Core.List.{List, [], _∷_}
 use Prim.Native.Nat.{ℕ}
 use Rattle.parts.specs.Pick.{pick}
 use Rattle.rule.specs.declared.Choice.{Choice}
-use Rattle.rule.specs.declared.Choice.the-variants.{Refused, Reading, Writing}
+use Rattle.rule.specs.declared.Choice.the-variants.{NotAcked, Reading, Writing}
 use Rattle.rule.specs.Select.{selectOf}
-use Rattle.signal.specs.declared.Signal.{Signal}
-use Rattle.signal.specs.declared.Signal.the-variants.{Start as SignalStart, Send as SignalSend, Fetch as SignalFetch, Stop as SignalStop, Vcc as SignalVcc}
+use Rattle.signal.specs.declared.WireSignal.{WireSignal}
+use Rattle.signal.specs.declared.WireSignal.the-variants.{Start as SignalStart, Send, Fetch, Stop as SignalStop, Vcc}
 
 -- "That select and each later Start, byte, fetch, Stop and VCC off are noted"
 pub data Noted : Type 0 where
-  Start : Noted
-  Send : ℕ → Noted
-  Fetch : Bool → Noted
-  Stop : Noted
-  VccOff : Noted
+  NotedStart : Noted
+  NotedSend : ℕ → Noted
+  NotedFetch : Bool → Noted
+  NotedStop : Noted
+  NotedVccOff : Noted
 
 -- the signal that was noted
-unfoldable pub wireSignal : Noted → Signal
-wireSignal Start = SignalStart
-wireSignal (Send x) = SignalSend x
-wireSignal (Fetch ack) = SignalFetch ack
-wireSignal Stop = SignalStop
-wireSignal VccOff = SignalVcc false
+unfoldable pub wireSignal : Noted → WireSignal
+wireSignal NotedStart = SignalStart
+wireSignal (NotedSend x) = Send x
+wireSignal (NotedFetch ack) = Fetch ack
+wireSignal NotedStop = SignalStop
+wireSignal NotedVccOff = Vcc false
 
 -- ---- "A transfer is open from an Acked select to Stop, VCC off, or a select not Acked."
-unfoldable pub isRefused : Choice → Bool
-isRefused Refused = true
-isRefused (Reading space) = false
-isRefused (Writing space) = false
+unfoldable pub selectRefused : Choice → Bool
+selectRefused NotAcked = true
+selectRefused (Reading space) = false
+selectRefused (Writing space) = false
 
 -- the signal ends the transfer; `fresh`: no byte was sent since the last Start, so that a byte sent is a select
 unfoldable pub ends : Bool → Noted → Bool
-ends fresh Start = false
-ends fresh (Fetch ack) = false
-ends fresh Stop = true
-ends fresh VccOff = true
-ends true (Send x) = isRefused (selectOf x)
-ends false (Send x) = false
+ends fresh NotedStart = false
+ends fresh (NotedFetch ack) = false
+ends fresh NotedStop = true
+ends fresh NotedVccOff = true
+ends true (NotedSend x) = selectRefused (selectOf x)
+ends false (NotedSend x) = false
 
 unfoldable pub fresher : Bool → Noted → Bool
-fresher fresh Start = true
-fresher fresh (Fetch ack) = fresh
-fresher fresh (Send x) = false
-fresher fresh Stop = false
-fresher fresh VccOff = false
+fresher fresh NotedStart = true
+fresher fresh (NotedFetch ack) = fresh
+fresher fresh (NotedSend x) = false
+fresher fresh NotedStop = false
+fresher fresh NotedVccOff = false
 
 unfoldable pub isEmpty : List Noted → Bool
 isEmpty [] = true
@@ -59,8 +59,8 @@ finished fresh (s ∷ n) = pick (ends fresh s) (isEmpty n) (finished (fresher fr
 -- ---- "A leg runs from Start to the next Start or the end."
 -- what the host does in a leg: it sends a byte, or fetches one and Acks it or not
 pub data Move : Type 0 where
-  send : ℕ → Move
-  fetch : Bool → Move
+  moveSend : ℕ → Move
+  moveFetch : Bool → Move
 
 -- how a transfer ends
 pub data Finish : Type 0 where
@@ -81,8 +81,8 @@ push a (last ms e) = last (a ∷ ms) e
 -- the legs of a finished list
 unfoldable pub parse : List Noted → Legs
 parse [] = last [] atRefusal
-parse (Start ∷ n) = leg [] (parse n)
-parse (Send x ∷ n) = push (send x) (parse n)
-parse (Fetch ack ∷ n) = push (fetch ack) (parse n)
-parse (Stop ∷ n) = last [] atStop
-parse (VccOff ∷ n) = last [] atVccOff
+parse (NotedStart ∷ n) = leg [] (parse n)
+parse (NotedSend x ∷ n) = push (moveSend x) (parse n)
+parse (NotedFetch ack ∷ n) = push (moveFetch ack) (parse n)
+parse (NotedStop ∷ n) = last [] atStop
+parse (NotedVccOff ∷ n) = last [] atVccOff

@@ -10,53 +10,53 @@ use Rattle.tag.specs.declared.Space.{Space}
 use Rattle.tag.specs.declared.Bus.the-variants.{Idle}
 use Rattle.tag.specs.declared.WireSide.{WireSide}
 use Rattle.tag.specs.declared.Uid.{Uid}
-use Rattle.tag.specs.Layout.{pageAt}
+use Rattle.tag.specs.Layout.{pagePlace}
 use Rattle.tag.specs.Bus.{nextAddress}
 use Rattle.tag.specs.Supply.{withBus, vccOff}
 use Rattle.rule.specs.declared.Choice.{Choice}
-use Rattle.rule.specs.declared.Choice.the-variants.{Refused, Reading, Writing}
+use Rattle.rule.specs.declared.Choice.the-variants.{NotAcked, Reading, Writing}
 use Rattle.rule.specs.Select.{choose, address}
 use Rattle.rule.specs.Rule.{acked}
 use Rattle.leg.specs.Fetch.{fetched, isLast}
-use Rattle.leg.specs.Effect.{withHost, stopped, started, unpowered, Due, none, clears, writes, settle}
-use Rattle.signal.specs.declared.Answer.{Answer}
-use Rattle.signal.specs.declared.Answer.the-variants.{Nothing, Ack, NoAck, Byte}
-use Rattle.transfer.specs.Legs.{Noted, Move, send, fetch, Finish, atStop, atVccOff, atRefusal, Legs, leg, last, parse}
+use Rattle.leg.specs.Effect.{withHost, stopped, started, powerLost, Due, nothingDue, clears, writes, settle}
+use Rattle.signal.specs.declared.WireAnswer.{WireAnswer}
+use Rattle.signal.specs.declared.WireAnswer.the-variants.{Nothing, Ack, NoAck, Byte}
+use Rattle.transfer.specs.Legs.{Noted, Move, moveSend, moveFetch, Finish, atStop, atVccOff, atRefusal, Legs, leg, last, parse}
 
 -- the answers, the wire side and the memory after a list of signals
-pub record Ran : Type 0 where
-  pub answers : List Answer
+pub record TransferResult : Type 0 where
+  pub answers : List WireAnswer
   pub side : WireSide
   pub memory : List ℕ
 
-abbrev pub ran : List Answer → WireSide → List ℕ → Ran
-ran a w m = record { answers = a; side = w; memory = m }
+abbrev pub transferResult : List WireAnswer → WireSide → List ℕ → TransferResult
+transferResult a w m = record { answers = a; side = w; memory = m }
 
 -- answers given before it
-abbrev pub before : List Answer → Ran → Ran
-before a r = ran (a ++ r .answers) (r .side) (r .memory)
+abbrev pub before : List WireAnswer → TransferResult → TransferResult
+before a r = transferResult (a ++ r .answers) (r .side) (r .memory)
 
 -- ---- what the host does in a leg
 -- the bytes that it sends
 unfoldable pub bytesSent : List Move → List ℕ
 bytesSent [] = []
-bytesSent (send x ∷ ms) = x ∷ bytesSent ms
-bytesSent (fetch ack ∷ ms) = bytesSent ms
+bytesSent (moveSend x ∷ ms) = x ∷ bytesSent ms
+bytesSent (moveFetch ack ∷ ms) = bytesSent ms
 
 -- how many of its fetches are served, in a read leg: "after the host's NoAck" none is
 unfoldable pub served : List Move → ℕ
 served [] = 0
-served (send x ∷ ms) = served ms
-served (fetch true ∷ ms) = suc (served ms)
-served (fetch false ∷ ms) = 1
+served (moveSend x ∷ ms) = served ms
+served (moveFetch true ∷ ms) = suc (served ms)
+served (moveFetch false ∷ ms) = 1
 
 -- its answers: the first j bytes sent are Acked and the others not; the fetches give the bytes bs, and FFh after them
-unfoldable pub replies : ℕ → List ℕ → List Move → List Answer
+unfoldable pub replies : ℕ → List ℕ → List Move → List WireAnswer
 replies j bs [] = []
-replies zero bs (send x ∷ ms) = NoAck ∷ replies zero bs ms
-replies (suc j) bs (send x ∷ ms) = Ack ∷ replies j bs ms
-replies j [] (fetch ack ∷ ms) = Byte 0xFF ∷ replies j [] ms
-replies j (b ∷ bs) (fetch ack ∷ ms) = Byte b ∷ replies j bs ms
+replies zero bs (moveSend x ∷ ms) = NoAck ∷ replies zero bs ms
+replies (suc j) bs (moveSend x ∷ ms) = Ack ∷ replies j bs ms
+replies j [] (moveFetch ack ∷ ms) = Byte 0xFF ∷ replies j [] ms
+replies j (b ∷ bs) (moveFetch ack ∷ ms) = Byte b ∷ replies j bs ms
 
 -- "Each Acked data byte or fetched byte raises the counter by one": counter c after n of them
 unfoldable pub onward : ℕ → ℕ → ℕ
@@ -83,18 +83,18 @@ accepted s w f e (x ∷ xs) =
 
 -- ---- one leg: its answers, where it leaves the counter, the bytes that it puts onto the page, and what is due at its end
 pub record Leg : Type 0 where
-  pub answers : List Answer
+  pub answers : List WireAnswer
   pub counter : ℕ
   pub page : List ℕ
   pub due : Due
 
 -- one answer more at its front
-abbrev pub answering : Answer → Leg → Leg
+abbrev pub answering : WireAnswer → Leg → Leg
 answering a e = record { answers = a ∷ e .answers; counter = e .counter; page = e .page; due = e .due }
 
 -- j bytes are Acked, and nothing else happens
 abbrev pub idleLeg : ℕ → WireSide → List Move → Leg
-idleLeg j w ms = record { answers = replies j [] ms; counter = w .host .counter; page = []; due = none }
+idleLeg j w ms = record { answers = replies j [] ms; counter = w .host .counter; page = []; due = nothingDue }
 
 -- after a read select, with n fetches served. "A byte sent in a read leg is NoAcked and moves nothing."
 -- "Fetching the last byte of an RF message clears RF_PUT at the leg's end"
@@ -103,7 +103,7 @@ readLeg s w u m n ms = record {
   answers = replies 0 (bytesFetched s w u m (w .host .counter) n) ms;
   counter = onward n (w .host .counter);
   page = [];
-  due = pick (lastAmong s w (w .host .counter) n) clears none;
+  due = pick (lastAmong s w (w .host .counter) n) clears nothingDue;
 }
 
 -- after the address f, with data bytes xs of which j are Acked; with the address, i bytes are.
@@ -114,7 +114,7 @@ dataLeg s f xs j i ms = record {
   answers = replies i [] ms;
   counter = onward j f;
   page = take j xs;
-  due = pick (ltb j (length xs) || eqb j 0) none (writes s f xs);
+  due = pick (ltb j (length xs) || eqb j 0) nothingDue (writes s f xs);
 }
 
 -- after a write select, by the bytes sent. "After a write select come two address bytes, high first, both Acked, which set the counter."
@@ -128,16 +128,16 @@ writeLeg s w (high ∷ low ∷ xs) ms =
     dataLeg s f xs j (suc (suc j)) ms
 
 -- the moves after a select
-unfoldable pub selected : Choice → WireSide → Uid → List ℕ → List Move → Leg
-selected Refused w u m ms = answering NoAck (idleLeg 0 w ms)
-selected (Reading s) w u m ms = answering Ack (readLeg s w u m (served ms) ms)
-selected (Writing s) w u m ms = answering Ack (writeLeg s w (bytesSent ms) ms)
+unfoldable pub selectedLeg : Choice → WireSide → Uid → List ℕ → List Move → Leg
+selectedLeg NotAcked w u m ms = answering NoAck (idleLeg 0 w ms)
+selectedLeg (Reading s) w u m ms = answering Ack (readLeg s w u m (served ms) ms)
+selectedLeg (Writing s) w u m ms = answering Ack (writeLeg s w (bytesSent ms) ms)
 
 -- a leg: the first byte sent is the select. "A fetch outside a read leg .. gives FFh and moves nothing."
 unfoldable pub legOf : WireSide → Uid → List ℕ → List Move → Leg
 legOf w u m [] = idleLeg 0 w []
-legOf w u m (fetch ack ∷ ms) = answering (Byte 0xFF) (legOf w u m ms)
-legOf w u m (send x ∷ ms) = selected (choose (w .host .vcc) (w .host .programming) x) w u m ms
+legOf w u m (moveFetch ack ∷ ms) = answering (Byte 0xFF) (legOf w u m ms)
+legOf w u m (moveSend x ∷ ms) = selectedLeg (choose (w .host .vcc) (w .host .programming) x) w u m ms
 
 -- ---- the legs one after the other
 -- what a leg leaves before its end
@@ -145,23 +145,23 @@ abbrev pub counting : Leg → WireSide → WireSide
 counting e w = withHost (record { vcc = w .host .vcc; session = w .host .session; programming = w .host .programming; counter = e .counter; bus = w .host .bus }) w
 
 abbrev pub filled : Leg → List ℕ → List ℕ
-filled e m = sets m pageAt (e .page)
+filled e m = sets m pagePlace (e .page)
 
 -- "A Stop or a select not Acked leaves the bus idle."
 abbrev pub idle : WireSide → WireSide
 idle w = withHost (withBus Idle (w .host)) w
 
 -- the last leg
-unfoldable pub lastLeg : Finish → Leg → WireSide → List ℕ → Ran
+unfoldable pub lastLeg : Finish → Leg → WireSide → List ℕ → TransferResult
 lastLeg atStop e w m =
     let r = settle stopped (e .due) (idle (counting e w)) (filled e m) in
-    ran (e .answers ++ Nothing ∷ []) (r .side) (r .memory)
+    transferResult (e .answers ++ Nothing ∷ []) (r .side) (r .memory)
 lastLeg atVccOff e w m =
-    let r = settle unpowered (e .due) (counting e w) (filled e m) in
-    ran (e .answers ++ Nothing ∷ []) (vccOff (r .side)) (r .memory)
-lastLeg atRefusal e w m = ran (e .answers) (idle w) m
+    let r = settle powerLost (e .due) (counting e w) (filled e m) in
+    transferResult (e .answers ++ Nothing ∷ []) (vccOff (r .side)) (r .memory)
+lastLeg atRefusal e w m = transferResult (e .answers) (idle w) m
 
-unfoldable pub legsOf : WireSide → Uid → List ℕ → Legs → Ran
+unfoldable pub legsOf : WireSide → Uid → List ℕ → Legs → TransferResult
 legsOf w u m (last ms end) = lastLeg end (legOf w u m ms) w m
 legsOf w u m (leg ms l) =
     let e = legOf w u m ms in
@@ -169,5 +169,5 @@ legsOf w u m (leg ms l) =
     before (e .answers ++ Nothing ∷ []) (legsOf (r .side) u (r .memory) l)
 
 -- the whole transfer, of a list that begins after its first Start
-unfoldable pub transferOf : WireSide → Uid → List ℕ → List Noted → Ran
+unfoldable pub transferOf : WireSide → Uid → List ℕ → List Noted → TransferResult
 transferOf w u m n = legsOf w u m (parse n)

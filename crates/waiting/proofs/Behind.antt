@@ -20,10 +20,10 @@ use Rattle.rule.specs.PageRange.{busInRange}
 use Rattle.model.specs.Signals.{signalBy}
 use Rattle.model.specs.Step.{wireSide, transferOpen, tagInRange}
 use Rattle.model.proofs.Kept.{keeps}
-use Rattle.waiting.specs.Calls.{Call, Said, Device, Done, entry, runBy}
+use Rattle.waiting.specs.Calls.{Call, CallAnswer, Device, DeviceResult, entry, runBy}
 use Rattle.waiting.specs.Examples.{_but_, radioSession, onBus, fieldIs}
-use Rattle.waiting.specs.Waiting.{closed}
-use Rattle.waiting.specs.Claim.{framesFit, isRefusal, isFrame, struck, spoken, shutReply, startAfter, EachStruck, Same, EveryList}
+use Rattle.waiting.specs.Waiting.{noTransfer}
+use Rattle.waiting.specs.Claim.{framesFit, isRefusal, isFrame, struck, callReply, shutReply, startAfter, EachStruck, Same, EveryList}
 use Rattle.waiting.specs.Follows.{Unchanged, RepliesShut}
 use Rattle.waiting.specs.Pinned.{behind, sessionShown, sessionRaised, OnlyTagTells, mark, isMarked, isUserWriteLeg, withoutMark, frameMarked, inFieldAgain, fieldHidden, OnlyUnchangedTells, OnlyReplyTells}
 use Rattle.waiting.proofs.OneCall.{Fits, struck-is}
@@ -46,7 +46,7 @@ module _ (shows : Device → Device) (holds : Call → Device → Device) (in-ra
       let u = undone c (e .device) fit in
       let r = runs cs (holds c (e .device)) (rest-fits c cs b) (subst Fits (sym u) fit) in
       record {
-        answers = ap (λ (l : List Said). e .says ∷ l) (r .answers ∙ ap (λ (d : Device). runBy entry d cs .answers) u);
+        answers = ap (λ (l : List CallAnswer). e .says ∷ l) (r .answers ∙ ap (λ (d : Device). runBy entry d cs .answers) u);
         device = r .device ∙ ap (λ (d : Device). runBy entry d cs .device) u;
       }
 
@@ -67,8 +67,8 @@ module _ (shows : Device → Device) (holds : Call → Device → Device) (in-ra
         let shown = r .device ∙ ap (λ (d : Device). runBy entry d cs .device) q in
         let own = sym (shut last (ap (λ (d : Device). transferOpen (d .tag)) shown ∙ ends-shut d cs range size frames none end)) ∙ shown in
         agreed d cs range size frames none end .same
-        ∙ ap (λ (l : List Said). closed l (runBy entry d cs .device)) (sym (answers-behind d cs range size frames none end))
-        ∙ ap (λ (x : Device). closed (runBy (behind shows holds) d cs .answers) x) (sym own)
+        ∙ ap (λ (l : List CallAnswer). noTransfer l (runBy entry d cs .device)) (sym (answers-behind d cs range size frames none end))
+        ∙ ap (λ (x : Device). noTransfer (runBy (behind shows holds) d cs .answers) x) (sym own)
 
     -- ---- struck frames, where both have a transfer open or neither
     module _ (open-too : (s : Device) → transferOpen (s .tag) ≡ transferOpen (shows s .tag)) where
@@ -86,7 +86,7 @@ module _ (shows : Device → Device) (holds : Call → Device → Device) (in-ra
           let e = entry (shows s) c in
           let fit = fits-next keeps (shows s) c (first-fits c cs b) f in
           let u = undone c (e .device) fit in (
-            λ t. ap (λ (e : Done). holds c (e .device)) (struck-is (shows s) c f (sym (struck-too s c) ∙ t)) ∙ k c,
+            λ t. ap (λ (e : DeviceResult). holds c (e .device)) (struck-is (shows s) c f (sym (struck-too s c) ∙ t)) ∙ k c,
             unchanged alone cs (startAfter start (s .tag)) (holds c (e .device)) (rest-fits c cs b) (subst Fits (sym u) fit)
                 (λ x. ap (holds x) u ∙ alone x c (e .device)),
           )
@@ -111,8 +111,8 @@ module _ (shows : Device → Device) (holds : Call → Device → Device) (in-ra
           let now = startAfter start (s .tag) in (
             λ t.
                 h (sym (struck-too s c) ∙ t)
-                ∙ ap (λ (x : Tag). spoken (shutReply x (shows s .tag .air) (c .frame)) (c .buffer)) (start-too start s)
-                ∙ ap (λ (x : Air). spoken (shutReply now x (c .frame)) (c .buffer)) (air s),
+                ∙ ap (λ (x : Tag). callReply (shutReply x (shows s .tag .air) (c .frame)) (c .buffer)) (start-too start s)
+                ∙ ap (λ (x : Air). callReply (shutReply now x (c .frame)) (c .buffer)) (air s),
             replies air cs now (holds c (e .device)) (rest-fits c cs b) (subst Fits (sym u) fit)
                 (subst (λ (x : Device). EachStruck entry (RepliesShut entry) now x cs) (sym u) (subst (λ (x : Tag). EachStruck entry (RepliesShut entry) x (e .device) cs) (start-too start s) hs)),
           )

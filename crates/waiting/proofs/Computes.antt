@@ -22,17 +22,17 @@ use Rattle.signal.specs.Signal.{dueOf, startAt, startOf, stopAt, selectBy, data
 use Rattle.reply.specs.Reply.{answerOf, bufferOf}
 use Rattle.frame.specs.Fields.{uidPlace, paramPlace, ownUid, param, isKnown, takesOption, paramBytes}
 use Rattle.frame.specs.Judge.{isSilent, isMute, errorOf, shutOut, badFlags, wrongLength, judge}
-use Rattle.blocks.specs.Blocks.{leaves, statusOf, blockOf, blocksOf, readOf, statusesOf, statusReply}
+use Rattle.blocks.specs.Blocks.{leavesArea, statusOf, blockOf, blocksOf, readOf, statusesOf, statusReply}
 use Rattle.block_writes.specs.Writes.{mayWriteAll, writeOf, lockOf}
-use Rattle.config.specs.Config.{isPointer, readConfigOf, mailboxAfter, writtenCore, writeConfigOf, readDynamicOf, writeDynamicOf}
-use Rattle.message.specs.Message.{takesMessage, writeMessageOf, lengthOf, asked, mailboxAfter as messageMailboxAfter, readMessageOf}
-use Rattle.password.specs.Password.{presentOf, writePasswordOf, quietOf, selectOf as passwordSelectOf, resetOf}
+use Rattle.config.specs.Config.{isPointer, readConfigOf, mailboxAfterWrite, writtenCore, writeConfigOf, readDynamicOf, writeDynamicOf}
+use Rattle.message.specs.Message.{takesMessage, writeMessageOf, lengthOf, asked, mailboxAfterRead, readMessageOf}
+use Rattle.password.specs.Password.{presentOf, writePasswordOf, stayQuietOf, selectUidOf, resetToReadyOf}
 use Rattle.radio.specs.Commands.{serveOf}
-use Rattle.radio.specs.Radio.{answered, radioOf}
+use Rattle.radio.specs.Radio.{verdictResult, radioOf}
 use Rattle.model.specs.Signals.{topValue, signalInRange, signalBy}
 use Rattle.model.specs.Step.{number, fromWire, fromRadio, tagInRange, actOf, stepOf, freshOf}
-use Rattle.transfer.specs.Legs.{isRefused, ends, fresher, isEmpty, finished, push, parse}
-use Rattle.transfer.specs.Whole.{bytesSent, accepted, writeLeg, selected, legOf, lastLeg, legsOf, transferOf}
+use Rattle.transfer.specs.Legs.{selectRefused, ends, fresher, isEmpty, finished, push, parse}
+use Rattle.transfer.specs.Whole.{bytesSent, accepted, writeLeg, selectedLeg, legOf, lastLeg, legsOf, transferOf}
 use Rattle.waiting.specs.Calls.{entry, runBy}
 use Rattle.waiting.specs.Examples.{sends}
 use Rattle.waiting.specs.Waiting.{fill, answered as givenAnswer, isStarted, ackedSelect, whenClosed, note, frameAnswer, whenOpen, waitAct, waitStep, waitRun}
@@ -40,10 +40,10 @@ use Rattle.waiting.specs.Claim.{framesFit, refusedByState, stateRefused,
 
 -- all that a run of written-down calls computes with
 unfoldable pub computes : Unit {0}
-unfolding bytesAt copied agree pick shifted bit bits byte run crcOf goodFrame closedAt definedOnly freshRegisters registerAt withArea withEnd writtenArea written areaOfBlock areaOfByte endsInRange laterLargest exceedsBefore endAccepted endAllows securityOf sessionOpens radioWrites radioReads wireBits wireWrites wireReads isLocked readRight writeRight mayRead mayWrite isOpen isActive pageBytes radioPassword withRadioPassword freshPasswords controlByte lengthByte enabled controlled isQuiet isSelected deselected fieldAt vccAt freshTag registersInRange airInRange mailboxInRange suppliedInRange hostInRange coreInRange wireInRange inRange pageAcked busInRange memoryAcked mailboxAcked userAcked writtenAll isWritable registerAcked passwordAcked systemAcked spaceAcked acked selectOf choose firstOf userWritten passwordWritten systemWritten legWritten settle memoryByte mailboxByte userByte systemByte fetched isLast sentByte dueOf startAt startOf stopAt selectBy dataOf sendAt fetchAt signalOf answerOf bufferOf uidPlace paramPlace ownUid param isKnown takesOption paramBytes isSilent isMute errorOf shutOut badFlags wrongLength judge leaves statusOf blockOf blocksOf readOf mayWriteAll writeOf lockOf statusesOf statusReply isPointer readConfigOf mailboxAfter writtenCore writeConfigOf readDynamicOf writeDynamicOf takesMessage writeMessageOf lengthOf asked messageMailboxAfter readMessageOf presentOf writePasswordOf quietOf passwordSelectOf resetOf serveOf answered radioOf areBytes topValue signalInRange signalBy number fromWire fromRadio tagInRange actOf stepOf freshOf entry runBy sends framesFit
+unfolding bytesAt copied agree pick shifted bit bits byte run crcOf goodFrame closedAt definedOnly freshRegisters registerAt withArea withEnd writtenArea written areaOfBlock areaOfByte endsInRange laterLargest exceedsBefore endAccepted endAllows securityOf sessionOpens radioWrites radioReads wireBits wireWrites wireReads isLocked readRight writeRight mayRead mayWrite isOpen isActive pageBytes radioPassword withRadioPassword freshPasswords controlByte lengthByte enabled controlled isQuiet isSelected deselected fieldAt vccAt freshTag registersInRange airInRange mailboxInRange suppliedInRange hostInRange coreInRange wireInRange inRange pageAcked busInRange memoryAcked mailboxAcked userAcked writtenAll isWritable registerAcked passwordAcked systemAcked spaceAcked acked selectOf choose firstOf userWritten passwordWritten systemWritten legWritten settle memoryByte mailboxByte userByte systemByte fetched isLast sentByte dueOf startAt startOf stopAt selectBy dataOf sendAt fetchAt signalOf answerOf bufferOf uidPlace paramPlace ownUid param isKnown takesOption paramBytes isSilent isMute errorOf shutOut badFlags wrongLength judge leavesArea statusOf blockOf blocksOf readOf mayWriteAll writeOf lockOf statusesOf statusReply isPointer readConfigOf mailboxAfterWrite writtenCore writeConfigOf readDynamicOf writeDynamicOf takesMessage writeMessageOf lengthOf asked mailboxAfterRead readMessageOf presentOf writePasswordOf stayQuietOf selectUidOf resetToReadyOf serveOf verdictResult radioOf areBytes topValue signalInRange signalBy number fromWire fromRadio tagInRange actOf stepOf freshOf entry runBy sends framesFit
 computes = tt
 
 -- and the waiting tag and the claim beside it; of whole transfers those of write legs
 unfoldable pub agrees : Unit {0}
-unfolding computes isRefused ends fresher isEmpty finished push parse bytesSent accepted writeLeg selected legOf lastLeg legsOf transferOf fill givenAnswer isStarted ackedSelect whenClosed note frameAnswer whenOpen waitAct waitStep waitRun refusedByState stateRefused isRefusal isFrame struck others otherAnswers AllShut isClosed
+unfolding computes selectRefused ends fresher isEmpty finished push parse bytesSent accepted writeLeg selectedLeg legOf lastLeg legsOf transferOf fill givenAnswer isStarted ackedSelect whenClosed note frameAnswer whenOpen waitAct waitStep waitRun refusedByState stateRefused isRefusal isFrame struck others otherAnswers AllShut isClosed
 agrees = tt

@@ -3,10 +3,10 @@ use mathlib.Core.Path.{_≡_, refl, sym, ap, subst, _∙_}
 use mathlib.Core.Bool.{true, false, false≢true}
 use mathlib.Core.List.{List, [], _∷_, _++_, append-assoc, append-nil}
 use Rattle.model.specs.Step.{transferOpen}
-use Rattle.model.specs.Claims.{Keeps}
+use Rattle.model.specs.Claims.{StepKeepsFit}
 use Rattle.model.proofs.Kept.{keeps}
-use Rattle.waiting.specs.Calls.{Call, Said, Device, Ran, entry, runBy}
-use Rattle.waiting.specs.Waiting.{Waiting, closed, inside, waitStep, waitRun}
+use Rattle.waiting.specs.Calls.{Call, CallAnswer, Device, RunResult, entry, runBy}
+use Rattle.waiting.specs.Waiting.{Waiting, noTransfer, inside, waitStep, waitRun}
 use Rattle.waiting.specs.Claim.{framesFit, isClosed, Agrees, EveryList, Demand3, EndsAlike}
 use Rattle.waiting.proofs.OneCall.{Fits}
 use Rattle.waiting.proofs.Struck.{first-fits, rest-fits, fits-next, judged, striking, all-shut}
@@ -19,7 +19,7 @@ record Follows (w : Waiting) (cs : List Call) : Type 0 where
   device : now (waitRun w cs) ≡ runBy entry (now w) cs .device
   answers : answers (waitRun w cs) ≡ answers w ++ runBy entry (now w) cs .answers
 
-module _ (kept : Keeps) where
+module _ (kept : StepKeepsFit) where
   follows : (cs : List Call) (w : Waiting) → framesFit cs ≡ true → Good w → Fits (now w) → Follows w cs
   unfolding waitRun runBy
   follows [] w b g f = record { good = g; device = refl; answers = sym (append-nil _) }
@@ -32,24 +32,24 @@ module _ (kept : Keeps) where
         good = r .good;
         device = r .device ∙ ap (λ (d : Device). runBy entry d cs .device) (p .device);
         answers = r .answers
-            ∙ ap (λ (l : List Said). l ++ runBy entry (now (waitStep w c)) cs .answers) (p .answers)
+            ∙ ap (λ (l : List CallAnswer). l ++ runBy entry (now (waitStep w c)) cs .answers) (p .answers)
             ∙ append-assoc (answers w) (e .says ∷ []) _
             ∙ ap (λ (d : Device). answers w ++ e .says ∷ runBy entry d cs .answers) (p .device);
       }
 
 -- with no transfer open it has answered all
-all-answered : (w : Waiting) (r : Ran) → now w ≡ r .device → answers w ≡ r .answers → isClosed w ≡ true → w ≡ closed (r .answers) (r .device)
+all-answered : (w : Waiting) (r : RunResult) → now w ≡ r .device → answers w ≡ r .answers → isClosed w ≡ true → w ≡ noTransfer (r .answers) (r .device)
 unfolding now answers isClosed
-all-answered (closed out k) r d a h = ap (λ (k : Device). closed out k) d ∙ ap (λ (out : List Said). closed out (r .device)) a
+all-answered (noTransfer out k) r d a h = ap (λ (k : Device). noTransfer out k) d ∙ ap (λ (out : List CallAnswer). noTransfer out (r .device)) a
 all-answered (inside out k n sl) r d a h = absurd (false≢true h)
 
-agreed-from : Keeps → EveryList (Agrees entry)
+agreed-from : StepKeepsFit → EveryList (Agrees entry)
 unfolding now answers
 agreed-from kept d cs range size frames shut end =
     let f : Fits d = record { range = range; size = size } in
-    let p = follows kept cs (closed [] d) frames shut f in
+    let p = follows kept cs (noTransfer [] d) frames shut f in
     record {
-      same = all-answered (waitRun (closed [] d) cs) (runBy entry d cs) (p .device) (p .answers) end;
+      same = all-answered (waitRun (noTransfer [] d) cs) (runBy entry d cs) (p .device) (p .answers) end;
       judged = judged kept cs d frames f;
       striking = striking kept cs d frames f;
       shut = all-shut kept cs (d .tag) d frames f (λ h. absurd (false≢true (sym shut ∙ h)));
@@ -66,12 +66,12 @@ demand-3 = agreed
 pub ends-shut : EveryList (λ (d : Device) (cs : List Call). transferOpen (runBy entry d cs .device .tag) ≡ false)
 unfolding now
 ends-shut d cs range size frames shut end =
-    let p = follows keeps cs (closed [] d) frames shut (record { range = range; size = size }) in
+    let p = follows keeps cs (noTransfer [] d) frames shut (record { range = range; size = size }) in
     subst Good (agreed d cs range size frames shut end .same) (p .good)
 
 is-closed : (w : Waiting) (d : Device) → Good w → now w ≡ d → transferOpen (d .tag) ≡ false → isClosed w ≡ true
 unfolding now isClosed
-is-closed (closed out k) d g e h = refl
+is-closed (noTransfer out k) d g e h = refl
 is-closed (inside out k n sl) d g e h =
     absurd (false≢true (sym h ∙ ap (λ (d : Device). transferOpen (d .tag)) (sym e) ∙ g .state .bus))
 
@@ -79,5 +79,5 @@ pub ends-alike : EndsAlike
 unfolding now
 ends-alike d cs range size frames shut end =
     let f : Fits d = record { range = range; size = size } in
-    let p = follows keeps cs (closed [] d) frames shut f in
-    is-closed (waitRun (closed [] d) cs) (runBy entry d cs .device) (p .good) (p .device) end
+    let p = follows keeps cs (noTransfer [] d) frames shut f in
+    is-closed (waitRun (noTransfer [] d) cs) (runBy entry d cs .device) (p .good) (p .device) end

@@ -19,12 +19,12 @@ use Rattle.tag.specs.Layout.{replyBytes}
 use Rattle.tag.specs.Radio.{fieldAt}
 use Rattle.tag.specs.Supply.{vccAt}
 use Rattle.leg.specs.Effect.{withHost}
-use Rattle.signal.specs.declared.Signal.{Signal as WireSignal}
-use Rattle.signal.specs.declared.Signal.the-variants.{Start as SignalStart, Send as SignalSend, Fetch as SignalFetch, Stop as SignalStop, Vcc as SignalVcc, ProgrammingEnd as SignalProgrammingEnd}
-use Rattle.signal.specs.Signal.{Ended, sideBus, programmed, signalOf}
+use Rattle.signal.specs.declared.WireSignal.{WireSignal}
+use Rattle.signal.specs.declared.WireSignal.the-variants.{Start, Send, Fetch, Stop, Vcc, ProgrammingEnd}
+use Rattle.signal.specs.Signal.{WireResult, sideBus, programmed, signalOf}
 use Rattle.signal.proofs.Line.{registers-stay}
-use Rattle.transfer.specs.Legs.{Noted, Start, Send, Fetch, Stop, VccOff, wireSignal, ends, finished}
-use Rattle.transfer.specs.Whole.{Ran, ran, transferOf}
+use Rattle.transfer.specs.Legs.{Noted, NotedStart, NotedSend, NotedFetch, NotedStop, NotedVccOff, wireSignal, ends, finished}
+use Rattle.transfer.specs.Whole.{TransferResult, transferResult, transferOf}
 use Rattle.transfer.specs.Claim.{runOf, Ready}
 use Rattle.transfer.proofs.Transfer.{demand-2}
 use Rattle.model.specs.declared.Refusal.the-variants.{ReplyShort, SignalUnknown}
@@ -32,29 +32,29 @@ use Rattle.model.specs.declared.Answer.the-variants.{Refused, Nothing}
 use Rattle.model.specs.declared.Signal.{Signal}
 use Rattle.model.specs.declared.Signal.the-variants.{Wire, Field, Frame}
 use Rattle.model.specs.Signals.{signalInRange, signalBy}
-use Rattle.model.specs.Step.{fromWire, wireSide, withWire, withAir, transferOpen, actOf}
-use Rattle.waiting.specs.Calls.{Call, Said, said, Device, device, Done, done, entry}
-use Rattle.waiting.specs.Waiting.{Slot, given, waits, fill, Waiting, closed, inside, answered, isStarted, ackedSelect, atOnce, acts, whenClosed, note, frameAnswer, notes, whenOpen, waitAct, waitStep}
-use Rattle.waiting.specs.Claim.{spoken}
+use Rattle.model.specs.Step.{fromWire, wireSide, withWire, withTagAir, transferOpen, actOf}
+use Rattle.waiting.specs.Calls.{Call, CallAnswer, callAnswer, Device, device, DeviceResult, deviceResult, entry}
+use Rattle.waiting.specs.Waiting.{Slot, given, waits, fill, Waiting, noTransfer, inside, answered, isStarted, ackedSelect, atOnce, acts, whenClosed, note, frameAnswer, notes, whenOpen, waitAct, waitStep}
+use Rattle.waiting.specs.Claim.{callReply}
 use Rattle.waiting.proofs.OpenStep.{Open, Going, going, opens, stays-shut, Selects, selects, first-goes}
 use Rattle.waiting.proofs.Lists.{run-snoc, run-length, On, here, more, on-snoc, on-finished, waiting, waiting-waits, waiting-given, fill-waits, fill-given}
 use Rattle.waiting.proofs.OneCall.{Fits, call-is, actedBy, shutBy, frame-shut, frame-waits, supplied}
 
 -- ---- where the tag by signals stands
-abbrev pub running : Device → List Noted → Ran
+abbrev pub running : Device → List Noted → TransferResult
 running k n = runOf (wireSide (k .tag)) (k .tag .uid) (k .memory) n
 
 -- the kept tag with a wire side and memory
-abbrev pub after : Device → Ran → Device
+abbrev pub after : Device → TransferResult → Device
 after k r = device (withWire (r .side) (k .tag)) (r .memory)
 
 unfoldable pub now : Waiting → Device
-now (closed out k) = k
+now (noTransfer out k) = k
 now (inside out k n sl) = after k (running k n)
 
 -- what it answered, the answers that still wait being those of the run
-unfoldable pub answers : Waiting → List Said
-answers (closed out k) = out
+unfoldable pub answers : Waiting → List CallAnswer
+answers (noTransfer out k) = out
 answers (inside out k n sl) = out ++ fill sl (running k n .answers)
 
 -- in a transfer: the kept tag stood before an Acked select, a place waits for each noted signal, none of which ended the transfer,
@@ -70,11 +70,11 @@ pub record Inside (k : Device) (n : List Noted) (sl : List Slot) : Type 0 where
 
 -- what holds of the waiting tag at every call
 abbrev pub Good : Waiting → Type 0
-Good (closed out k) = transferOpen (k .tag) ≡ false
+Good (noTransfer out k) = transferOpen (k .tag) ≡ false
 Good (inside out k n sl) = Inside k n sl
 
 -- w′ is w after a call that leaves e
-pub record Stepped (w w′ : Waiting) (e : Done) : Type 0 where
+pub record Stepped (w w′ : Waiting) (e : DeviceResult) : Type 0 where
   pub good : Good w′
   pub device : now w′ ≡ e .device
   pub answers : answers w′ ≡ answers w ++ e .says ∷ []
@@ -84,62 +84,62 @@ open-still : (fresh : Bool) (s : Noted) (h : Host) → Going fresh s h → ends 
 open-still fresh s h g e = record { vcc = g .vcc e; still = g .still e; bus = g .over ∙ ap not e }
 
 -- ---- no transfer open
-at-once : (out : List Said) (k : Device) (e : Done) → transferOpen (e .device .tag) ≡ false → Stepped (closed out k) (atOnce out e) e
+at-once : (out : List CallAnswer) (k : Device) (e : DeviceResult) → transferOpen (e .device .tag) ≡ false → Stepped (noTransfer out k) (atOnce out e) e
 unfolding now answers
 at-once out k e h = record { good = h; device = refl; answers = refl }
 
-acts-shut : (x : WireSignal) (out : List Said) (k : Device) (c : Call) → transferOpen (k .tag) ≡ false → opens (k .tag .host) x ≡ false
-    → Stepped (closed out k) (acts out k (Wire x) c) (actedBy (Wire x) k c)
+acts-shut : (x : WireSignal) (out : List CallAnswer) (k : Device) (c : Call) → transferOpen (k .tag) ≡ false → opens (k .tag .host) x ≡ false
+    → Stepped (noTransfer out k) (acts out k (Wire x) c) (actedBy (Wire x) k c)
 unfolding actOf
 acts-shut x out k c h q = at-once out k (actedBy (Wire x) k c) (stays-shut (wireSide (k .tag)) (k .tag .uid) (k .memory) x h q)
 
 -- an Acked select
-first-inside : (k : Device) (o : List ℕ) (x : ℕ) → Fits k → Selects (k .tag .host) x → Inside k (Send x ∷ []) (waits o ∷ [])
+first-inside : (k : Device) (o : List ℕ) (x : ℕ) → Fits k → Selects (k .tag .host) x → Inside k (NotedSend x ∷ []) (waits o ∷ [])
 unfolding runOf wireSignal waiting
 first-inside k o x f s =
     let g = first-goes (wireSide (k .tag)) (k .tag .uid) (k .memory) x s in
-    let opened = open-still true (Send x) _ g (s .goes) in
+    let opened = open-still true (NotedSend x) _ g (s .goes) in
     record {
       ready = record { vcc = s .vcc; still = s .still; bytes = f .size };
       before = s .before;
       at = s .at;
       places = refl;
       state = opened;
-      on = subst (On true (Send x ∷ [])) (sym (g .fresh-is (s .goes))) (more (s .goes) here);
-      registers = registers-stay (wireSide (k .tag)) (k .tag .uid) (k .memory) (SignalSend x) (supplied (k .tag) (k .memory) f) (opened .bus);
+      on = subst (On true (NotedSend x ∷ [])) (sym (g .fresh-is (s .goes))) (more (s .goes) here);
+      registers = registers-stay (wireSide (k .tag)) (k .tag .uid) (k .memory) (Send x) (supplied (k .tag) (k .memory) f) (opened .bus);
     }
 
-from-select : (out : List Said) (k : Device) (c : Call) (x : ℕ) → Fits k → Selects (k .tag .host) x
-    → Stepped (closed out k) (inside out k (Send x ∷ []) (waits (c .buffer) ∷ [])) (actedBy (Wire (SignalSend x)) k c)
+from-select : (out : List CallAnswer) (k : Device) (c : Call) (x : ℕ) → Fits k → Selects (k .tag .host) x
+    → Stepped (noTransfer out k) (inside out k (NotedSend x ∷ []) (waits (c .buffer) ∷ [])) (actedBy (Wire (Send x)) k c)
 unfolding now answers actOf runOf wireSignal fill
 from-select out k c x f s = record { good = first-inside k (c .buffer) x f s; device = refl; answers = refl }
 
-from-send : (out : List Said) (k : Device) (c : Call) (x : ℕ) → Fits k → transferOpen (k .tag) ≡ false
-    → Stepped (closed out k) (pick (ackedSelect (k .tag .host) x) (inside out k (Send x ∷ []) (waits (c .buffer) ∷ [])) (acts out k (Wire (SignalSend x)) c))
-    (actedBy (Wire (SignalSend x)) k c)
+from-send : (out : List CallAnswer) (k : Device) (c : Call) (x : ℕ) → Fits k → transferOpen (k .tag) ≡ false
+    → Stepped (noTransfer out k) (pick (ackedSelect (k .tag .host) x) (inside out k (NotedSend x ∷ []) (waits (c .buffer) ∷ [])) (acts out k (Wire (Send x)) c))
+    (actedBy (Wire (Send x)) k c)
 unfolding opens
 from-send out k c x f h =
-    pick-case (λ (w : Waiting). Stepped (closed out k) w (actedBy (Wire (SignalSend x)) k c)) (ackedSelect (k .tag .host) x) _ _
-    (λ t. from-select out k c x f (selects (k .tag .host) x t)) (λ t. acts-shut (SignalSend x) out k c h t)
+    pick-case (λ (w : Waiting). Stepped (noTransfer out k) w (actedBy (Wire (Send x)) k c)) (ackedSelect (k .tag .host) x) _ _
+    (λ t. from-select out k c x f (selects (k .tag .host) x t)) (λ t. acts-shut (Send x) out k c h t)
 
-by-air : (out : List Said) (k : Device) (c : Call) (on : Bool) → transferOpen (k .tag) ≡ false
-    → Stepped (closed out k) (acts out k (Field on) c) (actedBy (Field on) k c)
+by-air : (out : List CallAnswer) (k : Device) (c : Call) (on : Bool) → transferOpen (k .tag) ≡ false
+    → Stepped (noTransfer out k) (acts out k (Field on) c) (actedBy (Field on) k c)
 unfolding actOf
 by-air out k c on h = at-once out k (actedBy (Field on) k c) h
 
-by-frame : (out : List Said) (k : Device) (c : Call) → transferOpen (k .tag) ≡ false → Stepped (closed out k) (acts out k Frame c) (actedBy Frame k c)
+by-frame : (out : List CallAnswer) (k : Device) (c : Call) → transferOpen (k .tag) ≡ false → Stepped (noTransfer out k) (acts out k Frame c) (actedBy Frame k c)
 unfolding actOf
 by-frame out k c h = at-once out k (actedBy Frame k c) h
 
-from-closed : (out : List Said) (k : Device) (x : Signal) (c : Call) → Fits k → transferOpen (k .tag) ≡ false
-    → Stepped (closed out k) (whenClosed out k x c) (actedBy x k c)
+from-closed : (out : List CallAnswer) (k : Device) (x : Signal) (c : Call) → Fits k → transferOpen (k .tag) ≡ false
+    → Stepped (noTransfer out k) (whenClosed out k x c) (actedBy x k c)
 unfolding whenClosed opens
-from-closed out k (Wire (SignalSend x)) c f h = from-send out k c x f h
-from-closed out k (Wire SignalStart) c f h = acts-shut SignalStart out k c h refl
-from-closed out k (Wire (SignalFetch ack)) c f h = acts-shut (SignalFetch ack) out k c h refl
-from-closed out k (Wire SignalStop) c f h = acts-shut SignalStop out k c h refl
-from-closed out k (Wire (SignalVcc on)) c f h = acts-shut (SignalVcc on) out k c h refl
-from-closed out k (Wire SignalProgrammingEnd) c f h = acts-shut SignalProgrammingEnd out k c h refl
+from-closed out k (Wire (Send x)) c f h = from-send out k c x f h
+from-closed out k (Wire Start) c f h = acts-shut Start out k c h refl
+from-closed out k (Wire (Fetch ack)) c f h = acts-shut (Fetch ack) out k c h refl
+from-closed out k (Wire Stop) c f h = acts-shut Stop out k c h refl
+from-closed out k (Wire (Vcc on)) c f h = acts-shut (Vcc on) out k c h refl
+from-closed out k (Wire ProgrammingEnd) c f h = acts-shut ProgrammingEnd out k c h refl
 from-closed out k (Field on) c f h = by-air out k c on h
 from-closed out k Frame c f h = by-frame out k c h
 
@@ -153,22 +153,22 @@ programmed-again : (w : WireSide) → w .host .programming ≡ false → program
 programmed-again w p =
     ap (λ (b : Bool). withHost (record { vcc = w .host .vcc; session = w .host .session; programming = b; counter = w .host .counter; bus = w .host .bus }) w) (sym p)
 
-module _ (out : List Said) (k : Device) (n : List Noted) (sl : List Slot) (g : Inside k n sl) where
+module _ (out : List CallAnswer) (k : Device) (n : List Noted) (sl : List Slot) (g : Inside k n sl) where
   -- the signal s after those of the list
-  abbrev next : Noted → Ended
+  abbrev next : Noted → WireResult
   next s = signalOf (running k n .side) (k .tag .uid) (running k n .memory) (wireSignal s)
 
   filled : waiting sl ≡ length (running k n .answers)
   filled = g .places ∙ sym (run-length n (wireSide (k .tag)) (k .tag .uid) (k .memory))
 
-  snoc : (s : Noted) → running k (n ++ s ∷ []) ≡ ran (running k n .answers ++ next s .answer ∷ []) (next s .side) (next s .memory)
+  snoc : (s : Noted) → running k (n ++ s ∷ []) ≡ transferResult (running k n .answers ++ next s .answer ∷ []) (next s .side) (next s .memory)
   snoc s = run-snoc (wireSide (k .tag)) (k .tag .uid) (k .memory) n s
 
-  grown : (s : Noted) (o : List ℕ) (r : Ran) → r ≡ running k (n ++ s ∷ [])
-      → out ++ fill (sl ++ waits o ∷ []) (r .answers) ≡ out ++ fill sl (running k n .answers) ++ said (fromWire (next s .answer)) o ∷ []
+  grown : (s : Noted) (o : List ℕ) (r : TransferResult) → r ≡ running k (n ++ s ∷ [])
+      → out ++ fill (sl ++ waits o ∷ []) (r .answers) ≡ out ++ fill sl (running k n .answers) ++ callAnswer (fromWire (next s .answer)) o ∷ []
   grown s o r h =
-      ap (λ (r : Ran). out ++ fill (sl ++ waits o ∷ []) (r .answers)) (h ∙ snoc s)
-      ∙ ap (λ (l : List Said). out ++ l) (fill-waits sl (running k n .answers) o (next s .answer) filled)
+      ap (λ (r : TransferResult). out ++ fill (sl ++ waits o ∷ []) (r .answers)) (h ∙ snoc s)
+      ∙ ap (λ (l : List CallAnswer). out ++ l) (fill-waits sl (running k n .answers) o (next s .answer) filled)
       ∙ sym (append-assoc out _ _)
 
   whole-here : (s : Noted) → finished true (n ++ s ∷ []) ≡ true
@@ -180,13 +180,13 @@ module _ (out : List Said) (k : Device) (n : List Noted) (sl : List Slot) (g : I
   -- the signal ends the transfer
   ended : (s : Noted) (c : Call) → finished true (n ++ s ∷ []) ≡ true
       → (let r = transferOf (wireSide (k .tag)) (k .tag .uid) (k .memory) (n ++ s ∷ []) in
-      Stepped (inside out k n sl) (closed (out ++ fill (sl ++ waits (c .buffer) ∷ []) (r .answers)) (after k r))
+      Stepped (inside out k n sl) (noTransfer (out ++ fill (sl ++ waits (c .buffer) ∷ []) (r .answers)) (after k r))
       (actedBy (Wire (wireSignal s)) (now (inside out k n sl)) c))
   unfolding now answers actOf
   ended s c q =
       let e = going (running k n .side) (k .tag .uid) (running k n .memory) s (g .state) in
       record {
-        good = ap (λ (r : Ran). isOpen (r .side .host .bus)) (whole-here s q ∙ snoc s) ∙ e .over ∙ ap not (sym (on-finished (g .on) s) ∙ q);
+        good = ap (λ (r : TransferResult). isOpen (r .side .host .bus)) (whole-here s q ∙ snoc s) ∙ e .over ∙ ap not (sym (on-finished (g .on) s) ∙ q);
         device = ap (after k) (whole-here s q ∙ snoc s);
         answers = grown s (c .buffer) _ (whole-here s q);
       }
@@ -203,10 +203,10 @@ module _ (out : List Said) (k : Device) (n : List Noted) (sl : List Slot) (g : I
         before = g .before;
         at = g .at;
         places = waiting-waits sl o ∙ omega (arith, g .places, length-append n (s ∷ []));
-        state = subst (λ (r : Ran). Open (r .side .host)) (sym (snoc s)) opened;
-        on = subst (λ (r : Ran). On true (n ++ s ∷ []) (isStarted (r .side .host .bus))) (sym (snoc s))
+        state = subst (λ (r : TransferResult). Open (r .side .host)) (sym (snoc s)) opened;
+        on = subst (λ (r : TransferResult). On true (n ++ s ∷ []) (isStarted (r .side .host .bus))) (sym (snoc s))
             (subst (On true (n ++ s ∷ [])) (sym (e .fresh-is z)) (on-snoc (g .on) s z));
-        registers = ap (λ (r : Ran). r .side .core .registers) (snoc s)
+        registers = ap (λ (r : TransferResult). r .side .core .registers) (snoc s)
             ∙ registers-stay (running k n .side) (k .tag .uid) (running k n .memory) (wireSignal s) (supplied _ _ f) (opened .bus)
             ∙ g .registers;
       }
@@ -224,71 +224,71 @@ module _ (out : List Said) (k : Device) (n : List Noted) (sl : List Slot) (g : I
       (λ t. ended s c t) (λ t. goes-on s c f t)
 
   -- a call that changes the air at most, and is answered at once
-  given-at-once : (a : Air) (x : Said)
-      → Stepped (inside out k n sl) (inside out (device (withAir a (k .tag)) (k .memory)) n (sl ++ given x ∷ []))
-      (done x (after (device (withAir a (k .tag)) (k .memory)) (running k n)))
+  given-at-once : (a : Air) (x : CallAnswer)
+      → Stepped (inside out k n sl) (inside out (device (withTagAir a (k .tag)) (k .memory)) n (sl ++ given x ∷ []))
+      (deviceResult x (after (device (withTagAir a (k .tag)) (k .memory)) (running k n)))
   unfolding now answers
   given-at-once a x = record {
     good = record { ready = g .ready; before = g .before; at = g .at; places = waiting-given sl x ∙ g .places; state = g .state; on = g .on; registers = g .registers };
     device = refl;
-    answers = ap (λ (l : List Said). out ++ l) (fill-given sl (running k n .answers) x filled) ∙ sym (append-assoc out _ _);
+    answers = ap (λ (l : List CallAnswer). out ++ l) (fill-given sl (running k n .answers) x filled) ∙ sym (append-assoc out _ _);
   }
 
   -- .. by the entry point too
-  given-as : (x : Said) (e : Done) → e ≡ done x (now (inside out k n sl)) → Stepped (inside out k n sl) (answered (inside out k n sl) x) e
+  given-as : (x : CallAnswer) (e : DeviceResult) → e ≡ deviceResult x (now (inside out k n sl)) → Stepped (inside out k n sl) (answered (inside out k n sl) x) e
   unfolding now answered
   given-as x e h = subst (Stepped (inside out k n sl) (inside out k n (sl ++ given x ∷ []))) (sym h) (given-at-once (k .tag .air) x)
 
   field : (on : Bool) (c : Call)
       → Stepped (inside out k n sl) (whenOpen out k n sl (Field on) c) (actedBy (Field on) (now (inside out k n sl)) c)
   unfolding whenOpen answered now actOf
-  field on c = given-at-once (fieldAt on (k .tag .air)) (said Nothing (c .buffer))
+  field on c = given-at-once (fieldAt on (k .tag .air)) (callAnswer Nothing (c .buffer))
 
-  vcc : (c : Call) → actedBy (Wire (SignalVcc true)) (now (inside out k n sl)) c ≡ done (said Nothing (c .buffer)) (now (inside out k n sl))
+  vcc : (c : Call) → actedBy (Wire (Vcc true)) (now (inside out k n sl)) c ≡ deviceResult (callAnswer Nothing (c .buffer)) (now (inside out k n sl))
   unfolding now actOf signalOf fromWire
   vcc c =
-      ap (λ (w : WireSide). done (said Nothing (c .buffer)) (device (withWire w (k .tag)) (running k n .memory))) (vcc-again (running k n .side) (g .state .vcc))
+      ap (λ (w : WireSide). deviceResult (callAnswer Nothing (c .buffer)) (device (withWire w (k .tag)) (running k n .memory))) (vcc-again (running k n .side) (g .state .vcc))
 
   programming-end : (c : Call)
-      → actedBy (Wire SignalProgrammingEnd) (now (inside out k n sl)) c ≡ done (said Nothing (c .buffer)) (now (inside out k n sl))
+      → actedBy (Wire ProgrammingEnd) (now (inside out k n sl)) c ≡ deviceResult (callAnswer Nothing (c .buffer)) (now (inside out k n sl))
   unfolding now actOf signalOf fromWire
   programming-end c =
-      ap (λ (w : WireSide). done (said Nothing (c .buffer)) (device (withWire w (k .tag)) (running k n .memory))) (programmed-again (running k n .side) (g .state .still))
+      ap (λ (w : WireSide). deviceResult (callAnswer Nothing (c .buffer)) (device (withWire w (k .tag)) (running k n .memory))) (programmed-again (running k n .side) (g .state .still))
 
   -- RF_MNGT_Dyn is the kept tag's
-  frame : (c : Call) → actedBy Frame (now (inside out k n sl)) c ≡ done (frameAnswer k c) (now (inside out k n sl))
+  frame : (c : Call) → actedBy Frame (now (inside out k n sl)) c ≡ deviceResult (frameAnswer k c) (now (inside out k n sl))
   unfolding now
   frame c =
       frame-shut (after k (running k n)) c (g .state .bus)
-      ∙ ap (λ (r : Registers). done (spoken (shutBy (c .frame) (k .tag .air) (k .tag .uid) (r .dynamic)) (c .buffer)) (after k (running k n))) (g .registers)
-      ∙ ap (λ (x : Said). done x (after k (running k n))) (sym (frame-waits k c))
+      ∙ ap (λ (r : Registers). deviceResult (callReply (shutBy (c .frame) (k .tag .air) (k .tag .uid) (r .dynamic)) (c .buffer)) (after k (running k n))) (g .registers)
+      ∙ ap (λ (x : CallAnswer). deviceResult x (after k (running k n))) (sym (frame-waits k c))
 
   from-inside : (x : Signal) (c : Call) → Fits (now (inside out k n sl))
       → Stepped (inside out k n sl) (whenOpen out k n sl x c) (actedBy x (now (inside out k n sl)) c)
   unfolding whenOpen wireSignal
-  from-inside (Wire SignalStart) c f = noted Start c f
-  from-inside (Wire (SignalSend x)) c f = noted (Send x) c f
-  from-inside (Wire (SignalFetch ack)) c f = noted (Fetch ack) c f
-  from-inside (Wire SignalStop) c f = noted Stop c f
-  from-inside (Wire (SignalVcc false)) c f = noted VccOff c f
-  from-inside (Wire (SignalVcc true)) c f = given-as (said Nothing (c .buffer)) _ (vcc c)
-  from-inside (Wire SignalProgrammingEnd) c f = given-as (said Nothing (c .buffer)) _ (programming-end c)
+  from-inside (Wire Start) c f = noted NotedStart c f
+  from-inside (Wire (Send x)) c f = noted (NotedSend x) c f
+  from-inside (Wire (Fetch ack)) c f = noted (NotedFetch ack) c f
+  from-inside (Wire Stop) c f = noted NotedStop c f
+  from-inside (Wire (Vcc false)) c f = noted NotedVccOff c f
+  from-inside (Wire (Vcc true)) c f = given-as (callAnswer Nothing (c .buffer)) _ (vcc c)
+  from-inside (Wire ProgrammingEnd) c f = given-as (callAnswer Nothing (c .buffer)) _ (programming-end c)
   from-inside (Field on) c f = field on c
   from-inside Frame c f = given-as (frameAnswer k c) _ (frame c)
 
 -- ---- one call
 at-signal : (w : Waiting) (x : Signal) (c : Call) → Good w → Fits (now w) → Stepped w (waitAct w x c) (actedBy x (now w) c)
 unfolding waitAct now
-at-signal (closed out k) x c g f = from-closed out k x c f g
+at-signal (noTransfer out k) x c g f = from-closed out k x c f g
 at-signal (inside out k n sl) x c g f = from-inside out k n sl g x c f
 
-at-refusal : (w : Waiting) (a : Said) → Good w → Stepped w (answered w a) (done a (now w))
+at-refusal : (w : Waiting) (a : CallAnswer) → Good w → Stepped w (answered w a) (deviceResult a (now w))
 unfolding answered now
-at-refusal (closed out k) a g = at-once out k (done a k) g
+at-refusal (noTransfer out k) a g = at-once out k (deviceResult a k) g
 at-refusal (inside out k n sl) a g = given-at-once out k n sl g (k .tag .air) a
 
 -- both choose by the same test
-both : (w : Waiting) (b : Bool) (x y : Waiting) (d e : Done) → Stepped w x d → Stepped w y e → Stepped w (pick b x y) (pick b d e)
+both : (w : Waiting) (b : Bool) (x y : Waiting) (d e : DeviceResult) → Stepped w x d → Stepped w y e → Stepped w (pick b x y) (pick b d e)
 unfolding pick
 both w true x y d e p q = p
 both w false x y d e p q = q
@@ -297,6 +297,6 @@ pub stepped : (w : Waiting) (c : Call) → Good w → Fits (now w) → Stepped w
 unfolding waitStep
 stepped w c g f =
     subst (Stepped w (waitStep w c)) (sym (call-is (now w) c f))
-    (both w (ltb (length (c .buffer)) replyBytes) _ _ _ _ (at-refusal w (said (Refused ReplyShort) (c .buffer)) g)
-    (both w (not (signalInRange (c .code) (c .value))) _ _ _ _ (at-refusal w (said (Refused SignalUnknown) (c .buffer)) g)
+    (both w (ltb (length (c .buffer)) replyBytes) _ _ _ _ (at-refusal w (callAnswer (Refused ReplyShort) (c .buffer)) g)
+    (both w (not (signalInRange (c .code) (c .value))) _ _ _ _ (at-refusal w (callAnswer (Refused SignalUnknown) (c .buffer)) g)
     (at-signal w (signalBy (c .code) (c .value)) c g f)))

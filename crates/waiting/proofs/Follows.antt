@@ -17,8 +17,8 @@ use Rattle.model.specs.declared.Answer.the-variants.{Refused, Nothing, Ack, NoA
 use Rattle.model.specs.Signals.{signalBy}
 use Rattle.model.specs.Step.{fromRadio, transferOpen}
 use Rattle.model.proofs.Kept.{keeps}
-use Rattle.waiting.specs.Calls.{Call, Said, Device, Done, done, Step, Ran, ran, entry, runBy}
-use Rattle.waiting.specs.Claim.{framesFit, stateRefused, isRefusal, isFrame, struck, others, otherAnswers, spoken, shutReply, startAfter, EachStruck, Same, EveryList}
+use Rattle.waiting.specs.Calls.{Call, CallAnswer, Device, DeviceResult, deviceResult, Step, RunResult, runResult, entry, runBy}
+use Rattle.waiting.specs.Claim.{framesFit, stateRefused, isRefusal, isFrame, struck, others, otherAnswers, callReply, shutReply, startAfter, EachStruck, Same, EveryList}
 use Rattle.waiting.specs.Follows.{JudgedFollows, StrikingFollows, AnswersShut, RepliesShut, BytesFollow}
 use Rattle.waiting.proofs.OneCall.{Fits, struck-is}
 use Rattle.waiting.proofs.Struck.{first-fits, rest-fits, fits-next, RunsTo, by-test}
@@ -51,8 +51,8 @@ replyLength Silence = 0
 replyLength (Reply n) = n
 
 by-answer : (a b : Bool) (o : List ℕ)
-    → spoken (pick a nothing (fault ShutOut)) o .answer ≡ spoken (pick b nothing (fault ShutOut)) o .answer
-    → spoken (pick a nothing (fault ShutOut)) o ≡ spoken (pick b nothing (fault ShutOut)) o
+    → callReply (pick a nothing (fault ShutOut)) o .answer ≡ callReply (pick b nothing (fault ShutOut)) o .answer
+    → callReply (pick a nothing (fault ShutOut)) o ≡ callReply (pick b nothing (fault ShutOut)) o
 unfolding pick answerOf fromRadio replyLength
 by-answer true true o h = refl
 by-answer true false o h = let f : _≡_ {A = ℕ} 0 4 = ap replyLength h in absurd (omega arith)
@@ -89,13 +89,13 @@ module _ (step : Step) where
   next c cs s d b = record {
     fits = fits-next keeps d c (first-fits c cs (b .frames)) (b .fits);
     frames = rest-fits c cs (b .frames);
-    answers = ap (λ (l : List Said). drop 1 l) (b .answers);
+    answers = ap (λ (l : List CallAnswer). drop 1 l) (b .answers);
     shut = λ p q e h. b .shut (c ∷ p) q (ap (λ (l : List Call). c ∷ l) e) h;
   }
 
   says : (c : Call) (cs : List Call) (s d : Device) → Beside s d (c ∷ cs) → step s c .says ≡ entry d c .says
   unfolding runBy
-  says c cs s d b = ap (λ (l : List Said). getD l 0 (step s c .says)) (b .answers)
+  says c cs s d b = ap (λ (l : List CallAnswer). getD l 0 (step s c .says)) (b .answers)
 
   opened : (c : Call) (cs : List Call) (s d : Device) → Beside s d (c ∷ cs) → transferOpen (s .tag) ≡ true → transferOpen (d .tag) ≡ true
   unfolding runBy
@@ -114,10 +114,10 @@ module _ (step : Step) where
       let both = and-left (transferOpen (s .tag) && frame) unrefused h in
       and-both (transferOpen (d .tag) && frame) (not (isRefusal (entry d c .says .answer)))
       (and-both (transferOpen (d .tag)) frame (opened c cs s d b (and-left (transferOpen (s .tag)) frame both)) (and-right (transferOpen (s .tag)) frame both))
-      (ap (λ (a : Said). not (isRefusal (a .answer))) (sym (says c cs s d b)) ∙ and-right (transferOpen (s .tag) && frame) unrefused h)
+      (ap (λ (a : CallAnswer). not (isRefusal (a .answer))) (sym (says c cs s d b)) ∙ and-right (transferOpen (s .tag) && frame) unrefused h)
 
   struck-call : (c : Call) (cs : List Call) (s d : Device) → Beside s d (c ∷ cs) → struck step s c ≡ true
-      → entry d c ≡ done (spoken (shutReply (d .tag) (d .tag .air) (c .frame)) (c .buffer)) d
+      → entry d c ≡ deviceResult (callReply (shutReply (d .tag) (d .tag .air) (c .frame)) (c .buffer)) d
   struck-call c cs s d b h = struck-is d c (b .fits) (is-struck c cs s d b h)
 
   -- ---- frames may be struck out
@@ -129,9 +129,9 @@ module _ (step : Step) where
       let d2 = entry d c .device in
       let test = struck step s c in
       let rest = others step s2 cs in
-      let said = otherAnswers step s2 cs in
-      by-test test d c rest said (runBy entry d2 cs .device) (λ h. ap (λ (e : Done). e .device) (struck-call c cs s d b h)) (strikes cs s2 d2 (next c cs s d b))
-      ∙ ap (λ (a : Said). ran (pick test said (a ∷ said)) (runBy entry d2 cs .device)) (sym (says c cs s d b))
+      let callAnswer = otherAnswers step s2 cs in
+      by-test test d c rest callAnswer (runBy entry d2 cs .device) (λ h. ap (λ (e : DeviceResult). e .device) (struck-call c cs s d b h)) (strikes cs s2 d2 (next c cs s d b))
+      ∙ ap (λ (a : CallAnswer). runResult (pick test callAnswer (a ∷ callAnswer)) (runBy entry d2 cs .device)) (sym (says c cs s d b))
 
   others-fit : (cs : List Call) (s : Device) → framesFit cs ≡ true → framesFit (others step s cs) ≡ true
   unfolding others framesFit
@@ -148,8 +148,8 @@ module _ (step : Step) where
   bytes [] start s d b h = tt
   bytes (c ∷ cs) start s d b (h, hs) = (
     λ t.
-        let e = says c cs s d b ∙ ap (λ (e : Done). e .says) (struck-call c cs s d b t) in
-        e ∙ by-answer _ _ (c .buffer) (ap (λ (a : Said). a .answer) (sym e) ∙ h t),
+        let e = says c cs s d b ∙ ap (λ (e : DeviceResult). e .says) (struck-call c cs s d b t) in
+        e ∙ by-answer _ _ (c .buffer) (ap (λ (a : CallAnswer). a .answer) (sym e) ∙ h t),
     bytes cs (startAfter start (s .tag)) (step s c .device) (entry d c .device) (next c cs s d b) hs,
   )
 
@@ -159,12 +159,12 @@ striking-follows step all d cs range size frames shut end =
     let b = at-first step all d cs range size frames shut end in
     let e = strikes step cs d d b in
     let f = others-fit step cs d frames in
-    let open-not = ap (λ (r : Ran). transferOpen (r .device .tag)) e ∙ ends-shut d cs range size frames shut end in
+    let open-not = ap (λ (r : RunResult). transferOpen (r .device .tag)) e ∙ ends-shut d cs range size frames shut end in
     let left = alike step all d rest range size f shut (ends-alike d rest range size f shut open-not) in
-    ap (λ (l : List Said). ran l (runBy step d rest .device)) (left .answers)
-    ∙ ap (λ (x : Device). ran (runBy entry d rest .answers) x) (left .device)
+    ap (λ (l : List CallAnswer). runResult l (runBy step d rest .device)) (left .answers)
+    ∙ ap (λ (x : Device). runResult (runBy entry d rest .answers) x) (left .device)
     ∙ e
-    ∙ ap (λ (x : Device). ran (otherAnswers step d cs) x) (sym (alike step all d cs range size frames shut end .device))
+    ∙ ap (λ (x : Device). runResult (otherAnswers step d cs) x) (sym (alike step all d cs range size frames shut end .device))
 
 pub bytes-follow : BytesFollow
 bytes-follow step all d cs range size frames shut end h =

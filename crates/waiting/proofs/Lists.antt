@@ -9,21 +9,21 @@ use Rattle.parts.specs.Pick.{pick}
 use Rattle.parts.proofs.Picks.{pick-false}
 use Rattle.tag.specs.declared.WireSide.{WireSide}
 use Rattle.tag.specs.declared.Uid.{Uid}
-use Rattle.signal.specs.declared.Answer.{Answer as WireAnswer}
+use Rattle.signal.specs.declared.WireAnswer.{WireAnswer}
 use Rattle.signal.specs.Signal.{signalOf}
 use Rattle.transfer.specs.Legs.{Noted, wireSignal, ends, fresher, isEmpty, finished}
-use Rattle.transfer.specs.Whole.{ran}
+use Rattle.transfer.specs.Whole.{transferResult}
 use Rattle.transfer.specs.Claim.{runOf}
 use Rattle.transfer.proofs.Run.{run-append}
 use Rattle.model.specs.Step.{fromWire}
-use Rattle.waiting.specs.Calls.{Said, said}
+use Rattle.waiting.specs.Calls.{CallAnswer, callAnswer}
 use Rattle.waiting.specs.Waiting.{Slot, given, waits, fill}
 
 -- ---- runs
 -- a run with one signal more
 pub run-snoc : (w : WireSide) (u : Uid) (m : List ℕ) (n : List Noted) (s : Noted)
     → runOf w u m (n ++ s ∷ [])
-    ≡ (let r = runOf w u m n in let e = signalOf (r .side) u (r .memory) (wireSignal s) in ran (r .answers ++ e .answer ∷ []) (e .side) (e .memory))
+    ≡ (let r = runOf w u m n in let e = signalOf (r .side) u (r .memory) (wireSignal s) in transferResult (r .answers ++ e .answer ∷ []) (e .side) (e .memory))
 unfolding runOf
 run-snoc w u m n s = run-append n (s ∷ []) w u m
 
@@ -65,7 +65,7 @@ waiting-waits [] o = refl
 waiting-waits (given a ∷ sl) o = waiting-waits sl o
 waiting-waits (waits p ∷ sl) o = ap suc (waiting-waits sl o)
 
-pub waiting-given : (sl : List Slot) (a : Said) → waiting (sl ++ given a ∷ []) ≡ waiting sl
+pub waiting-given : (sl : List Slot) (a : CallAnswer) → waiting (sl ++ given a ∷ []) ≡ waiting sl
 unfolding waiting
 waiting-given [] a = refl
 waiting-given (given b ∷ sl) a = waiting-given sl a
@@ -73,18 +73,18 @@ waiting-given (waits p ∷ sl) a = ap suc (waiting-given sl a)
 
 -- one more that waits, with its answer; one more that is given
 pub fill-waits : (sl : List Slot) (xs : List WireAnswer) (o : List ℕ) (x : WireAnswer) → waiting sl ≡ length xs
-    → fill (sl ++ waits o ∷ []) (xs ++ x ∷ []) ≡ fill sl xs ++ said (fromWire x) o ∷ []
+    → fill (sl ++ waits o ∷ []) (xs ++ x ∷ []) ≡ fill sl xs ++ callAnswer (fromWire x) o ∷ []
 unfolding fill waiting
 fill-waits [] [] o x h = refl
 fill-waits [] (y ∷ xs) o x h = absurd (omega arith)
-fill-waits (given b ∷ sl) xs o x h = ap (λ (l : List Said). b ∷ l) (fill-waits sl xs o x h)
+fill-waits (given b ∷ sl) xs o x h = ap (λ (l : List CallAnswer). b ∷ l) (fill-waits sl xs o x h)
 fill-waits (waits p ∷ sl) [] o x h = absurd (omega arith)
-fill-waits (waits p ∷ sl) (y ∷ xs) o x h = ap (λ (l : List Said). said (fromWire y) p ∷ l) (fill-waits sl xs o x (omega arith))
+fill-waits (waits p ∷ sl) (y ∷ xs) o x h = ap (λ (l : List CallAnswer). callAnswer (fromWire y) p ∷ l) (fill-waits sl xs o x (omega arith))
 
-pub fill-given : (sl : List Slot) (xs : List WireAnswer) (a : Said) → waiting sl ≡ length xs → fill (sl ++ given a ∷ []) xs ≡ fill sl xs ++ a ∷ []
+pub fill-given : (sl : List Slot) (xs : List WireAnswer) (a : CallAnswer) → waiting sl ≡ length xs → fill (sl ++ given a ∷ []) xs ≡ fill sl xs ++ a ∷ []
 unfolding fill waiting
 fill-given [] [] a h = refl
 fill-given [] (y ∷ xs) a h = absurd (omega arith)
-fill-given (given b ∷ sl) xs a h = ap (λ (l : List Said). b ∷ l) (fill-given sl xs a h)
+fill-given (given b ∷ sl) xs a h = ap (λ (l : List CallAnswer). b ∷ l) (fill-given sl xs a h)
 fill-given (waits p ∷ sl) [] a h = absurd (omega arith)
-fill-given (waits p ∷ sl) (y ∷ xs) a h = ap (λ (l : List Said). said (fromWire y) p ∷ l) (fill-given sl xs a (omega arith))
+fill-given (waits p ∷ sl) (y ∷ xs) a h = ap (λ (l : List CallAnswer). callAnswer (fromWire y) p ∷ l) (fill-given sl xs a (omega arith))

@@ -19,13 +19,13 @@ use Rattle.tag.specs.Bus.{isOpen}
 use Rattle.tag.specs.Keys.{passwordAt, samePassword}
 use Rattle.tag.specs.Supply.{vccAt}
 use Rattle.rule.specs.declared.Choice.{Choice}
-use Rattle.rule.specs.declared.Choice.the-variants.{Refused, Reading, Writing}
+use Rattle.rule.specs.declared.Choice.the-variants.{NotAcked, Reading, Writing}
 use Rattle.rule.specs.Select.{selectOf, choose}
-use Rattle.leg.specs.Effect.{Left, Due, none, clears, writes, started, stopped, settle, legWritten, userWritten, systemWritten, passwordWritten}
-use Rattle.signal.specs.declared.Signal.{Signal}
-use Rattle.signal.specs.declared.Signal.the-variants.{Start as SignalStart, Send as SignalSend, Fetch as SignalFetch, Stop as SignalStop, Vcc as SignalVcc, ProgrammingEnd as SignalProgrammingEnd}
-use Rattle.signal.specs.Signal.{Ended, sideBus, dueOf, startAt, startOf, stopAt, selectBy, dataOf, sendAt, fetchAt, signalOf}
-use Rattle.transfer.specs.Legs.{Noted, Start, Send, Fetch, Stop, VccOff, wireSignal, isRefused, ends, fresher}
+use Rattle.leg.specs.Effect.{LegResult, Due, nothingDue, clears, writes, started, stopped, settle, legWritten, userWritten, systemWritten, passwordWritten}
+use Rattle.signal.specs.declared.WireSignal.{WireSignal}
+use Rattle.signal.specs.declared.WireSignal.the-variants.{Start as SignalStart, Send, Fetch, Stop as SignalStop, Vcc, ProgrammingEnd}
+use Rattle.signal.specs.Signal.{WireResult, sideBus, dueOf, startAt, startOf, stopAt, selectBy, dataOf, sendAt, fetchAt, signalOf}
+use Rattle.transfer.specs.Legs.{Noted, NotedStart, NotedSend, NotedFetch, NotedStop, NotedVccOff, wireSignal, selectRefused, ends, fresher}
 use Rattle.waiting.specs.Waiting.{isStarted, ackedSelect}
 
 -- a transfer is open: VCC is on and nothing is being programmed
@@ -56,53 +56,53 @@ on-at fresh s h e o f = record { over = o .bus ∙ ap not (sym e); vcc = λ n. o
 
 -- ---- a select
 by-choice : (x : ℕ) (c : Choice) (w : WireSide) (m : List ℕ) → selectOf x ≡ c → w .host .vcc ≡ true → w .host .programming ≡ false
-    → Going true (Send x) (selectBy c w m .side .host)
-unfolding selectBy ends fresher isOpen isStarted isRefused
-by-choice x Refused w m q v p = over-at true (Send x) _ (ap isRefused q) refl
-by-choice x (Reading s) w m q v p = on-at true (Send x) _ (ap isRefused q) (record { vcc = v; still = p; bus = refl }) refl
-by-choice x (Writing s) w m q v p = on-at true (Send x) _ (ap isRefused q) (record { vcc = v; still = p; bus = refl }) refl
+    → Going true (NotedSend x) (selectBy c w m .side .host)
+unfolding selectBy ends fresher isOpen isStarted selectRefused
+by-choice x NotAcked w m q v p = over-at true (NotedSend x) _ (ap selectRefused q) refl
+by-choice x (Reading s) w m q v p = on-at true (NotedSend x) _ (ap selectRefused q) (record { vcc = v; still = p; bus = refl }) refl
+by-choice x (Writing s) w m q v p = on-at true (NotedSend x) _ (ap selectRefused q) (record { vcc = v; still = p; bus = refl }) refl
 
 choose-ready : (x : ℕ) (v p : Bool) → v ≡ true → p ≡ false → choose v p x ≡ selectOf x
 unfolding choose
 choose-ready x v p h k = sym (pick-false _ _ _ _ (rw (h, k)) refl)
 
 -- ---- a byte sent, a byte fetched
-by-data : (s : Space) (k : ℕ) (w : WireSide) (m : List ℕ) (x : ℕ) → Open (w .host) → Going false (Send x) (dataOf s k w m x .side .host)
+by-data : (s : Space) (k : ℕ) (w : WireSide) (m : List ℕ) (x : ℕ) → Open (w .host) → Going false (NotedSend x) (dataOf s k w m x .side .host)
 unfolding dataOf ends fresher isOpen isStarted
 by-data s k w m x o =
-    pick-case (λ (r : Ended). Going false (Send x) (r .side .host)) _ _ _
-    (λ t. on-at false (Send x) _ refl (record { vcc = o .vcc; still = o .still; bus = refl }) refl)
-    (λ t. on-at false (Send x) _ refl (record { vcc = o .vcc; still = o .still; bus = refl }) refl)
+    pick-case (λ (r : WireResult). Going false (NotedSend x) (r .side .host)) _ _ _
+    (λ t. on-at false (NotedSend x) _ refl (record { vcc = o .vcc; still = o .still; bus = refl }) refl)
+    (λ t. on-at false (NotedSend x) _ refl (record { vcc = o .vcc; still = o .still; bus = refl }) refl)
 
-by-send : (b : Bus) (w : WireSide) (m : List ℕ) (x : ℕ) → w .host .bus ≡ b → Open (w .host) → Going (isStarted b) (Send x) (sendAt b w m x .side .host)
+by-send : (b : Bus) (w : WireSide) (m : List ℕ) (x : ℕ) → w .host .bus ≡ b → Open (w .host) → Going (isStarted b) (NotedSend x) (sendAt b w m x .side .host)
 unfolding sendAt ends fresher isOpen isStarted
 by-send Idle w m x e o = absurd (false≢true (sym (ap isOpen e) ∙ o .bus))
 by-send (Started t) w m x e o =
     by-choice x (choose (w .host .vcc) (w .host .programming) x) w m (sym (choose-ready x (w .host .vcc) (w .host .programming) (o .vcc) (o .still))) (o .vcc) (o .still)
-by-send (ReadLeg s over last) w m x e o = on-at false (Send x) _ refl o (ap isStarted e)
-by-send (WriteLeg s) w m x e o = on-at false (Send x) _ refl (record { vcc = o .vcc; still = o .still; bus = refl }) refl
-by-send (LowAddress s h) w m x e o = on-at false (Send x) _ refl (record { vcc = o .vcc; still = o .still; bus = refl }) refl
+by-send (ReadLeg s over last) w m x e o = on-at false (NotedSend x) _ refl o (ap isStarted e)
+by-send (WriteLeg s) w m x e o = on-at false (NotedSend x) _ refl (record { vcc = o .vcc; still = o .still; bus = refl }) refl
+by-send (LowAddress s h) w m x e o = on-at false (NotedSend x) _ refl (record { vcc = o .vcc; still = o .still; bus = refl }) refl
 by-send (DataLeg s k spoiled) w m x e o =
-    pick-case (λ (r : Ended). Going false (Send x) (r .side .host)) spoiled _ _
-    (λ t. on-at false (Send x) _ refl o (ap isStarted e)) (λ t. by-data s k w m x o)
+    pick-case (λ (r : WireResult). Going false (NotedSend x) (r .side .host)) spoiled _ _
+    (λ t. on-at false (NotedSend x) _ refl o (ap isStarted e)) (λ t. by-data s k w m x o)
 
 by-fetch : (b : Bus) (w : WireSide) (u : Uid) (m : List ℕ) (a : Bool) → w .host .bus ≡ b → Open (w .host)
-    → Going (isStarted b) (Fetch a) (fetchAt b w u m a .side .host)
+    → Going (isStarted b) (NotedFetch a) (fetchAt b w u m a .side .host)
 unfolding fetchAt ends fresher isOpen isStarted
 by-fetch Idle w u m a e o = absurd (false≢true (sym (ap isOpen e) ∙ o .bus))
-by-fetch (Started t) w u m a e o = on-at true (Fetch a) _ refl o (ap isStarted e)
+by-fetch (Started t) w u m a e o = on-at true (NotedFetch a) _ refl o (ap isStarted e)
 by-fetch (ReadLeg s over last) w u m a e o =
-    pick-case (λ (r : Ended). Going false (Fetch a) (r .side .host)) over _ _
-    (λ t. on-at false (Fetch a) _ refl o (ap isStarted e))
-    (λ t. on-at false (Fetch a) _ refl (record { vcc = o .vcc; still = o .still; bus = refl }) refl)
-by-fetch (WriteLeg s) w u m a e o = on-at false (Fetch a) _ refl o (ap isStarted e)
-by-fetch (LowAddress s h) w u m a e o = on-at false (Fetch a) _ refl o (ap isStarted e)
-by-fetch (DataLeg s k spoiled) w u m a e o = on-at false (Fetch a) _ refl o (ap isStarted e)
+    pick-case (λ (r : WireResult). Going false (NotedFetch a) (r .side .host)) over _ _
+    (λ t. on-at false (NotedFetch a) _ refl o (ap isStarted e))
+    (λ t. on-at false (NotedFetch a) _ refl (record { vcc = o .vcc; still = o .still; bus = refl }) refl)
+by-fetch (WriteLeg s) w u m a e o = on-at false (NotedFetch a) _ refl o (ap isStarted e)
+by-fetch (LowAddress s h) w u m a e o = on-at false (NotedFetch a) _ refl o (ap isStarted e)
+by-fetch (DataLeg s k spoiled) w u m a e o = on-at false (NotedFetch a) _ refl o (ap isStarted e)
 
 -- ---- a Start
 start-host : (d : Due) (w : WireSide) (m : List ℕ) → settle started d w m .side .host ≡ w .host
 unfolding settle
-start-host none w m = refl
+start-host nothingDue w m = refl
 start-host clears w m = refl
 start-host (writes s f xs) w m = refl
 
@@ -110,17 +110,17 @@ started-host : (w : WireSide) (m : List ℕ) → startAt (w .host .bus) w m .sid
 unfolding startAt
 started-host w m = start-host (dueOf (w .host .bus) (w .host .counter) m) (sideBus (Started (isOpen (w .host .bus))) w) m
 
-by-start : (w : WireSide) (m : List ℕ) → Open (w .host) → Going (isStarted (w .host .bus)) Start (startOf w m .side .host)
+by-start : (w : WireSide) (m : List ℕ) → Open (w .host) → Going (isStarted (w .host .bus)) NotedStart (startOf w m .side .host)
 unfolding startOf ends fresher isOpen isStarted
 by-start w m o =
-    pick-case (λ (r : Ended). Going (isStarted (w .host .bus)) Start (r .side .host)) (w .host .vcc) _ _
-    (λ t. subst (Going (isStarted (w .host .bus)) Start) (sym (started-host w m))
-    (on-at (isStarted (w .host .bus)) Start _ refl (record { vcc = o .vcc; still = o .still; bus = o .bus }) refl))
+    pick-case (λ (r : WireResult). Going (isStarted (w .host .bus)) NotedStart (r .side .host)) (w .host .vcc) _ _
+    (λ t. subst (Going (isStarted (w .host .bus)) NotedStart) (sym (started-host w m))
+    (on-at (isStarted (w .host .bus)) NotedStart _ refl (record { vcc = o .vcc; still = o .still; bus = o .bus }) refl))
     (λ t. absurd (false≢true (sym t ∙ o .vcc)))
 
 -- ---- a Stop, VCC off
 module _ (w : WireSide) (m : List ℕ) where
-  abbrev Same : Left → Type 0
+  abbrev Same : LegResult → Type 0
   Same d = d .side .host .bus ≡ w .host .bus
 
   user-bus : (f : ℕ) (bs : List ℕ) → Same (userWritten w m f bs)
@@ -143,7 +143,7 @@ module _ (w : WireSide) (m : List ℕ) where
 
   settle-bus : (d : Due) → Same (settle stopped d w m)
   unfolding settle
-  settle-bus none = refl
+  settle-bus nothingDue = refl
   settle-bus clears = refl
   settle-bus (writes s f bs) = leg-bus s f bs
 
@@ -161,36 +161,36 @@ off-shut w v =
 pub going : (w : WireSide) (u : Uid) (m : List ℕ) (s : Noted) → Open (w .host)
     → Going (isStarted (w .host .bus)) s (signalOf w u m (wireSignal s) .side .host)
 unfolding signalOf wireSignal ends
-going w u m Start o = by-start w m o
-going w u m (Send x) o = by-send (w .host .bus) w m x refl o
-going w u m (Fetch a) o = by-fetch (w .host .bus) w u m a refl o
-going w u m Stop o = over-at _ Stop _ refl (stop-shut w m)
-going w u m VccOff o = over-at _ VccOff _ refl (off-shut w (o .vcc))
+going w u m NotedStart o = by-start w m o
+going w u m (NotedSend x) o = by-send (w .host .bus) w m x refl o
+going w u m (NotedFetch a) o = by-fetch (w .host .bus) w u m a refl o
+going w u m NotedStop o = over-at _ NotedStop _ refl (stop-shut w m)
+going w u m NotedVccOff o = over-at _ NotedVccOff _ refl (off-shut w (o .vcc))
 
 -- ---- no transfer open
 -- the signal is an Acked select
-unfoldable pub opens : Host → Signal → Bool
+unfoldable pub opens : Host → WireSignal → Bool
 opens h SignalStart = false
-opens h (SignalSend x) = ackedSelect h x
-opens h (SignalFetch ack) = false
+opens h (Send x) = ackedSelect h x
+opens h (Fetch ack) = false
 opens h SignalStop = false
-opens h (SignalVcc on) = false
-opens h SignalProgrammingEnd = false
+opens h (Vcc on) = false
+opens h ProgrammingEnd = false
 
 shut-start : (w : WireSide) (m : List ℕ) → isOpen (w .host .bus) ≡ false → isOpen (startOf w m .side .host .bus) ≡ false
 unfolding startOf isOpen
 shut-start w m h =
-    pick-case (λ (r : Ended). isOpen (r .side .host .bus) ≡ false) (w .host .vcc) _ _
+    pick-case (λ (r : WireResult). isOpen (r .side .host .bus) ≡ false) (w .host .vcc) _ _
     (λ t. ap (λ (x : Host). isOpen (x .bus)) (started-host w m) ∙ h) (λ t. h)
 
-shut-select : (c : Choice) (w : WireSide) (m : List ℕ) → not (isRefused c) ≡ false → isOpen (selectBy c w m .side .host .bus) ≡ false
-unfolding selectBy isRefused isOpen
-shut-select Refused w m h = refl
+shut-select : (c : Choice) (w : WireSide) (m : List ℕ) → not (selectRefused c) ≡ false → isOpen (selectBy c w m .side .host .bus) ≡ false
+unfolding selectBy selectRefused isOpen
+shut-select NotAcked w m h = refl
 shut-select (Reading s) w m h = absurd (false≢true (sym h))
 shut-select (Writing s) w m h = absurd (false≢true (sym h))
 
 shut-send : (b : Bus) (w : WireSide) (m : List ℕ) (x : ℕ) → w .host .bus ≡ b → isOpen b ≡ false
-    → (isStarted b && not (isRefused (choose (w .host .vcc) (w .host .programming) x))) ≡ false
+    → (isStarted b && not (selectRefused (choose (w .host .vcc) (w .host .programming) x))) ≡ false
     → isOpen (sendAt b w m x .side .host .bus) ≡ false
 unfolding sendAt isStarted isOpen
 shut-send Idle w m x e h q = ap isOpen e
@@ -217,15 +217,15 @@ shut-vcc on w h =
     pick-case P on _ _ (λ t. pick-case P (w .host .vcc) _ _ (λ v. h) (λ v. h)) (λ t. pick-case P (w .host .vcc) _ _ (λ v. refl) (λ v. h))
 
 -- nothing else opens one
-pub stays-shut : (w : WireSide) (u : Uid) (m : List ℕ) (s : Signal) → isOpen (w .host .bus) ≡ false → opens (w .host) s ≡ false
+pub stays-shut : (w : WireSide) (u : Uid) (m : List ℕ) (s : WireSignal) → isOpen (w .host .bus) ≡ false → opens (w .host) s ≡ false
     → isOpen (signalOf w u m s .side .host .bus) ≡ false
 unfolding signalOf opens ackedSelect
 stays-shut w u m SignalStart h q = shut-start w m h
-stays-shut w u m (SignalSend x) h q = shut-send (w .host .bus) w m x refl h q
-stays-shut w u m (SignalFetch ack) h q = shut-fetch (w .host .bus) w u m ack refl h
+stays-shut w u m (Send x) h q = shut-send (w .host .bus) w m x refl h q
+stays-shut w u m (Fetch ack) h q = shut-fetch (w .host .bus) w u m ack refl h
 stays-shut w u m SignalStop h q = stop-shut w m
-stays-shut w u m (SignalVcc on) h q = shut-vcc on w h
-stays-shut w u m SignalProgrammingEnd h q = h
+stays-shut w u m (Vcc on) h q = shut-vcc on w h
+stays-shut w u m ProgrammingEnd h q = h
 
 -- an Acked select finds the bus started, VCC on and nothing being programmed
 pub record Selects (h : Host) (x : ℕ) : Type 0 where
@@ -233,16 +233,16 @@ pub record Selects (h : Host) (x : ℕ) : Type 0 where
   pub at : h .bus ≡ Started before
   pub vcc : h .vcc ≡ true
   pub still : h .programming ≡ false
-  pub goes : ends true (Send x) ≡ false
+  pub goes : ends true (NotedSend x) ≡ false
 
-on-choice : (x : ℕ) (v p : Bool) → not (isRefused (choose v p x)) ≡ true → (v ≡ true) × ((p ≡ false) × (isRefused (selectOf x) ≡ false))
-unfolding choose isRefused pick
-on-choice x true false h = (refl, (refl, not-true (isRefused (selectOf x)) h))
+on-choice : (x : ℕ) (v p : Bool) → not (selectRefused (choose v p x)) ≡ true → (v ≡ true) × ((p ≡ false) × (selectRefused (selectOf x) ≡ false))
+unfolding choose selectRefused pick
+on-choice x true false h = (refl, (refl, not-true (selectRefused (selectOf x)) h))
 on-choice x true true h = absurd (false≢true h)
 on-choice x false false h = absurd (false≢true h)
 on-choice x false true h = absurd (false≢true h)
 
-by-started : (b : Bus) (h : Host) (x : ℕ) → h .bus ≡ b → (isStarted b && not (isRefused (choose (h .vcc) (h .programming) x))) ≡ true → Selects h x
+by-started : (b : Bus) (h : Host) (x : ℕ) → h .bus ≡ b → (isStarted b && not (selectRefused (choose (h .vcc) (h .programming) x))) ≡ true → Selects h x
 unfolding isStarted ends
 by-started Idle h x e q = absurd (false≢true q)
 by-started (Started t) h x e q =
@@ -258,9 +258,9 @@ unfolding ackedSelect
 selects h x q = by-started (h .bus) h x refl q
 
 -- after it a transfer is open
-pub first-goes : (w : WireSide) (u : Uid) (m : List ℕ) (x : ℕ) → Selects (w .host) x → Going true (Send x) (signalOf w u m (SignalSend x) .side .host)
+pub first-goes : (w : WireSide) (u : Uid) (m : List ℕ) (x : ℕ) → Selects (w .host) x → Going true (NotedSend x) (signalOf w u m (Send x) .side .host)
 unfolding signalOf sendAt
 first-goes w u m x s =
-    subst (λ (b : Bus). Going true (Send x) (sendAt b w m x .side .host)) (sym (s .at))
+    subst (λ (b : Bus). Going true (NotedSend x) (sendAt b w m x .side .host)) (sym (s .at))
     (by-choice x (choose (w .host .vcc) (w .host .programming) x) w m
     (sym (choose-ready x (w .host .vcc) (w .host .programming) (s .vcc) (s .still))) (s .vcc) (s .still))

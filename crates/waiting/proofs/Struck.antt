@@ -11,9 +11,9 @@ use Rattle.registers.specs.declared.Registers.{Registers}
 use Rattle.tag.specs.declared.Uid.{Uid}
 use Rattle.tag.specs.declared.Tag.{Tag}
 use Rattle.model.specs.Step.{transferOpen}
-use Rattle.model.specs.Claims.{Keeps}
-use Rattle.waiting.specs.Calls.{Call, Said, Device, Done, Ran, ran, entry, runBy}
-use Rattle.waiting.specs.Claim.{framesFit, stateRefused, struck, others, otherAnswers, spoken, Shut, startAfter, EachStruck, AllShut}
+use Rattle.model.specs.Claims.{StepKeepsFit}
+use Rattle.waiting.specs.Calls.{Call, CallAnswer, Device, DeviceResult, RunResult, runResult, entry, runBy}
+use Rattle.waiting.specs.Claim.{framesFit, stateRefused, struck, others, otherAnswers, callReply, Shut, startAfter, EachStruck, AllShut}
 use Rattle.waiting.specs.Follows.{RepliesShut}
 use Rattle.waiting.proofs.OneCall.{Fits, shutBy, struck-is, Stays, call-stays, call-judged}
 
@@ -25,39 +25,39 @@ pub record Since (start t : Tag) : Type 0 where
 
 shut-reply : (start : Tag) (d : Device) (c : Call) → Fits d → Since start (d .tag) → struck entry d c ≡ true → RepliesShut entry start d c
 shut-reply start d c f s h =
-    ap (λ (e : Done). e .says) (struck-is d c f h)
-    ∙ ap (λ (u : Uid). spoken (shutBy (c .frame) (d .tag .air) u (d .tag .core .registers .dynamic)) (c .buffer)) (sym (s .uid))
-    ∙ ap (λ (g : Registers). spoken (shutBy (c .frame) (d .tag .air) (start .uid) (g .dynamic)) (c .buffer)) (sym (s .registers))
+    ap (λ (e : DeviceResult). e .says) (struck-is d c f h)
+    ∙ ap (λ (u : Uid). callReply (shutBy (c .frame) (d .tag .air) u (d .tag .core .registers .dynamic)) (c .buffer)) (sym (s .uid))
+    ∙ ap (λ (g : Registers). callReply (shutBy (c .frame) (d .tag .air) (start .uid) (g .dynamic)) (c .buffer)) (sym (s .registers))
 
 shut-call : (start : Tag) (d : Device) (c : Call) → Fits d → Since start (d .tag) → struck entry d c ≡ true → Shut entry start d c
-shut-call start d c f s h = record { unchanged = ap (λ (e : Done). e .device) (struck-is d c f h); reply = shut-reply start d c f s h }
+shut-call start d c f s h = record { unchanged = ap (λ (e : DeviceResult). e .device) (struck-is d c f h); reply = shut-reply start d c f s h }
 
 -- with none open the tag itself is the start
 since-after : (start t : Tag) → (transferOpen t ≡ true → Since start t) → Since (startAfter start t) t
 since-after start t h = pick-case (λ (x : Tag). Since x t) (transferOpen t) start t h (λ n. record { uid = refl; registers = refl })
 
-since-next : (start : Tag) (d : Device) (e : Done) → Stays d e → Since start (d .tag) → transferOpen (e .device .tag) ≡ true → Since start (e .device .tag)
+since-next : (start : Tag) (d : Device) (e : DeviceResult) → Stays d e → Since start (d .tag) → transferOpen (e .device .tag) ≡ true → Since start (e .device .tag)
 since-next start d e k s h = record { uid = s .uid ∙ sym (k .uid); registers = s .registers ∙ sym (k .registers h) }
 
--- `rest` are the calls left of the others, `said` their answers
-abbrev pub RunsTo : Device → List Call → List Said → Device → Type 0
-RunsTo d rest said end = runBy entry d rest ≡ ran said end
+-- `rest` are the calls left of the others, `callAnswer` their answers
+abbrev pub RunsTo : Device → List Call → List CallAnswer → Device → Type 0
+RunsTo d rest callAnswer end = runBy entry d rest ≡ runResult callAnswer end
 
-strike : (d : Device) (c : Call) (rest : List Call) (said : List Said) (end : Device) → entry d c .device ≡ d
-    → RunsTo (entry d c .device) rest said end → RunsTo d rest said end
-strike d c rest said end h r = subst (λ (x : Device). RunsTo x rest said end) h r
+strike : (d : Device) (c : Call) (rest : List Call) (callAnswer : List CallAnswer) (end : Device) → entry d c .device ≡ d
+    → RunsTo (entry d c .device) rest callAnswer end → RunsTo d rest callAnswer end
+strike d c rest callAnswer end h r = subst (λ (x : Device). RunsTo x rest callAnswer end) h r
 
-leave : (d : Device) (c : Call) (rest : List Call) (said : List Said) (end : Device)
-    → RunsTo (entry d c .device) rest said end → RunsTo d (c ∷ rest) (entry d c .says ∷ said) end
+leave : (d : Device) (c : Call) (rest : List Call) (callAnswer : List CallAnswer) (end : Device)
+    → RunsTo (entry d c .device) rest callAnswer end → RunsTo d (c ∷ rest) (entry d c .says ∷ callAnswer) end
 unfolding runBy
-leave d c rest said end r = ap (λ (x : Ran). ran (entry d c .says ∷ x .answers) (x .device)) r
+leave d c rest callAnswer end r = ap (λ (x : RunResult). runResult (entry d c .says ∷ x .answers) (x .device)) r
 
 -- struck out or not
-pub by-test : (b : Bool) (d : Device) (c : Call) (rest : List Call) (said : List Said) (end : Device) → (b ≡ true → entry d c .device ≡ d)
-    → RunsTo (entry d c .device) rest said end → RunsTo d (pick b rest (c ∷ rest)) (pick b said (entry d c .says ∷ said)) end
+pub by-test : (b : Bool) (d : Device) (c : Call) (rest : List Call) (callAnswer : List CallAnswer) (end : Device) → (b ≡ true → entry d c .device ≡ d)
+    → RunsTo (entry d c .device) rest callAnswer end → RunsTo d (pick b rest (c ∷ rest)) (pick b callAnswer (entry d c .says ∷ callAnswer)) end
 unfolding pick
-by-test true d c rest said end h r = strike d c rest said end (h refl) r
-by-test false d c rest said end h r = leave d c rest said end r
+by-test true d c rest callAnswer end h r = strike d c rest callAnswer end (h refl) r
+by-test false d c rest callAnswer end h r = leave d c rest callAnswer end r
 
 -- ---- all calls
 pub first-fits : (c : Call) (cs : List Call) → framesFit (c ∷ cs) ≡ true → areBytes (c .frame) ≡ true
@@ -68,7 +68,7 @@ pub rest-fits : (c : Call) (cs : List Call) → framesFit (c ∷ cs) ≡ true �
 unfolding framesFit
 rest-fits c cs b = and-right (areBytes (c .frame)) (framesFit cs) b
 
-module _ (kept : Keeps) where
+module _ (kept : StepKeepsFit) where
   pub fits-next : (d : Device) (c : Call) → areBytes (c .frame) ≡ true → Fits d → Fits (entry d c .device)
   unfolding entry
   fits-next d c b f = kept (d .tag) (d .memory) (c .buffer) (c .code) (c .value) (c .frame) b f
@@ -81,13 +81,13 @@ module _ (kept : Keeps) where
       ∙ judged cs (entry d c .device) (rest-fits c cs b) (fits-next d c (first-fits c cs b) f)
 
   pub striking : (cs : List Call) (d : Device) → framesFit cs ≡ true → Fits d
-      → runBy entry d (others entry d cs) ≡ ran (otherAnswers entry d cs) (runBy entry d cs .device)
+      → runBy entry d (others entry d cs) ≡ runResult (otherAnswers entry d cs) (runBy entry d cs .device)
   unfolding others otherAnswers runBy
   striking [] d b f = refl
   striking (c ∷ cs) d b f =
       let e = entry d c .device in
       by-test (struck entry d c) d c (others entry e cs) (otherAnswers entry e cs) (runBy entry e cs .device)
-      (λ h. ap (λ (e : Done). e .device) (struck-is d c f h))
+      (λ h. ap (λ (e : DeviceResult). e .device) (struck-is d c f h))
       (striking cs e (rest-fits c cs b) (fits-next d c (first-fits c cs b) f))
 
   -- every struck frame, with what holds of each one

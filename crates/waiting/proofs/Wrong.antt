@@ -12,9 +12,9 @@ use Rattle.tag.specs.Radio.{isSelected}
 use Rattle.model.specs.declared.Answer.{Answer}
 use Rattle.model.specs.declared.Answer.the-variants.{Refused, Nothing, Ack, NoAck, Byte, Silence, Reply}
 use Rattle.model.specs.Step.{number}
-use Rattle.waiting.specs.Calls.{Call, Said, said, Device, Step, Ran}
+use Rattle.waiting.specs.Calls.{Call, CallAnswer, callAnswer, Device, Step, RunResult}
 use Rattle.waiting.specs.Examples.{vccTo, start, send, stop, programmingEnd, frame, zeros, powered, _but_, radioState, radioSession, fieldIs, vccIs, i2cSession, beingProgrammed, counterAt, onBus, mailboxMode, hostMessage, bytes}
-use Rattle.waiting.specs.Waiting.{Waiting, closed, inside}
+use Rattle.waiting.specs.Waiting.{Waiting, noTransfer, inside}
 use Rattle.waiting.specs.Wrong.{Refuted, isBlank, feigning, readsHalf, otherSelect, deselects, commitsAtOff, answersFromLeg, neverCloses}
 use Rattle.waiting.specs.Pinned.{misanswering, touching, isReply, stopAcked, refusedByThree, replyByteWrong, pastReply, refusalTouches, struckTouches, behind, sessionPastRange, clearsPage, stopOutOfRange, isUserWriteLeg, marksFrames, hidesField, AllRefuted, wrongTags, WrongTagsRefuted}
 use Rattle.waiting.proofs.Computes.{agrees}
@@ -42,11 +42,11 @@ shortStop = record { buffer = zeros 10; code = 6; value = 0; frame = [] }
 
 -- ---- what is compared: of the waiting tag, then of a run
 unfoldable kept : Waiting → Device
-kept (closed out k) = k
+kept (noTransfer out k) = k
 kept (inside out k n sl) = k
 
-unfoldable said-by : Waiting → List Said
-said-by (closed out k) = out
+unfoldable said-by : Waiting → List CallAnswer
+said-by (noTransfer out k) = out
 said-by (inside out k n sl) = out
 
 unfoldable code : Answer → ℕ
@@ -58,8 +58,8 @@ code (Byte x) = 8
 code Silence = 9
 code (Reply n) = 10 + n
 
-abbrev saidAt : ℕ → List Said → Said
-saidAt i l = getD l i (said Nothing [])
+abbrev saidAt : ℕ → List CallAnswer → CallAnswer
+saidAt i l = getD l i (callAnswer Nothing [])
 
 -- the answer to call i, and byte j of its reply buffer
 abbrev answerTo : ℕ → Waiting → ℕ
@@ -77,8 +77,8 @@ byteLeft i w = getD (kept w .memory) i 0
 feigning-refuted : Refuted feigning
 unfolding agrees feigning isBlank kept
 feigning-refuted h =
-    let calls = at 0 0 ++ send 1 ∷ stop ∷ programmingEnd ∷ [] ++ at 0 1 ++ send 2 ∷ stop ∷ [] in
-    let f : _≡_ {A = ℕ} 2 0 = ap (byteLeft 1) (h powered calls refl refl refl refl refl .same) in
+    let wireCalls = at 0 0 ++ send 1 ∷ stop ∷ programmingEnd ∷ [] ++ at 0 1 ++ send 2 ∷ stop ∷ [] in
+    let f : _≡_ {A = ℕ} 2 0 = ap (byteLeft 1) (h powered wireCalls refl refl refl refl refl .same) in
     omega arith
 
 -- byte 0 is sent and VCC fails
@@ -149,7 +149,7 @@ stop-out-of-range-refuted h =
 reads-half-refuted : Refuted readsHalf
 unfolding agrees readsHalf
 reads-half-refuted h =
-    let f : _≡_ {A = ℕ} 0 1 = ap (λ (r : Ran). r .device .tag .air .session) (h powered (start ∷ send 0xA6 ∷ present ∷ stop ∷ []) refl refl refl refl refl .striking) in
+    let f : _≡_ {A = ℕ} 0 1 = ap (λ (r : RunResult). r .device .tag .air .session) (h powered (start ∷ send 0xA6 ∷ present ∷ stop ∷ []) refl refl refl refl refl .striking) in
     omega arith
 
 -- ---- `shut`, of the third call
@@ -157,9 +157,9 @@ reads-half-refuted h =
 deselects-refuted : Refuted deselects
 unfolding agrees deselects otherSelect
 deselects-refuted h =
-    let calls = start ∷ send 0xA6 ∷ selectOther ∷ stop ∷ [] in
+    let wireCalls = start ∷ send 0xA6 ∷ selectOther ∷ stop ∷ [] in
     let f : false ≡ true =
-    ap (λ (d : Device). isSelected (d .tag .air .radio)) (h (powered but radioState Selected) calls refl refl refl refl refl .shut .1 .1 .0 refl .unchanged) in
+    ap (λ (d : Device). isSelected (d .tag .air .radio)) (h (powered but radioState Selected) wireCalls refl refl refl refl refl .shut .1 .1 .0 refl .unchanged) in
     false≢true f
 
 marks-frames-refuted : Refuted marksFrames
@@ -173,14 +173,14 @@ hides-field-refuted : Refuted hidesField
 unfolding agrees behind isUserWriteLeg code
 hides-field-refuted h =
     let f : _≡_ {A = ℕ} 14 9 =
-    ap (λ (a : Said). code (a .answer)) (h powered (start ∷ send 0xA6 ∷ read ∷ stop ∷ []) refl refl refl refl refl .shut .1 .1 .0 refl .reply) in
+    ap (λ (a : CallAnswer). code (a .answer)) (h powered (start ∷ send 0xA6 ∷ read ∷ stop ∷ []) refl refl refl refl refl .shut .1 .1 .0 refl .reply) in
     omega arith
 
 struck-touches-refuted : Refuted struckTouches
 unfolding agrees touching
 struck-touches-refuted h =
     let f : _≡_ {A = ℕ} 1 0 =
-    ap (λ (a : Said). getD (a .buffer) 642 0) (h powered (start ∷ send 0xA6 ∷ read ∷ stop ∷ []) refl refl refl refl refl .shut .1 .1 .0 refl .reply) in
+    ap (λ (a : CallAnswer). getD (a .buffer) 642 0) (h powered (start ∷ send 0xA6 ∷ read ∷ stop ∷ []) refl refl refl refl refl .shut .1 .1 .0 refl .reply) in
     omega arith
 
 -- RF_MNGT_Dyn gets its b1 at the Stop; before it a frame is not silent
@@ -188,14 +188,14 @@ answers-from-leg-refuted : Refuted answersFromLeg
 unfolding agrees answersFromLeg code
 answers-from-leg-refuted h =
     let f : _≡_ {A = ℕ} 9 14 =
-    ap (λ (a : Said). code (a .answer)) (h powered (at 0x20 0x03 ++ send 2 ∷ read ∷ stop ∷ []) refl refl refl refl refl .shut .1 .1 .1 .1 .1 .0 refl .reply) in
+    ap (λ (a : CallAnswer). code (a .answer)) (h powered (at 0x20 0x03 ++ send 2 ∷ read ∷ stop ∷ []) refl refl refl refl refl .shut .1 .1 .1 .1 .1 .0 refl .reply) in
     omega arith
 
 -- ---- the starting tag: a programming end is answered
 waitingMail : Device
 waitingMail = powered but mailboxMode 1 but hostMessage 9 true but bytes [] (replicate 9 0x11) []
 
-ends-in-ack : {o : List ℕ} {d e : Device} → closed (said Nothing o ∷ []) d ≡ closed (said Ack o ∷ []) e → ⊥
+ends-in-ack : {o : List ℕ} {d e : Device} → noTransfer (callAnswer Nothing o ∷ []) d ≡ noTransfer (callAnswer Ack o ∷ []) e → ⊥
 unfolding said-by code
 ends-in-ack h = let f : _≡_ {A = ℕ} 5 6 = ap (answerTo 0) h in omega arith
 

@@ -3,7 +3,7 @@ use mathlib.Core.List.{List, [], _∷_}
 use Prim.Native.Nat.{ℕ}
 use Rattle.tag.specs.declared.Tag.{Tag}
 use Rattle.model.specs.declared.Answer.{Answer}
-use Rattle.model.specs.Step.{Ended, stepOf}
+use Rattle.model.specs.Step.{StepResult, stepOf}
 
 -- what a call hands in beside the tag and its memory: a reply buffer, a signal's code and value, a frame
 pub record Call : Type 0 where
@@ -13,12 +13,12 @@ pub record Call : Type 0 where
   pub frame : List ℕ
 
 -- the answer to a call: the refusal number or 01's answer, with the whole reply buffer as the call leaves it
-pub record Said : Type 0 where
+pub record CallAnswer : Type 0 where
   pub answer : Answer
   pub buffer : List ℕ
 
-abbrev pub said : Answer → List ℕ → Said
-said a o = record { answer = a; buffer = o }
+abbrev pub callAnswer : Answer → List ℕ → CallAnswer
+callAnswer a o = record { answer = a; buffer = o }
 
 -- a tag and its memory
 pub record Device : Type 0 where
@@ -29,34 +29,34 @@ abbrev pub device : Tag → List ℕ → Device
 device t m = record { tag = t; memory = m }
 
 -- what a call leaves
-pub record Done : Type 0 where
-  pub says : Said
+pub record DeviceResult : Type 0 where
+  pub says : CallAnswer
   pub device : Device
 
-abbrev pub done : Said → Device → Done
-done a d = record { says = a; device = d }
+abbrev pub deviceResult : CallAnswer → Device → DeviceResult
+deviceResult a d = record { says = a; device = d }
 
 abbrev pub Step : Type 0
-Step = Device → Call → Done
+Step = Device → Call → DeviceResult
 
 -- the entry point, as the contract of its code has it
-abbrev pub doneBy : Ended → Done
-doneBy e = done (said (e .answer) (e .reply)) (device (e .tag) (e .memory))
+abbrev pub deviceResultOf : StepResult → DeviceResult
+deviceResultOf e = deviceResult (callAnswer (e .answer) (e .reply)) (device (e .tag) (e .memory))
 
-unfoldable pub entry : Device → Call → Done
-entry d c = doneBy (stepOf (d .tag) (d .memory) (c .buffer) (c .code) (c .value) (c .frame))
+unfoldable pub entry : Device → Call → DeviceResult
+entry d c = deviceResultOf (stepOf (d .tag) (d .memory) (c .buffer) (c .code) (c .value) (c .frame))
 
 -- the answers to a list of calls, in their order, and what is left at its end
-pub record Ran : Type 0 where
-  pub answers : List Said
+pub record RunResult : Type 0 where
+  pub answers : List CallAnswer
   pub device : Device
 
-abbrev pub ran : List Said → Device → Ran
-ran a d = record { answers = a; device = d }
+abbrev pub runResult : List CallAnswer → Device → RunResult
+runResult a d = record { answers = a; device = d }
 
-unfoldable pub runBy : Step → Device → List Call → Ran
-runBy step d [] = ran [] d
+unfoldable pub runBy : Step → Device → List Call → RunResult
+runBy step d [] = runResult [] d
 runBy step d (c ∷ cs) =
     let e = step d c in
     let r = runBy step (e .device) cs in
-    ran (e .says ∷ r .answers) (r .device)
+    runResult (e .says ∷ r .answers) (r .device)

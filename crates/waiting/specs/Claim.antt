@@ -10,7 +10,7 @@ use Rattle.tag.specs.declared.Air.{Air}
 use Rattle.tag.specs.declared.Tag.{Tag}
 use Rattle.tag.specs.Layout.{memoryBytes}
 use Rattle.errors.specs.declared.RadioError.the-variants.{ShutOut}
-use Rattle.reply.specs.Reply.{Said as Reply, nothing, fault, answerOf, bufferOf}
+use Rattle.reply.specs.Reply.{ReplyBody, nothing, fault, answerOf, bufferOf}
 use Rattle.frame.specs.Judge.{isSilent, isMute}
 use Rattle.model.specs.declared.Refusal.the-variants.{MemoryLength, ReplyShort, SignalUnknown, OutOfRange}
 use Rattle.model.specs.declared.Answer.{Answer}
@@ -19,8 +19,8 @@ use Rattle.model.specs.declared.Signal.{Signal}
 use Rattle.model.specs.declared.Signal.the-variants.{Wire, Field, Frame}
 use Rattle.model.specs.Signals.{signalBy}
 use Rattle.model.specs.Step.{fromRadio, transferOpen, tagInRange}
-use Rattle.waiting.specs.Calls.{Call, Said, said, Device, Done, Step, Ran, ran, runBy, entry}
-use Rattle.waiting.specs.Waiting.{Waiting, closed, inside, waitRun}
+use Rattle.waiting.specs.Calls.{Call, CallAnswer, callAnswer, Device, DeviceResult, Step, RunResult, runResult, runBy, entry}
+use Rattle.waiting.specs.Waiting.{Waiting, noTransfer, inside, waitRun}
 
 -- ---- each number fits its type: a frame's bytes are bytes; no other number needs it
 unfoldable pub framesFit : List Call → Bool
@@ -41,7 +41,7 @@ refusedByState Silence = false
 refusedByState (ReplyOf k) = false
 
 -- an answer of the list is refusal 1 or 4
-unfoldable pub stateRefused : List Said → Bool
+unfoldable pub stateRefused : List CallAnswer → Bool
 stateRefused [] = false
 stateRefused (a ∷ s) = refusedByState (a .answer) || stateRefused s
 
@@ -71,7 +71,7 @@ others step d (c ∷ cs) =
     pick (struck step d c) rest (c ∷ rest)
 
 -- the answers that those had
-unfoldable pub otherAnswers : Step → Device → List Call → List Said
+unfoldable pub otherAnswers : Step → Device → List Call → List CallAnswer
 otherAnswers step d [] = []
 otherAnswers step d (c ∷ cs) =
     let rest = otherAnswers step (step d c .device) cs in
@@ -79,18 +79,18 @@ otherAnswers step d (c ∷ cs) =
 
 -- ---- a struck frame's reply: silence or 0Fh, as 01 fixes from the frame, the tag at the transfer's start,
 -- and the field and radio state when it came
-abbrev pub shutReply : Tag → Air → List ℕ → Reply
+abbrev pub shutReply : Tag → Air → List ℕ → ReplyBody
 shutReply start air s =
     pick (isSilent s air (start .uid) (start .core .registers .dynamic) || isMute s (start .uid)) nothing
     (fault ShutOut)
 
-abbrev pub spoken : Reply → List ℕ → Said
-spoken r o = said (fromRadio (answerOf r)) (bufferOf r o)
+abbrev pub callReply : ReplyBody → List ℕ → CallAnswer
+callReply r o = callAnswer (fromRadio (answerOf r)) (bufferOf r o)
 
 -- a struck frame changed nothing, and its reply is that
 pub record Shut (step : Step) (start : Tag) (d : Device) (c : Call) : Type 0 where
   pub unchanged : step d c .device ≡ d
-  pub reply : step d c .says ≡ spoken (shutReply start (d .tag .air) (c .frame)) (c .buffer)
+  pub reply : step d c .says ≡ callReply (shutReply start (d .tag .air) (c .frame)) (c .buffer)
 
 -- the tag at the start of the transfer that is open; with none open, the tag itself
 abbrev pub startAfter : Tag → Tag → Tag
@@ -110,7 +110,7 @@ AllShut step start d cs = EachStruck step (Shut step) start d cs
 -- ---- the claim: from device d, the calls cs
 -- the same answer to every call, reply bytes and refusal numbers included, and the same final tag, state and every byte
 abbrev pub Same : Step → Device → List Call → Type 0
-Same step d cs = waitRun (closed [] d) cs ≡ closed (runBy step d cs .answers) (runBy step d cs .device)
+Same step d cs = waitRun (noTransfer [] d) cs ≡ noTransfer (runBy step d cs .answers) (runBy step d cs .device)
 
 -- refusals 1 and 4 never occur
 abbrev pub Judged : Step → Device → List Call → Type 0
@@ -118,7 +118,7 @@ Judged step d cs = stateRefused (runBy step d cs .answers) ≡ false
 
 -- without the struck frames all else stays the same
 abbrev pub Striking : Step → Device → List Call → Type 0
-Striking step d cs = runBy step d (others step d cs) ≡ ran (otherAnswers step d cs) (runBy step d cs .device)
+Striking step d cs = runBy step d (others step d cs) ≡ runResult (otherAnswers step d cs) (runBy step d cs .device)
 
 pub record Agrees (step : Step) (d : Device) (cs : List Call) : Type 0 where
   pub same : Same step d cs
@@ -129,14 +129,14 @@ pub record Agrees (step : Step) (d : Device) (cs : List Call) : Type 0 where
 
 -- the list finishes with no transfer open: the waiting tag says so, since a wrong tag might never close its own
 unfoldable pub isClosed : Waiting → Bool
-isClosed (closed out k) = true
+isClosed (noTransfer out k) = true
 isClosed (inside out k n sl) = false
 
 -- from any tag within 01's ranges with no transfer open, for every list of calls that finishes with none open
 abbrev pub EveryList : (Device → List Call → Type 0) → Type 0
 EveryList P = (d : Device) (cs : List Call)
     → tagInRange (d .tag) (d .memory) ≡ true → length (d .memory) ≡ memoryBytes → framesFit cs ≡ true
-    → transferOpen (d .tag) ≡ false → isClosed (waitRun (closed [] d) cs) ≡ true
+    → transferOpen (d .tag) ≡ false → isClosed (waitRun (noTransfer [] d) cs) ≡ true
     → P d cs
 
 abbrev pub Demand3 : Step → Type 0
@@ -147,4 +147,4 @@ abbrev pub EndsAlike : Type 0
 EndsAlike = (d : Device) (cs : List Call)
     → tagInRange (d .tag) (d .memory) ≡ true → length (d .memory) ≡ memoryBytes → framesFit cs ≡ true
     → transferOpen (d .tag) ≡ false → transferOpen (runBy entry d cs .device .tag) ≡ false
-    → isClosed (waitRun (closed [] d) cs) ≡ true
+    → isClosed (waitRun (noTransfer [] d) cs) ≡ true

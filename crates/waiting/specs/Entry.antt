@@ -7,63 +7,63 @@ use lib.Dec.{leb}
 use lib.ListN.{length}
 use Rattle.tag.specs.declared.Bus.the-variants.{Started}
 use Rattle.tag.specs.Layout.{memoryBytes, replyBytes}
-use Rattle.signal.specs.declared.Answer.{Answer as WireAnswer}
+use Rattle.signal.specs.declared.WireAnswer.{WireAnswer}
 use Rattle.parts.specs.Pick.{pick}
-use Rattle.transfer.specs.Legs.{Noted, Start, Send, Fetch, Stop, VccOff, finished}
+use Rattle.transfer.specs.Legs.{Noted, NotedStart, NotedSend, NotedFetch, NotedStop, NotedVccOff, finished}
 use Rattle.transfer.specs.Whole.{transferOf}
 use Rattle.model.specs.Step.{fromWire, wireSide, withWire, tagInRange}
-use Rattle.waiting.specs.Calls.{Call, Said, said, Device, device, ran, entry, runBy}
+use Rattle.waiting.specs.Calls.{Call, CallAnswer, callAnswer, Device, device, runResult, entry, runBy}
 
 -- a wire signal with the reply buffer and the frame that its call hands in
-pub record Wired : Type 0 where
+pub record WireCall : Type 0 where
   pub signal : Noted
   pub buffer : List ℕ
   pub frame : List ℕ
 
 -- its call, by the codes of model/specs/Signals
-abbrev pub call : Wired → ℕ → ℕ → Call
+abbrev pub call : WireCall → ℕ → ℕ → Call
 call w code value = record { buffer = w .buffer; code = code; value = value; frame = w .frame }
 
-unfoldable pub callBy : Noted → Wired → Call
-callBy Start w = call w 3 0
-callBy (Send x) w = call w 4 x
-callBy (Fetch ack) w = call w 5 (pick ack 1 0)
-callBy Stop w = call w 6 0
-callBy VccOff w = call w 1 0
+unfoldable pub callBy : Noted → WireCall → Call
+callBy NotedStart w = call w 3 0
+callBy (NotedSend x) w = call w 4 x
+callBy (NotedFetch ack) w = call w 5 (pick ack 1 0)
+callBy NotedStop w = call w 6 0
+callBy NotedVccOff w = call w 1 0
 
-unfoldable pub calls : List Wired → List Call
-calls [] = []
-calls (w ∷ ws) = callBy (w .signal) w ∷ calls ws
+unfoldable pub wireCalls : List WireCall → List Call
+wireCalls [] = []
+wireCalls (w ∷ ws) = callBy (w .signal) w ∷ wireCalls ws
 
-unfoldable pub signals : List Wired → List Noted
+unfoldable pub signals : List WireCall → List Noted
 signals [] = []
 signals (w ∷ ws) = w .signal ∷ signals ws
 
 -- a byte sent is a byte
-unfoldable pub isByte : Noted → Bool
-isByte Start = true
-isByte (Send x) = leb x 255
-isByte (Fetch ack) = true
-isByte Stop = true
-isByte VccOff = true
+unfoldable pub sendsByte : Noted → Bool
+sendsByte NotedStart = true
+sendsByte (NotedSend x) = leb x 255
+sendsByte (NotedFetch ack) = true
+sendsByte NotedStop = true
+sendsByte NotedVccOff = true
 
 -- each reply buffer has at least 643 bytes, each byte sent is a byte
-unfoldable pub allServed : List Wired → Bool
+unfoldable pub allServed : List WireCall → Bool
 allServed [] = true
-allServed (w ∷ ws) = leb replyBytes (length (w .buffer)) && isByte (w .signal) && allServed ws
+allServed (w ∷ ws) = leb replyBytes (length (w .buffer)) && sendsByte (w .signal) && allServed ws
 
 -- each answer with its call's reply buffer, which stays
-unfoldable pub answersOf : List WireAnswer → List Wired → List Said
+unfoldable pub answersOf : List WireAnswer → List WireCall → List CallAnswer
 answersOf [] ws = []
 answersOf (a ∷ s) [] = []
-answersOf (a ∷ s) (w ∷ ws) = said (fromWire a) (w .buffer) ∷ answersOf s ws
+answersOf (a ∷ s) (w ∷ ws) = callAnswer (fromWire a) (w .buffer) ∷ answersOf s ws
 
 abbrev pub TransferServed : Type 0
-TransferServed = (d : Device) (ws : List Wired)
+TransferServed = (d : Device) (ws : List WireCall)
     → tagInRange (d .tag) (d .memory) ≡ true → length (d .memory) ≡ memoryBytes
     -- the bus is started and no transfer open, and a select would be Acked
     → d .tag .host .bus ≡ Started false → d .tag .host .vcc ≡ true → d .tag .host .programming ≡ false
     → finished true (signals ws) ≡ true → allServed ws ≡ true
-    → runBy entry d (calls ws)
+    → runBy entry d (wireCalls ws)
     ≡ (let r = transferOf (wireSide (d .tag)) (d .tag .uid) (d .memory) (signals ws) in
-    ran (answersOf (r .answers) ws) (device (withWire (r .side) (d .tag)) (r .memory)))
+    runResult (answersOf (r .answers) ws) (device (withWire (r .side) (d .tag)) (r .memory)))

@@ -15,11 +15,11 @@ use Rattle.tag.specs.declared.Host.{Host}
 use Rattle.tag.specs.declared.Core.{Core}
 use Rattle.tag.specs.declared.Uid.{Uid}
 use Rattle.tag.specs.Layout.{userBytes, memoryBytes, replyBytes}
-use Rattle.tag.specs.Radio.{withState, withSession}
+use Rattle.tag.specs.Radio.{withState, withRadioSession}
 use Rattle.tag.specs.Mailbox.{emptyMailbox, noMessage}
 use Rattle.tag.specs.Keys.{freshPasswords}
 use Rattle.tag.specs.Supply.{withBus, withRegisters, withMailbox}
-use Rattle.model.specs.Step.{withAir}
+use Rattle.model.specs.Step.{withTagAir}
 use Rattle.crc.specs.Crc.{closed}
 use Rattle.waiting.specs.Calls.{Call, Device, device}
 
@@ -85,7 +85,7 @@ abbrev pub _but_ : Device → (Device → Device) → Device
 _but_ d f = f d
 
 abbrev pub onAir : (Air → Air) → Device → Device
-onAir f d = device (withAir (f (d .tag .air)) (d .tag)) (d .memory)
+onAir f d = device (withTagAir (f (d .tag .air)) (d .tag)) (d .memory)
 
 abbrev pub onHost : (Host → Host) → Device → Device
 onHost f d = device (record { air = d .tag .air; host = f (d .tag .host); core = d .tag .core; uid = d .tag .uid }) (d .memory)
@@ -105,7 +105,7 @@ radioState x d = onAir (withState x) d
 
 -- "radio session .. 1 to 4 for passwords 0 to 3"
 abbrev pub radioSession : ℕ → Device → Device
-radioSession n d = onAir (withSession n) d
+radioSession n d = onAir (withRadioSession n) d
 
 -- ---- the host side
 abbrev pub vccIs : Bool → Device → Device

@@ -3,7 +3,7 @@ use mathlib.Core.Path.{_≡_}
 use mathlib.Core.List.{List}
 use Rattle.tag.specs.declared.Tag.{Tag}
 use Rattle.waiting.specs.Calls.{Call, Device, Step}
-use Rattle.waiting.specs.Claim.{spoken, shutReply, EachStruck, Same, Judged, Striking, EveryList}
+use Rattle.waiting.specs.Claim.{callReply, shutReply, EachStruck, Same, Judged, Striking, EveryList}
 
 -- a tag that answers every list as the waiting tag does never gives refusal 1 or 4
 abbrev pub JudgedFollows : Type 0
@@ -18,10 +18,10 @@ abbrev pub Unchanged : Step → Tag → Device → Call → Type 0
 Unchanged step start d c = step d c .device ≡ d
 
 abbrev pub AnswersShut : Step → Tag → Device → Call → Type 0
-AnswersShut step start d c = step d c .says .answer ≡ spoken (shutReply start (d .tag .air) (c .frame)) (c .buffer) .answer
+AnswersShut step start d c = step d c .says .answer ≡ callReply (shutReply start (d .tag .air) (c .frame)) (c .buffer) .answer
 
 abbrev pub RepliesShut : Step → Tag → Device → Call → Type 0
-RepliesShut step start d c = step d c .says ≡ spoken (shutReply start (d .tag .air) (c .frame)) (c .buffer)
+RepliesShut step start d c = step d c .says ≡ callReply (shutReply start (d .tag .air) (c .frame)) (c .buffer)
 
 abbrev pub BytesFollow : Type 0
 BytesFollow = (step : Step) → EveryList (Same step)

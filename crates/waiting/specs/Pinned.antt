@@ -10,14 +10,14 @@ use Rattle.parts.specs.Pick.{pick}
 use Rattle.tag.specs.declared.Space.the-variants.{User, System}
 use Rattle.tag.specs.declared.Bus.{Bus}
 use Rattle.tag.specs.declared.Bus.the-variants.{Idle, Started, ReadLeg, WriteLeg, LowAddress, DataLeg}
-use Rattle.tag.specs.Layout.{mailboxAt, pageAt}
+use Rattle.tag.specs.Layout.{mailboxPlace, pagePlace}
 use Rattle.tag.specs.Bus.{pageBytes}
 use Rattle.tag.specs.Radio.{isSelected}
 use Rattle.model.specs.declared.Refusal.the-variants.{SignalUnknown, OutOfRange}
 use Rattle.model.specs.declared.Answer.{Answer}
 use Rattle.model.specs.declared.Answer.the-variants.{Refused, Nothing, Ack, NoAck, Byte, Silence, Reply}
 use Rattle.model.specs.Step.{transferOpen}
-use Rattle.waiting.specs.Calls.{Call, Said, said, Device, device, Done, done, Step, entry, runBy}
+use Rattle.waiting.specs.Calls.{Call, CallAnswer, callAnswer, Device, device, DeviceResult, deviceResult, Step, entry, runBy}
 use Rattle.waiting.specs.Examples.{zeros, onBus, fieldIs, radioSession, _but_}
 use Rattle.waiting.specs.Waiting.{isStarted}
 use Rattle.waiting.specs.Claim.{isRefusal, struck, EachStruck, Same, EveryList}
@@ -26,20 +26,20 @@ use Rattle.waiting.specs.Wrong.{Refuted, feigning, readsHalf, deselects,
 
 -- ---- `same`, the answers: one thing said otherwise where the test holds of the tag, the call and what is right to say
 abbrev pub When : Type 0
-When = Device → Call → Said → Bool
+When = Device → Call → CallAnswer → Bool
 
 -- another answer and no byte
-unfoldable pub misanswering : When → Answer → Device → Call → Done
+unfoldable pub misanswering : When → Answer → Device → Call → DeviceResult
 misanswering when a d c =
     let e = entry d c in
-    done (pick (when d c (e .says)) (said a (e .says .buffer)) (e .says)) (e .device)
+    deviceResult (pick (when d c (e .says)) (callAnswer a (e .says .buffer)) (e .says)) (e .device)
 
 -- byte i of the reply buffer and no answer
-unfoldable pub touching : When → ℕ → Device → Call → Done
+unfoldable pub touching : When → ℕ → Device → Call → DeviceResult
 touching when i d c =
     let e = entry d c in
     let o = e .says .buffer in
-    done (pick (when d c (e .says)) (said (e .says .answer) (set o i (getD o i 0 + 1))) (e .says)) (e .device)
+    deviceResult (pick (when d c (e .says)) (callAnswer (e .says .answer) (set o i (getD o i 0 + 1))) (e .says)) (e .device)
 
 abbrev pub ifStop : When
 ifStop d c a = eqb (c .code) 6
@@ -78,14 +78,14 @@ abbrev pub refusalTouches : Step
 refusalTouches = touching ifRefused 0
 
 abbrev pub struckTouches : Step
-struckTouches = touching (λ (d : Device) (c : Call) (a : Said). struck entry d c) 642
+struckTouches = touching (λ (d : Device) (c : Call) (a : CallAnswer). struck entry d c) 642
 
 -- ---- `same`, the final tag: every answer is right, but not what is left
 -- a tag that acts as the one that it shows, and keeps another
-unfoldable pub behind : (Device → Device) → (Call → Device → Device) → Device → Call → Done
+unfoldable pub behind : (Device → Device) → (Call → Device → Device) → Device → Call → DeviceResult
 behind shows keeps d c =
     let e = entry (shows d) c in
-    done (e .says) (keeps c (e .device))
+    deviceResult (e .says) (keeps c (e .device))
 
 -- its radio session is 5 too high after a Stop; it takes such a one as 5 less
 abbrev pub sessionShown : Device → Device
@@ -102,10 +102,10 @@ abbrev pub OnlyTagTells : Type 0
 OnlyTagTells = EveryList (λ (d : Device) (cs : List Call). runBy sessionPastRange d cs .answers ≡ runBy entry d cs .answers)
 
 -- a Stop clears the page, on which no later answer depends
-unfoldable pub clearsPage : Device → Call → Done
+unfoldable pub clearsPage : Device → Call → DeviceResult
 clearsPage d c =
     let e = entry d c in
-    done (e .says) (device (e .device .tag) (pick (eqb (c .code) 6) (take pageAt (e .device .memory) ++ zeros 256) (e .device .memory)))
+    deviceResult (e .says) (device (e .device .tag) (pick (eqb (c .code) 6) (take pagePlace (e .device .memory) ++ zeros 256) (e .device .memory)))
 
 -- ---- `judged`: a Stop is refusal 4
 abbrev pub stopOutOfRange : Step
@@ -161,7 +161,7 @@ OnlyReplyTells = EveryList (Same hidesField)
 
 -- ---- the starting tag: wrong in one corner alone, where every call is answered with Ack
 abbrev pub wrongIn : (Device → Bool) → Step
-wrongIn corner = misanswering (λ (d : Device) (c : Call) (a : Said). corner d) Ack
+wrongIn corner = misanswering (λ (d : Device) (c : Call) (a : CallAnswer). corner d) Ack
 
 -- A claim that began from fewer tags would excuse each of them: no list leads into the corner from a tag that has no programming under way,
 -- is not Selected, and so on. The reason stands beside each (it is not proved).
@@ -183,10 +183,10 @@ counterUnpowered d = not (d .tag .host .vcc) && ltb 0 (d .tag .host .counter)
 -- while a host message of nine bytes or more waits for the till, the page's place 8 has its byte 8, or the code 09h of a password leg since
 abbrev pub mailNotInPage : Device → Bool
 mailNotInPage d =
-    let page = getD (d .memory) (pageAt + 8) 0 in
+    let page = getD (d .memory) (pagePlace + 8) 0 in
     d .tag .core .mailbox .host .put
     && ltb 8 (d .tag .core .mailbox .length)
-    && not (eqb page (getD (d .memory) (mailboxAt + 8) 0) || eqb page 0x09)
+    && not (eqb page (getD (d .memory) (mailboxPlace + 8) 0) || eqb page 0x09)
 
 -- and that leg would have opened the I2C session
 abbrev pub sessionBesideMail : Device → Bool

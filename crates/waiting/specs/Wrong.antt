@@ -14,8 +14,8 @@ use Rattle.frame.specs.Fields.{command, ownUid}
 use Rattle.frame.specs.Judge.{isSilent}
 use Rattle.model.specs.declared.Answer.the-variants.{NoAck}
 use Rattle.model.specs.declared.Signal.the-variants.{Frame}
-use Rattle.model.specs.Step.{withAir, actOf}
-use Rattle.waiting.specs.Calls.{Call, said, Device, device, Done, done, Step, doneBy, entry}
+use Rattle.model.specs.Step.{withTagAir, actOf}
+use Rattle.waiting.specs.Calls.{Call, callAnswer, Device, device, DeviceResult, deviceResult, Step, deviceResultOf, entry}
 use Rattle.waiting.specs.Examples.{onCore, onBus}
 use Rattle.waiting.specs.Claim.{struck, Demand3}
 
@@ -29,17 +29,17 @@ isBlank [] = true
 isBlank (x ∷ s) = eqb x 0 && isBlank s
 
 -- a later Stop says and leaves what it should, and programming starts, but no byte is written
-unfoldable pub feigning : Device → Call → Done
+unfoldable pub feigning : Device → Call → DeviceResult
 feigning d c =
     let e = entry d c in
     let later = not (isBlank (take userBytes (d .memory))) in
-    done (e .says) (device (e .device .tag) (pick (later && eqb (c .code) 6) (d .memory) (e .device .memory)))
+    deviceResult (e .says) (device (e .device .tag) (pick (later && eqb (c .code) 6) (d .memory) (e .device .memory)))
 
 -- ---- one that serves a frame in a transfer as if none were open
-unfoldable pub readsHalf : Device → Call → Done
+unfoldable pub readsHalf : Device → Call → DeviceResult
 readsHalf d c =
     let e = entry (onBus Idle d) c in
-    pick (eqb (c .code) 8) (done (e .says) (onBus (d .tag .host .bus) (e .device)))
+    pick (eqb (c .code) 8) (deviceResult (e .says) (onBus (d .tag .host .bus) (e .device)))
     (entry d c)
 
 -- ---- "Letting a shut-out Select deselect the tag."
@@ -47,11 +47,11 @@ readsHalf d c =
 unfoldable pub otherSelect : List ℕ → Tag → Bool
 otherSelect s t = eqb (command s) 0x25 && not (ownUid s (t .uid)) && not (isSilent s (t .air) (t .uid) (t .core .registers .dynamic))
 
-unfoldable pub deselects : Device → Call → Done
+unfoldable pub deselects : Device → Call → DeviceResult
 deselects d c =
     let e = entry d c in
     pick (struck entry d c && otherSelect (c .frame) (d .tag))
-    (done (e .says) (device (withAir (deselected (d .tag .air)) (d .tag)) (d .memory)))
+    (deviceResult (e .says) (device (withTagAir (deselected (d .tag .air)) (d .tag)) (d .memory)))
     e
 
 -- the call with a Stop for its signal
@@ -59,18 +59,18 @@ abbrev pub stopping : Call → Call
 stopping c = record { buffer = c .buffer; code = 6; value = 0; frame = c .frame }
 
 -- ---- one whose VCC off writes the leg's bytes, as a Stop does, and then acts
-unfoldable pub commitsAtOff : Device → Call → Done
+unfoldable pub commitsAtOff : Device → Call → DeviceResult
 commitsAtOff d c =
     pick (eqb (c .code) 1 && eqb (c .value) 0) (entry (entry d (stopping c) .device) c)
     (entry d c)
 
 -- ---- one that answers a frame in a transfer by the registers as the leg's bytes so far would leave them
-unfoldable pub answersFromLeg : Device → Call → Done
+unfoldable pub answersFromLeg : Device → Call → DeviceResult
 answersFromLeg d c =
     let t = onCore (λ (x : Core). entry d (stopping c) .device .tag .core) d .tag in
-    pick (struck entry d c) (done (doneBy (actOf Frame t (d .memory) (c .buffer) (c .frame)) .says) d)
+    pick (struck entry d c) (deviceResult (deviceResultOf (actOf Frame t (d .memory) (c .buffer) (c .frame)) .says) d)
     (entry d c)
 
 -- ---- one that NoAcks everything and never ends its transfer
-unfoldable pub neverCloses : Device → Call → Done
-neverCloses d c = done (said NoAck (c .buffer)) (onBus (Started true) d)
+unfoldable pub neverCloses : Device → Call → DeviceResult
+neverCloses d c = deviceResult (callAnswer NoAck (c .buffer)) (onBus (Started true) d)

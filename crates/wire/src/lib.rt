@@ -1,21 +1,21 @@
 // The wire side: one signal in, its answer and what it changes out. A layer and no entry point: it refuses nothing.
 ghost use mathlib.Core.Path.{_≡_};
 ghost use Rattle.tag.specs.declared.Bus.the-variants.{ReadLeg};
-ghost use Rattle.signal.specs.declared.Answer.the-variants.{Nothing, Byte};
-ghost use Rattle.signal.specs.Signal.{says, fetchAt, programmed, signalOf};
-use signal::Answer;
-use signal::Outcome;
-use signal::Signal;
+ghost use Rattle.signal.specs.declared.WireAnswer.the-variants.{Nothing, Byte};
+ghost use Rattle.signal.specs.Signal.{wireResult, fetchAt, programmed, signalOf};
+use signal::WireAnswer;
+use signal::WireOutcome;
+use signal::WireSignal;
 use tag::Bus;
 use tag::Space;
 use tag::Uid;
 use tag::WireSide;
 
-fn no_byte(w: WireSide) -> Outcome
+fn no_byte(w: WireSide) -> WireOutcome
     ensures { λ r. ⌜ r ≡ record { answer = Byte 0xFF; side = w } ⌝ }
 {
-    Outcome {
-        answer: Answer::Byte(0xFF),
+    WireOutcome {
+        answer: WireAnswer::Byte(0xFF),
         side: w,
     }
 }
@@ -29,8 +29,8 @@ fn fetch_read(
     u: Uid,
     m: &[u8],
     ack: bool,
-) -> Outcome
-    ensures { λ r. ⌜ says (r .answer) (r .side) (now (m .entry)) ≡ fetchAt (ReadLeg space over last) w u (now (m .entry)) ack ⌝ }
+) -> WireOutcome
+    ensures { λ r. ⌜ wireResult (r .answer) (r .side) (now (m .entry)) ≡ fetchAt (ReadLeg space over last) w u (now (m .entry)) ack ⌝ }
 {
     if over {
         return no_byte(w);
@@ -44,15 +44,15 @@ fn fetch_read(
         over: !ack,
         last: last | reached,
     };
-    Outcome {
-        answer: Answer::Byte(x),
+    WireOutcome {
+        answer: WireAnswer::Byte(x),
         side: signal::with_line(w, after, leg),
     }
 }
 
 // A byte fetched.
-fn fetch_at(b: Bus, w: WireSide, u: Uid, m: &[u8], ack: bool) -> Outcome
-    ensures { λ r. ⌜ says (r .answer) (r .side) (now (m .entry)) ≡ fetchAt b w u (now (m .entry)) ack ⌝ }
+fn fetch_at(b: Bus, w: WireSide, u: Uid, m: &[u8], ack: bool) -> WireOutcome
+    ensures { λ r. ⌜ wireResult (r .answer) (r .side) (now (m .entry)) ≡ fetchAt b w u (now (m .entry)) ack ⌝ }
 {
     match b {
         Bus::Idle => no_byte(w),
@@ -77,27 +77,27 @@ fn end_programming(w: WireSide) -> WireSide
     n
 }
 
-fn nothing(w: WireSide) -> Outcome
+fn nothing(w: WireSide) -> WireOutcome
     ensures { λ r. ⌜ r ≡ record { answer = Nothing; side = w } ⌝ }
 {
-    Outcome {
-        answer: Answer::Nothing,
+    WireOutcome {
+        answer: WireAnswer::Nothing,
         side: w,
     }
 }
 
 // One signal.
-pub fn step(w: WireSide, u: Uid, m: &mut [u8], s: Signal) -> Outcome
-    ensures { λ r. ⌜ says (r .answer) (r .side) (now (m .exit)) ≡ signalOf w u (now (m .entry)) s ⌝ }
+pub fn step(w: WireSide, u: Uid, m: &mut [u8], s: WireSignal) -> WireOutcome
+    ensures { λ r. ⌜ wireResult (r .answer) (r .side) (now (m .exit)) ≡ signalOf w u (now (m .entry)) s ⌝ }
 {
     let host = w.host;
     let bus = host.bus;
     match s {
-        Signal::Start => nothing(signal::start(w, m)),
-        Signal::Send(x) => send::send_at(bus, w, m, x),
-        Signal::Fetch(ack) => fetch_at(bus, w, u, m, ack),
-        Signal::Stop => nothing(signal::stop_at(bus, w, m)),
-        Signal::Vcc(on) => nothing(w.vcc_at(on)),
-        Signal::ProgrammingEnd => nothing(end_programming(w)),
+        WireSignal::Start => nothing(signal::start(w, m)),
+        WireSignal::Send(x) => send::send_at(bus, w, m, x),
+        WireSignal::Fetch(ack) => fetch_at(bus, w, u, m, ack),
+        WireSignal::Stop => nothing(signal::stop_at(bus, w, m)),
+        WireSignal::Vcc(on) => nothing(w.vcc_at(on)),
+        WireSignal::ProgrammingEnd => nothing(end_programming(w)),
     }
 }

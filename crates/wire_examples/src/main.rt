@@ -5,8 +5,8 @@
 // and, alone, N: the fresh tag again; I: whether the wire side is in range; E: the CRC of the memory; Z: the wire side.
 mod state;
 
-use signal::Answer;
-use signal::Signal;
+use signal::WireAnswer;
+use signal::WireSignal;
 use tag::Tag;
 use tag::Uid;
 use tag::WireSide;
@@ -20,7 +20,7 @@ struct Run {
 // What a line prints: that it is none of these, a signal's answer, a flag, a CRC, or the wire side.
 enum Said {
     Bad,
-    Answer(Answer),
+    WireAnswer(WireAnswer),
     Flag(bool),
     Crc(u16),
     Side,
@@ -65,16 +65,16 @@ fn bad(r: Run) -> Outcome {
 }
 
 fn nothing(r: Run) -> Outcome {
-    says(r, Said::Answer(Answer::Nothing))
+    says(r, Said::WireAnswer(WireAnswer::Nothing))
 }
 
 // A signal and its answer.
-fn step(r: Run, m: &mut [u8], s: Signal) -> Outcome {
+fn step(r: Run, m: &mut [u8], s: WireSignal) -> Outcome {
     let side = r.side;
     let o = wire::step(side, uid(), m, s);
     let a = o.answer;
     let after = o.side;
-    says(with_side(r, after), Said::Answer(a))
+    says(with_side(r, after), Said::WireAnswer(a))
 }
 
 fn start_again(r: Run, m: &mut [u8]) -> Outcome {
@@ -95,9 +95,9 @@ fn memory_crc(r: Run, m: &[u8]) -> Outcome {
 // A letter alone.
 fn alone(r: Run, kind: u8, m: &mut [u8]) -> Outcome {
     match kind {
-        b'S' => step(r, m, Signal::Start),
-        b'P' => step(r, m, Signal::Stop),
-        b'D' => step(r, m, Signal::ProgrammingEnd),
+        b'S' => step(r, m, WireSignal::Start),
+        b'P' => step(r, m, WireSignal::Stop),
+        b'D' => step(r, m, WireSignal::ProgrammingEnd),
         b'N' => start_again(r, m),
         b'I' => range(r, m),
         b'E' => memory_crc(r, m),
@@ -109,8 +109,8 @@ fn alone(r: Run, kind: u8, m: &mut [u8]) -> Outcome {
 // A letter with 0 or 1.
 fn level(r: Run, kind: u8, on: bool, m: &mut [u8]) -> Outcome {
     match kind {
-        b'V' => step(r, m, Signal::Vcc(on)),
-        b'G' => step(r, m, Signal::Fetch(on)),
+        b'V' => step(r, m, WireSignal::Vcc(on)),
+        b'G' => step(r, m, WireSignal::Fetch(on)),
         _ => bad(r),
     }
 }
@@ -119,7 +119,7 @@ fn send(r: Run, m: &mut [u8], bytes: &[u8], n: usize) -> Outcome {
     if n != 1 {
         return bad(r);
     }
-    step(r, m, Signal::Send(parts::byte_at(bytes, 0)))
+    step(r, m, WireSignal::Send(parts::byte_at(bytes, 0)))
 }
 
 // The till puts a message, as an accepted Write Message would.
@@ -186,12 +186,12 @@ fn signal(r: Run, s: &[u8], m: &mut [u8], bytes: &mut [u8]) -> Outcome {
     bad(r)
 }
 
-fn put_answer(text: &mut [u8], at: usize, a: Answer) -> usize {
+fn put_answer(text: &mut [u8], at: usize, a: WireAnswer) -> usize {
     match a {
-        Answer::Nothing => text::put_mark(text, at, b'-'),
-        Answer::Ack => text::put_mark(text, at, b'A'),
-        Answer::NoAck => text::put_mark(text, at, b'N'),
-        Answer::Byte(x) => text::put_byte(text, at, x),
+        WireAnswer::Nothing => text::put_mark(text, at, b'-'),
+        WireAnswer::Ack => text::put_mark(text, at, b'A'),
+        WireAnswer::NoAck => text::put_mark(text, at, b'N'),
+        WireAnswer::Byte(x) => text::put_byte(text, at, x),
     }
 }
 
@@ -205,7 +205,7 @@ fn flag_mark(b: bool) -> u8 {
 fn put_said(text: &mut [u8], at: usize, said: Said, side: WireSide) -> usize {
     match said {
         Said::Bad => text::put_mark(text, at, b'?'),
-        Said::Answer(a) => put_answer(text, at, a),
+        Said::WireAnswer(a) => put_answer(text, at, a),
         Said::Flag(b) => text::put_mark(text, at, flag_mark(b)),
         Said::Crc(w) => text::put_word(text, at, w),
         Said::Side => state::put_side(text, at, side),

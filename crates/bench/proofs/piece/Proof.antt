@@ -4,15 +4,15 @@ use mathlib.Core.Path.{_≡_, refl, _∙_}
 use mathlib.Core.Bool.{true}
 use Prim.Native.Nat.{_-_}
 use lib.ListN.{length, take, drop, length-take}
-use Rattle.script.specs.Lines.{carried}
-use Rattle.stream.specs.Step.{stepped}
+use Rattle.script.specs.Lines.{benchState}
+use Rattle.stream.specs.Step.{streamBuffers}
 use Rattle.bench.proofs.Going.{Going, never, used-some, goes, all-used}
 use Rattle.bench.proofs.piece.Statement.{statement}
 use Rattle.bench.proofs.piece.Tie as tie
 
 abbrev Inv-loop : tie.InvT-loop
 Inv-loop m₀ reply₀ kept₀ s out₀ bench₀ have₀ at₀ m reply kept out bench have at =
-    Going (carried bench₀ m₀ reply₀) (take have₀ kept₀) s out₀ (carried bench m reply) (take have kept) out at
+    Going (benchState bench₀ m₀ reply₀) (take have₀ kept₀) s out₀ (benchState bench m reply) (take have kept) out at
 
 abbrev μ-loop : tie.MeasureT-loop
 μ-loop m₀ reply₀ kept₀ s out₀ bench₀ have₀ at₀ m reply kept out bench have at = length s - at
@@ -66,8 +66,8 @@ loop-less c =
     let t = c .before .before .before .before .before .before .before .before .step in
     omega (
       arith,
-      used-some (carried (a .r .bench) (a .m .now) (a .reply .now)) (take (a .r .have) (a .kept .now)) (a .s .now) (a .out .now) (carried (l .bench) (l .m) (l .reply)) (take (l .have) (l .kept)) (l .out) (l .at) (l .inv)
-          (stepped (t .result .bench) (t .last .1 .0) (t .last .1 .1 .0) (take (t .result .have) (t .last .1 .1 .1 .0)) (t .result .used) (t .result .wrote) (t .last .1 .1 .1 .1 .1 .1 .0))
+      used-some (benchState (a .r .bench) (a .m .now) (a .reply .now)) (take (a .r .have) (a .kept .now)) (a .s .now) (a .out .now) (benchState (l .bench) (l .m) (l .reply)) (take (l .have) (l .kept)) (l .out) (l .at) (l .inv)
+          (streamBuffers (t .result .bench) (t .last .1 .0) (t .last .1 .1 .0) (take (t .result .have) (t .last .1 .1 .1 .0)) (t .result .used) (t .result .wrote) (t .last .1 .1 .1 .1 .1 .1 .0))
           (t .ensures .0) (omega (arith, l .inv .out-len, c .before .before .before .before .before .before .before .before .before .before .before .before .before .before .before .before .before .before .before .pre)) (c .before .before .before .before .before .before .before .before .before .before .before .before .before .before .loop-test .taken),
       c .before .before .before .before .before .before .before .before .before .before .before .before .before .before .loop-test .taken,
     )
@@ -77,8 +77,8 @@ loop-again c =
     let a = c .before .before .before .before .before .before .before .before .before .before .before .before .before .before .before .before .before .before .before .args in
     let l = c .before .before .before .before .before .before .before .before .before .before .before .before .before .before .before .loop in
     let t = c .before .before .before .before .before .before .before .before .step in
-    goes (carried (a .r .bench) (a .m .now) (a .reply .now)) (take (a .r .have) (a .kept .now)) (a .s .now) (a .out .now) (carried (l .bench) (l .m) (l .reply)) (take (l .have) (l .kept)) (l .out) (l .at) (l .inv)
-    (stepped (t .result .bench) (t .last .1 .0) (t .last .1 .1 .0) (take (t .result .have) (t .last .1 .1 .1 .0)) (t .result .used) (t .result .wrote) (t .last .1 .1 .1 .1 .1 .1 .0))
+    goes (benchState (a .r .bench) (a .m .now) (a .reply .now)) (take (a .r .have) (a .kept .now)) (a .s .now) (a .out .now) (benchState (l .bench) (l .m) (l .reply)) (take (l .have) (l .kept)) (l .out) (l .at) (l .inv)
+    (streamBuffers (t .result .bench) (t .last .1 .0) (t .last .1 .1 .0) (take (t .result .have) (t .last .1 .1 .1 .0)) (t .result .used) (t .result .wrote) (t .last .1 .1 .1 .1 .1 .1 .0))
     (t .ensures .0) (t .ensures .1 .0) (t .last .1 .1 .1 .1 .1 .1 .0) (t .kept .1 .1 .1 .1 .1 .1 .0)
 
 same-length-2 : tie.Need-same-length-2 Inv-loop μ-loop
@@ -88,7 +88,7 @@ returns-2 : tie.Need-returns-2 Inv-loop μ-loop
 returns-2 c =
     let a = c .before .before .before .before .before .args in
     let l = c .before .loop in
-    all-used (carried (a .r .bench) (a .m .now) (a .reply .now)) (take (a .r .have) (a .kept .now)) (a .s .now) (a .out .now) (carried (l .bench) (l .m) (l .reply)) (take (l .have) (l .kept)) (l .out) (l .at) (l .inv) (c .loop-test .left) true
+    all-used (benchState (a .r .bench) (a .m .now) (a .reply .now)) (take (a .r .have) (a .kept .now)) (a .s .now) (a .out .now) (benchState (l .bench) (l .m) (l .reply)) (take (l .have) (l .kept)) (l .out) (l .at) (l .inv) (c .loop-test .left) true
 
 pub piece-spec : {M : Type 1} → statement M
 piece-spec =

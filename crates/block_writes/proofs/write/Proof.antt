@@ -37,8 +37,8 @@ returns-2 c =
     let a = call .before .before .before .before .before .before .before .before .args in
     said (writeOf (a .s) (a .m .now) (a .first) (a .more) (a .frame .now) (a .at)) _ (fault NoSuchBlock) (call .error2 .ensures) (search picks depth 20)
 
-leaves-requires : tie.Need-leaves-requires
-leaves-requires c κs = search needs
+leaves-area-requires : tie.Need-leaves-area-requires
+leaves-area-requires c κs = search needs
 
 error-requires-3 : tie.Need-error-requires-3
 error-requires-3 c κs = search needs
@@ -53,7 +53,7 @@ returns-3 c =
     let leave = call .before .before .before in
     let a = leave .before .before .before .before .before .before .before .args in
     said (writeOf (a .s) (a .m .now) (a .first) (a .more) (a .frame .now) (a .at)) _ (fault WriteLeavesArea) (call .error3 .ensures)
-    (rw (← leave .leaves .ensures) (search picks depth 20))
+    (rw (← leave .leaves-area .ensures) (search picks depth 20))
 
 add-may-write-all : tie.Need-add-may-write-all
 add-may-write-all c = search needs
@@ -75,7 +75,7 @@ returns-4 c =
     let leave = right .before .before in
     let a = leave .before .before .before .before .before .before .before .args in
     said (writeOf (a .s) (a .m .now) (a .first) (a .more) (a .frame .now) (a .at)) _ (fault WriteForbidden) (call .error4 .ensures)
-    (rw (← leave .leaves .ensures, ← right .may-write-all .ensures) (search picks depth 20))
+    (rw (← leave .leaves-area .ensures, ← right .may-write-all .ensures) (search picks depth 20))
 
 mul-put-bytes : tie.Need-mul-put-bytes
 mul-put-bytes c = search needs
@@ -107,7 +107,7 @@ returns-5 c =
     let leave = right .before .before in
     let a = leave .before .before .before .before .before .before .before .args in
     said (writeOf (a .s) (a .m .now) (a .first) (a .more) (a .frame .now) (a .at)) _ (good []) (call .done .ensures)
-    (rw (bytes .put-bytes .ensures, ← leave .leaves .ensures, ← right .may-write-all .ensures) (search picks depth 20))
+    (rw (bytes .put-bytes .ensures, ← leave .leaves-area .ensures, ← right .may-write-all .ensures) (search picks depth 20))
 
 pub write-spec : {M : Type 1} → statement M
 write-spec =
@@ -120,7 +120,7 @@ write-spec =
     error-requires-2
     same-length-2
     returns-2
-    leaves-requires
+    leaves-area-requires
     error-requires-3
     same-length-3
     returns-3

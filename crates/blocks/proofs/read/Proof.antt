@@ -15,8 +15,8 @@ use Rattle.blocks.proofs.read.Tie as tie
 add-last : tie.Need-add-last
 add-last c = search needs
 
-leaves-requires : tie.Need-leaves-requires
-leaves-requires c κs = search needs
+leaves-area-requires : tie.Need-leaves-area-requires
+leaves-area-requires c κs = search needs
 
 error-requires : tie.Need-error-requires
 error-requires c κs = search needs
@@ -44,7 +44,7 @@ returns-2 c =
     let leave = call .before .before .before .before in
     let a = leave .before .before .before .before .args in
     said (readOf (a .s) (a .m .now) (a .option) (a .first) (a .more)) _ (fault ReadLeavesArea) (call .error2 .ensures)
-    (rw (← leave .leaves .ensures) (search picks depth 20))
+    (rw (← leave .leaves-area .ensures) (search picks depth 20))
 
 may-read-requires : tie.Need-may-read-requires
 may-read-requires c κs = search needs
@@ -63,7 +63,7 @@ returns-3 c =
     let leave = right .before .before .before in
     let a = leave .before .before .before .before .args in
     said (readOf (a .s) (a .m .now) (a .option) (a .first) (a .more)) _ (fault ReadProtected) (call .error3 .ensures)
-    (rw (← leave .leaves .ensures, ← right .may-read .ensures) (search picks depth 20))
+    (rw (← leave .leaves-area .ensures, ← right .may-read .ensures) (search picks depth 20))
 
 put-requires : tie.Need-put-requires
 put-requires c κs = search needs
@@ -95,14 +95,14 @@ returns-4 c =
     (run .put-blocks .ensures .0)
     (run .put-blocks .ensures .1 ∙ ap (λ (o : List ℕ). sets o 1 blocks) (zero .put .ensures))
     (call .close .ensures))
-    (rw (← leave .leaves .ensures, ← right .may-read .ensures) (search picks depth 20))
+    (rw (← leave .leaves-area .ensures, ← right .may-read .ensures) (search picks depth 20))
 
 pub read-spec : {M : Type 1} → statement M
 read-spec =
     tie.close
     (tie.spec
     add-last
-    leaves-requires
+    leaves-area-requires
     error-requires
     same-length
     returns

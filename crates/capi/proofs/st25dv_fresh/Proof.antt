@@ -1,7 +1,7 @@
 use mathlib.Core.Path.{ap, _∙_}
 use borrow.Author.Tests.{eq-eqb}
 use Rattle.parts.proofs.Picks.{picks}
-use Rattle.model.specs.Step.{Left, left}
+use Rattle.model.specs.Step.{FreshResult, freshResult}
 use Rattle.capi.specs.Interface.{replyFits, freshCall}
 use Rattle.capi.proofs.Fit.{fresh-fits}
 use Rattle.capi.proofs.Calls.{freshened}
@@ -40,7 +40,7 @@ keep-requires : tie.Need-keep-requires
 keep-requires c κs = search needs
 
 answer-number-requires : tie.Need-answer-number-requires
-answer-number-requires c κs = ap (λ (e : Left). replyFits (e .answer)) (c .before .before .before .before .before .before .fresh .ensures) ∙ fresh-fits _ _
+answer-number-requires c κs = ap (λ (e : FreshResult). replyFits (e .answer)) (c .before .before .before .before .before .before .fresh .ensures) ∙ fresh-fits _ _
 
 same-length : tie.Need-same-length
 same-length c = search needs
@@ -52,7 +52,7 @@ returns-4 : tie.Need-returns-4
 returns-4 c =
     let a = c .before .before .before .before .before .before .before .before .before .before .before .before .before .before .before .before .args in
     let o = c .before .before .before .before .before .before .before .fresh in
-    freshened (a .uid .now) (a .m .now) (a .s .now) (left (o .result .answer) (o .result .tag) (o .last .1 .0)) (c .answer-number .result) (c .before .before .before .keep .last .1 .0)
+    freshened (a .uid .now) (a .m .now) (a .s .now) (freshResult (o .result .answer) (o .result .tag) (o .last .1 .0)) (c .answer-number .result) (c .before .before .before .keep .last .1 .0)
     (eq-eqb _ 1024 (c .before .before .before .before .before .before .before .before .before .before .before .before .if1 .left)) (eq-eqb _ 83 (c .before .before .before .before .before .before .before .before .before .before .before .if2 .left)) (eq-eqb _ 8 (c .before .before .before .before .before .before .before .before .before .before .if3 .left))
     (o .ensures ∙ rw (c .before .before .before .before .before .before .before .before .before .at .ensures)) (c .answer-number .ensures) (c .before .before .before .keep .ensures)
 

@@ -2,7 +2,7 @@ use mathlib.Core.Path.{sym, ap, _∙_}
 use native.Mathlib.Omega.{arith}
 use borrow.Author.Tests.{eq-eqb, le-ltb, not-false}
 use Rattle.parts.proofs.Picks.{picks}
-use Rattle.model.specs.Step.{Ended, ended}
+use Rattle.model.specs.Step.{StepResult, stepResultOf}
 use Rattle.capi.specs.Interface.{replyFits, stepCall}
 use Rattle.capi.proofs.Narrow.{code-small, value-small}
 use Rattle.capi.proofs.Fit.{steps-fit}
@@ -71,7 +71,7 @@ keep-requires : tie.Need-keep-requires
 keep-requires c κs = c .before .before .before .before .before .before .before .before .before .before .before .before .before .if4 .left
 
 answer-number-requires : tie.Need-answer-number-requires
-answer-number-requires c κs = ap (λ (e : Ended). replyFits (e .answer)) (c .before .before .before .before .before .before .before .before .step .ensures) ∙ steps-fit _ _ _ _ _ _
+answer-number-requires c κs = ap (λ (e : StepResult). replyFits (e .answer)) (c .before .before .before .before .before .before .before .before .step .ensures) ∙ steps-fit _ _ _ _ _ _
 
 same-length-2 : tie.Need-same-length-2
 same-length-2 c = search needs
@@ -86,7 +86,7 @@ returns-6 : tie.Need-returns-6
 returns-6 c =
     let a = c .before .before .before .before .before .before .before .before .before .before .before .before .before .before .before .before .before .before .before .before .before .before .before .before .before .before .args in
     let o = c .before .before .before .before .before .before .before .before .before .step in
-    stepped (a .s .now) (a .m .now) (a .out .now) (a .code) (a .value) (a .frame .now) (ended (o .result) (o .last .1 .0) (o .last .1 .1 .0)) (c .answer-number .result) (c .before .before .before .keep .last .1 .0)
+    stepped (a .s .now) (a .m .now) (a .out .now) (a .code) (a .value) (a .frame .now) (stepResultOf (o .result) (o .last .1 .0) (o .last .1 .1 .0)) (c .answer-number .result) (c .before .before .before .keep .last .1 .0)
     (eq-eqb _ 1024 (c .before .before .before .before .before .before .before .before .before .before .before .before .before .before .before .before .before .before .before .before .before .if1 .left)) (le-ltb _ 643 (c .before .before .before .before .before .before .before .before .before .before .before .before .before .before .before .before .before .before .before .before .if2 .left)) (sym (c .before .before .before .before .before .before .before .before .before .before .before .before .before .before .before .before .before .before .before .signal-in-range .ensures) ∙ not-false _ (c .before .before .before .before .before .before .before .before .before .before .before .before .before .before .before .before .before .before .if3 .left))
     (eq-eqb _ 83 (c .before .before .before .before .before .before .before .before .before .before .before .before .before .before .before .before .before .if4 .left)) (sym (c .before .before .before .before .before .before .before .before .before .before .before .before .before .before .before .decodes .ensures) ∙ not-false _ (c .before .before .before .before .before .before .before .before .before .before .before .before .before .before .if5 .left))
     (o .ensures ∙ rw (c .before .before .before .before .before .before .before .before .before .before .before .before .decode .ensures)) (c .answer-number .ensures) (c .before .before .before .keep .ensures)

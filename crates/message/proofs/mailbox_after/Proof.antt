@@ -1,6 +1,6 @@
 use borrow.Author.Needs.{needs}
 use Rattle.parts.proofs.Picks.{picks}
-use Rattle.message.specs.Message.{mailboxAfter}
+use Rattle.message.specs.Message.{mailboxAfterRead}
 use Rattle.message.proofs.mailbox_after.Statement.{statement}
 use Rattle.message.proofs.mailbox_after.Tie as tie
 
@@ -14,11 +14,11 @@ radio-read-requires : tie.Need-radio-read-requires
 radio-read-requires c κs = search needs
 
 returns : tie.Need-returns
-unfolding mailboxAfter
+unfolding mailboxAfterRead
 returns c = rw (c .radio-read .ensures) (search picks depth 20)
 
 returns-2 : tie.Need-returns-2
-unfolding mailboxAfter
+unfolding mailboxAfterRead
 returns-2 c = search picks depth 20
 
 pub mailbox-after-spec : {M : Type 1} → statement M

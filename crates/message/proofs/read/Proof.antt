@@ -4,7 +4,7 @@ use borrow.Author.Needs.{needs}
 use Rattle.parts.specs.Bytes.{bytesAt}
 use Rattle.parts.proofs.Picks.{picks}
 use Rattle.parts.proofs.Lists.{length-bytesAt}
-use Rattle.tag.specs.Layout.{mailboxAt}
+use Rattle.tag.specs.Layout.{mailboxPlace}
 use Rattle.errors.specs.declared.RadioError.the-variants.{MailboxDisabled, PastMessage}
 use Rattle.reply.specs.Reply.{good, fault}
 use Rattle.reply.proofs.Finish.{said, good-run}
@@ -88,9 +88,9 @@ returns-3 c =
     let run = call .before .before .before .before .before .before in
     let count = run .before .before .before .before .before .before .before .before .before .asked in
     let a = run .before .before .before .before .before .before .before .before .before .before .before .before .before .before .before .args in
-    let bytes = bytesAt (a .m .now) (mailboxAt + a .p) (count .result) in
+    let bytes = bytesAt (a .m .now) (mailboxPlace + a .p) (count .result) in
     said (readMessageOf (a .s) (a .m .now) (a .p) (a .n)) _ (good bytes)
-    (good-run bytes (a .out .now) (run .put-bytes .last .0) _ (omega (arith, length-bytesAt (a .m .now) (mailboxAt + a .p) (count .result))) (rw (run .put-bytes .ensures, run .before .before .before .before .put .ensures)) (call .close .ensures))
+    (good-run bytes (a .out .now) (run .put-bytes .last .0) _ (omega (arith, length-bytesAt (a .m .now) (mailboxPlace + a .p) (count .result))) (rw (run .put-bytes .ensures, run .before .before .before .before .put .ensures)) (call .close .ensures))
     (rw (call .before .before .with-mailbox .ensures, call .before .before .before .mailbox-after .ensures, ← count .ensures) (search (picks, run .before .before .before .before .before .before .if2 .left, run .before .before .before .before .before .before .before .before .before .before .if1 .left) depth 20))
 
 pub read-spec : {M : Type 1} → statement M

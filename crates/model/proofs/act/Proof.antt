@@ -1,5 +1,5 @@
 use mathlib.Core.Path.{ap}
-use Rattle.model.specs.Step.{Left, leaves, actOf}
+use Rattle.model.specs.Step.{FreshResult, stepResult, actOf}
 use borrow.Author.Needs.{needs}
 use Rattle.model.proofs.act.Statement.{statement}
 use Rattle.model.proofs.act.Tie as tie
@@ -43,7 +43,7 @@ unfolding actOf
 returns c =
     let a = c .before .before .before .before .before .before .before .before .before .before .args in
     rw (c .before .before .before .before .before .s .given .1)
-    (ap (λ (e : Left). leaves (e .answer) (e .tag) (e .memory) (a .out .now)) (c .before .before .by-wire .ensures))
+    (ap (λ (e : FreshResult). stepResult (e .answer) (e .tag) (e .memory) (a .out .now)) (c .before .before .by-wire .ensures))
 
 -- src/lib.rt:159:1
 returns-2 : tie.Need-returns-2

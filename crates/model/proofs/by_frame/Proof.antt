@@ -1,6 +1,6 @@
 use mathlib.Core.Path.{ap}
-use Rattle.reply.specs.Outcome.{Ended as RadioEnded}
-use Rattle.model.specs.Step.{leaves, fromRadio, withRadio, actOf}
+use Rattle.reply.specs.Outcome.{RadioResult}
+use Rattle.model.specs.Step.{stepResult, fromRadio, withRadio, actOf}
 use borrow.Author.Needs.{needs}
 use Rattle.model.proofs.by_frame.Statement.{statement}
 use Rattle.model.proofs.by_frame.Tie as tie
@@ -36,7 +36,7 @@ unfolding actOf
 returns c =
     let a = c .before .before .before .before .before .before .before .before .before .before .before .before .before .before .before .before .before .before .args in
     rw (c .from-radio .ensures, ← c .before .before .before .before .before .before .before .before .before .before .before .is-open .ensures)
-    (ap (λ (e : RadioEnded). leaves (fromRadio (e .answer)) (withRadio (e .side) (a .t)) (e .memory) (e .buffer)) (c .before .before .before .before .before .before .before .before .radio .ensures))
+    (ap (λ (e : RadioResult). stepResult (fromRadio (e .answer)) (withRadio (e .side) (a .t)) (e .memory) (e .buffer)) (c .before .before .before .before .before .before .before .before .radio .ensures))
 
 pub by-frame-spec : {M : Type 1} → statement M
 by-frame-spec =

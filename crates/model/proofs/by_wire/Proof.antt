@@ -1,6 +1,6 @@
 use mathlib.Core.Path.{ap}
-use Rattle.signal.specs.Signal.{Ended}
-use Rattle.model.specs.Step.{left, fromWire, withWire}
+use Rattle.signal.specs.Signal.{WireResult}
+use Rattle.model.specs.Step.{freshResult, fromWire, withWire}
 use borrow.Author.Needs.{needs}
 use Rattle.model.proofs.by_wire.Statement.{statement}
 use Rattle.model.proofs.by_wire.Tie as tie
@@ -26,7 +26,7 @@ returns : tie.Need-returns
 returns c =
     let a = c .before .before .before .before .before .before .before .before .before .before .before .args in
     rw (c .from-wire .ensures)
-    (ap (λ (e : Ended). left (fromWire (e .answer)) (withWire (e .side) (a .t)) (e .memory)) (c .before .before .before .before .before .before .step .ensures))
+    (ap (λ (e : WireResult). freshResult (fromWire (e .answer)) (withWire (e .side) (a .t)) (e .memory)) (c .before .before .before .before .before .before .step .ensures))
 
 pub by-wire-spec : {M : Type 1} → statement M
 by-wire-spec = tie.close (tie.spec step-requires from-wire-requires same-length returns)

@@ -2,7 +2,7 @@ use mathlib.Core.List.{[]}
 use borrow.Author.Needs.{needs}
 use Rattle.reply.specs.Reply.{good}
 use Rattle.reply.proofs.Finish.{said}
-use Rattle.password.specs.Password.{resetOf}
+use Rattle.password.specs.Password.{resetToReadyOf}
 use Rattle.password.proofs.reset.Statement.{statement}
 use Rattle.password.proofs.reset.Tie as tie
 
@@ -19,11 +19,11 @@ same-length : tie.Need-same-length
 same-length c = search needs
 
 returns : tie.Need-returns
-unfolding resetOf
+unfolding resetToReadyOf
 returns c =
     let call = c .before .before in
     let a = call .before .before .before .before .before .before .args in
-    said (resetOf (a .s) (a .m .now)) _ (good []) (call .done .ensures) (rw (call .before .before .with-air .ensures, call .before .before .before .reset .ensures))
+    said (resetToReadyOf (a .s) (a .m .now)) _ (good []) (call .done .ensures) (rw (call .before .before .with-air .ensures, call .before .before .before .reset .ensures))
 
 pub reset-spec : {M : Type 1} → statement M
 reset-spec =

@@ -3,7 +3,7 @@ use borrow.Author.Needs.{needs}
 use Rattle.parts.proofs.Picks.{picks}
 use Rattle.reply.specs.Reply.{good}
 use Rattle.reply.proofs.Finish.{said, silent}
-use Rattle.password.specs.Password.{selectOf}
+use Rattle.password.specs.Password.{selectUidOf}
 use Rattle.password.proofs.select.Statement.{statement}
 use Rattle.password.proofs.select.Tie as tie
 
@@ -20,11 +20,11 @@ same-length : tie.Need-same-length
 same-length c = search needs
 
 returns : tie.Need-returns
-unfolding selectOf
+unfolding selectUidOf
 returns c =
     let call = c .before .before in
     let a = call .before .before .before .before .before .before .before .args in
-    said (selectOf (a .s) (a .m .now) (a .own)) _ (good []) (call .done .ensures)
+    said (selectUidOf (a .s) (a .m .now) (a .own)) _ (good []) (call .done .ensures)
     (rw (call .before .before .with-air .ensures, call .before .before .before .select .ensures) (search picks depth 20))
 
 deselect-requires : tie.Need-deselect-requires
@@ -34,10 +34,10 @@ with-air-requires-2 : tie.Need-with-air-requires-2
 with-air-requires-2 c κs = search needs
 
 returns-2 : tie.Need-returns-2
-unfolding selectOf
+unfolding selectUidOf
 returns-2 c =
     let a = c .before .before .before .before .before .args in
-    silent (selectOf (a .s) (a .m .now) (a .own)) (rw (c .with-air2 .ensures, c .before .deselect .ensures) (search picks depth 20))
+    silent (selectUidOf (a .s) (a .m .now) (a .own)) (rw (c .with-air2 .ensures, c .before .deselect .ensures) (search picks depth 20))
 
 pub select-spec : {M : Type 1} → statement M
 select-spec =

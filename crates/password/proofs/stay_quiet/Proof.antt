@@ -1,6 +1,6 @@
 use borrow.Author.Needs.{needs}
 use Rattle.reply.proofs.Finish.{silent}
-use Rattle.password.specs.Password.{quietOf}
+use Rattle.password.specs.Password.{stayQuietOf}
 use Rattle.password.proofs.stay_quiet.Statement.{statement}
 use Rattle.password.proofs.stay_quiet.Tie as tie
 
@@ -11,10 +11,10 @@ with-air-requires : tie.Need-with-air-requires
 with-air-requires c κs = search needs
 
 returns : tie.Need-returns
-unfolding quietOf
+unfolding stayQuietOf
 returns c =
     let a = c .before .before .before .before .args in
-    silent (quietOf (a .s) (a .m .now)) (rw (c .with-air .ensures, c .before .stay-quiet .ensures))
+    silent (stayQuietOf (a .s) (a .m .now)) (rw (c .with-air .ensures, c .before .stay-quiet .ensures))
 
 pub stay-quiet-spec : {M : Type 1} → statement M
 stay-quiet-spec = tie.close (tie.spec stay-quiet-requires with-air-requires returns)

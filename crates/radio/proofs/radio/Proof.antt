@@ -1,9 +1,9 @@
 use Rattle.reply.specs.Reply.{fault}
-use Rattle.reply.specs.Outcome.{told}
+use Rattle.reply.specs.Outcome.{commandResult}
 use mathlib.Core.Path.{_≡_}
 use Rattle.reply.specs.Reply.{answerOf, bufferOf}
 use Rattle.reply.proofs.Finish.{said}
-use Rattle.radio.specs.Radio.{answered, radioOf}
+use Rattle.radio.specs.Radio.{verdictResult, radioOf}
 use borrow.Author.Needs.{needs}
 use Rattle.radio.proofs.radio.Statement.{statement}
 use Rattle.radio.proofs.radio.Tie as tie
@@ -30,14 +30,14 @@ serve-requires : tie.Need-serve-requires
 serve-requires c κs = search needs
 
 returns : tie.Need-returns
-unfolding radioOf answered answerOf bufferOf
+unfolding radioOf verdictResult answerOf bufferOf
 returns c = rw (← c .before .before .judge .ensures, c .enum-told .given .1)
 
 same-length : tie.Need-same-length
 same-length c = search needs
 
 returns-2 : tie.Need-returns-2
-unfolding radioOf answered
+unfolding radioOf verdictResult
 returns-2 c =
     let failed = c .before .before in
     let judged = failed .before .before .before .before .before in
@@ -52,7 +52,7 @@ same-length-3 : tie.Need-same-length-3
 same-length-3 c = search needs
 
 returns-3 : tie.Need-returns-3
-unfolding radioOf answered
+unfolding radioOf verdictResult
 returns-3 c =
     let served = c .before .before .before .before in
     let asked = served .before .before .before in

@@ -5,8 +5,8 @@ use Prim.Native.Nat.{ℕ, _-_}
 use lib.ListN.{length, take, drop, length-drop}
 use lib.Seq.{take-all}
 use Rattle.crc.specs.Crc.{closed}
-use Rattle.script.specs.Bench.{calls, benchOf, saidOf}
-use Rattle.script.specs.Line.{Said, lineOf, saidBy}
+use Rattle.script.specs.Bench.{benchCall, benchOf, lineResult}
+use Rattle.script.specs.Line.{ScriptLine, lineOf, lineBy}
 use Rattle.text.specs.Hex.{hexBytes}
 use Rattle.script.specs.declared.Bench.{Bench}
 use Rattle.script.specs.declared.reading.Reading.{Reading}
@@ -16,11 +16,11 @@ use Rattle.script.proofs.arguments_of.Statement.{statement}
 use Rattle.script.proofs.arguments_of.Tie as tie
 
 -- what the line says, by what was read
-said : (s : List ℕ) (r x : Reading) → saidBy r (drop 2 s) ≡ lineOf s → r ≡ x → lineOf s ≡ saidBy x (drop 2 s)
-said s r x e h = sym e ∙ ap (λ (y : Reading). saidBy y (drop 2 s)) h
+said : (s : List ℕ) (r x : Reading) → lineBy r (drop 2 s) ≡ lineOf s → r ≡ x → lineOf s ≡ lineBy x (drop 2 s)
+said s r x e h = sym e ∙ ap (λ (y : Reading). lineBy y (drop 2 s)) h
 
 is-framed : (c : tie.After-enum-told2) → Framed (c .before .before .before .before .args .s .now)
-unfolding saidBy
+unfolding lineBy
 is-framed c =
     let s = c .before .before .before .before .args .s .now in
     framed s (hexBytes (drop 2 s)) (said s _ _ (c .before .before .read .ensures) (c .enum-told2 .given .1))
@@ -54,27 +54,27 @@ put-frame-requires c κs =
     rw e (omega (arith, f, length-drop 2 s))
 
 returns : tie.Need-returns
-unfolding benchOf saidOf saidBy
+unfolding benchOf lineResult lineBy
 returns c =
     let s = c .before .before .before .before .args .s .now in
     let e = said s _ _ (c .before .before .read .ensures) (c .enum-told .given .1) in
-    (λ b m o. bad-call b m o 0 [] ∙ ap (λ (x : Said). saidOf x b m o) (sym e), omega arith)
+    (λ b m o. bad-call b m o 0 [] ∙ ap (λ (x : ScriptLine). lineResult x b m o) (sym e), omega arith)
 
 returns-2 : tie.Need-returns-2
-unfolding benchOf saidOf saidBy
+unfolding benchOf lineResult lineBy
 returns-2 c =
     let s = c .before .before .before .before .before .args .s .now in
     let e = said s _ _ (c .before .before .before .read .ensures) (c .before .code .given .1) in
-    (λ b m o. ap (λ (x : Said). saidOf x b m o) (sym e), omega arith)
+    (λ b m o. ap (λ (x : ScriptLine). lineResult x b m o) (sym e), omega arith)
 
 returns-3 : tie.Need-returns-3
-unfolding benchOf saidOf saidBy
+unfolding benchOf lineResult lineBy
 returns-3 c =
     let s = c .before .before .before .before .before .before .before .args .s .now in
     let e = said s _ _ (c .before .before .before .before .before .read .ensures) (c .before .before .before .enum-told2 .given .1) in
     let t : take (length s - 2) (drop 2 s) ≡ drop 2 s = take-all (length s - 2) (drop 2 s) (omega (arith, length-drop 2 s)) in
     let f : take (c .put-frame .result) (c .put-frame .last .1 .0) ≡ closed (hexBytes (drop 2 s)) = rw t at (c .put-frame .ensures .0) in
-    (λ b m o. ap (λ (x : List ℕ). calls b m o 8 0 x) f ∙ ap (λ (x : Said). saidOf x b m o) (sym e), c .put-frame .ensures .1)
+    (λ b m o. ap (λ (x : List ℕ). benchCall b m o 8 0 x) f ∙ ap (λ (x : ScriptLine). lineResult x b m o) (sym e), c .put-frame .ensures .1)
 
 pub arguments-of-spec : {M : Type 1} → statement M
 arguments-of-spec =

@@ -5,9 +5,9 @@ use Prim.Native.Nat.{ℕ, _-_}
 use native.Mathlib.Nat.{sub-zero}
 use native.Mathlib.Omega.{arith}
 use lib.ListN.{take}
-use Rattle.script.specs.Bench.{Printed, Shown, prints, calls, benchOf, shown, show}
+use Rattle.script.specs.Bench.{LineResult, LineBuffers, prints, benchCall, benchOf, lineBuffers, putLine}
 use Rattle.script.specs.Text.{badText}
-use Rattle.script.specs.Lines.{carried}
+use Rattle.script.specs.Lines.{benchState}
 use Rattle.script.proofs.LineLaws.{bad-call}
 use Rattle.script.proofs.Fits.{text-fits}
 use Rattle.script.proofs.line.Statement.{statement}
@@ -34,11 +34,11 @@ returns c =
     let f = take (k .length) (g .last .1 .0) in
     let p : prints (a .b) (a .b .tag) (a .m .now) (a .reply .now) badText ≡ benchOf (a .b) (a .m .now) (a .reply .now) (a .s .now) =
     sym (bad-call (a .b) (a .m .now) (a .reply .now) (k .value) f)
-    ∙ ap (λ (n : ℕ). calls (a .b) (a .m .now) (a .reply .now) n (k .value) f) (sym (i .if1 .taken))
+    ∙ ap (λ (n : ℕ). benchCall (a .b) (a .m .now) (a .reply .now) n (k .value) f) (sym (i .if1 .taken))
     ∙ g .ensures .0 (a .b) (a .m .now) (a .reply .now) in
-    let e : shown (o .result .bench) (o .result .length) (a .m .now) (a .reply .now) (o .last .1 .1 .0) ≡ show (benchOf (a .b) (a .m .now) (a .reply .now) (a .s .now)) (a .text .now) =
-    o .ensures (a .m .now) ∙ ap (λ (x : Printed). show x (a .text .now)) p in
-    (e, omega (arith, ap (λ (x : Shown). x .length) e, text-fits (carried (a .b) (a .m .now) (a .reply .now)) (a .s .now)))
+    let e : lineBuffers (o .result .bench) (o .result .length) (a .m .now) (a .reply .now) (o .last .1 .1 .0) ≡ putLine (benchOf (a .b) (a .m .now) (a .reply .now) (a .s .now)) (a .text .now) =
+    o .ensures (a .m .now) ∙ ap (λ (x : LineResult). putLine x (a .text .now)) p in
+    (e, omega (arith, ap (λ (x : LineBuffers). x .length) e, text-fits (benchState (a .b) (a .m .now) (a .reply .now)) (a .s .now)))
 
 sub-call : tie.Need-sub-call
 sub-call c = search needs
@@ -66,11 +66,11 @@ returns-2 c =
     let g = g12 .arguments-of in
     let k = g .result in
     let o = o4 .call in
-    let e : shown (o .result .bench) (o .result .length) (o .last .1 .0) (o .last .1 .1 .0) (o .last .1 .1 .1 .1 .1 .1 .0) ≡ show (benchOf (a .b) (a .m .now) (a .reply .now) (a .s .now)) (a .text .now) =
+    let e : lineBuffers (o .result .bench) (o .result .length) (o .last .1 .0) (o .last .1 .1 .0) (o .last .1 .1 .1 .1 .1 .1 .0) ≡ putLine (benchOf (a .b) (a .m .now) (a .reply .now) (a .s .now)) (a .text .now) =
     o .ensures
-    ∙ ap (λ (n : ℕ). show (calls (a .b) (a .m .now) (a .reply .now) (k .code) (k .value) (take n (g .last .1 .0))) (a .text .now)) (sub-zero (k .length))
-    ∙ ap (λ (p : Printed). show p (a .text .now)) (g .ensures .0 (a .b) (a .m .now) (a .reply .now)) in
-    (e, omega (arith, ap (λ (x : Shown). x .length) e, text-fits (carried (a .b) (a .m .now) (a .reply .now)) (a .s .now)))
+    ∙ ap (λ (n : ℕ). putLine (benchCall (a .b) (a .m .now) (a .reply .now) (k .code) (k .value) (take n (g .last .1 .0))) (a .text .now)) (sub-zero (k .length))
+    ∙ ap (λ (p : LineResult). putLine p (a .text .now)) (g .ensures .0 (a .b) (a .m .now) (a .reply .now)) in
+    (e, omega (arith, ap (λ (x : LineBuffers). x .length) e, text-fits (benchState (a .b) (a .m .now) (a .reply .now)) (a .s .now)))
 
 pub line-spec : {M : Type 1} → statement M
 line-spec =

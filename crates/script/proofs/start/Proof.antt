@@ -1,6 +1,6 @@
 use borrow.Author.Needs.{needs}
 use Prim.Native.Nat.{_-_}
-use Rattle.script.specs.Bench.{startOf}
+use Rattle.script.specs.Bench.{benchStartOf}
 use Rattle.script.proofs.start.Statement.{statement}
 use Rattle.script.proofs.start.Tie as tie
 
@@ -11,7 +11,7 @@ same-length : tie.Need-same-length
 same-length c = search needs
 
 returns : tie.Need-returns
-unfolding startOf
+unfolding benchStartOf
 returns c = rw (← c .before .before .before .fresh .ensures)
 
 pub start-spec : {M : Type 1} → statement M

@@ -1,5 +1,5 @@
 use mathlib.Core.Path.{_≡_, sym, _∙_}
-use Rattle.rule.specs.declared.Choice.the-variants.{Refused, Reading, Writing}
+use Rattle.rule.specs.declared.Choice.the-variants.{NotAcked, Reading, Writing}
 use Rattle.rule.specs.Select.{choose}
 use Rattle.signal.specs.Signal.{selectBy}
 use borrow.Author.Needs.{needs}
@@ -31,7 +31,7 @@ returns : tie.Need-returns
 unfolding selectBy
 returns c =
     let a = c .before .before .before .before .before .args in
-    let chosen : choose (a .w .host .vcc) (a .w .host .programming) (a .x) ≡ Refused = sym (c .before .before .before .choose .ensures) ∙ c .before .enum-told .given .1 in
+    let chosen : choose (a .w .host .vcc) (a .w .host .programming) (a .x) ≡ NotAcked = sym (c .before .before .before .choose .ensures) ∙ c .before .enum-told .given .1 in
     rw (c .with-bus .ensures, chosen)
 
 returns-2 : tie.Need-returns-2

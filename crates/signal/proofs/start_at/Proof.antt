@@ -1,7 +1,7 @@
 use mathlib.Core.Path.{refl, ap}
-use Rattle.leg.specs.Effect.{Left, settle}
-use Rattle.signal.specs.declared.Answer.the-variants.{Nothing}
-use Rattle.signal.specs.Signal.{says, dueOf, startAt}
+use Rattle.leg.specs.Effect.{LegResult, settle}
+use Rattle.signal.specs.declared.WireAnswer.the-variants.{Nothing}
+use Rattle.signal.specs.Signal.{wireResult, dueOf, startAt}
 use Rattle.signal.proofs.Settle.{read-started, dropped}
 use borrow.Author.Needs.{needs}
 use Rattle.signal.proofs.start_at.Statement.{statement}
@@ -46,7 +46,7 @@ returns-3 : tie.Need-returns-3
 unfolding startAt dueOf
 returns-3 c =
     let made = c .before .before .before .before in
-    rw (c .end-read .ensures, made .with-bus .ensures, made .before .is-open .ensures, c .before .before .b2 .given .1) (ap (λ (r : Left). says Nothing (r .side) (r .memory)) (read-started _ _ _))
+    rw (c .end-read .ensures, made .with-bus .ensures, made .before .is-open .ensures, c .before .before .b2 .given .1) (ap (λ (r : LegResult). wireResult Nothing (r .side) (r .memory)) (read-started _ _ _))
 
 returns-4 : tie.Need-returns-4
 unfolding startAt settle dueOf
@@ -60,7 +60,7 @@ returns-6 : tie.Need-returns-6
 unfolding startAt settle dueOf
 returns-6 c =
     let made = c .before .before .before in
-    rw (made .with-bus .ensures, made .before .is-open .ensures, c .before .b5 .given .1) (ap (λ (r : Left). says Nothing (r .side) (r .memory)) (dropped _ _ _ _ refl))
+    rw (made .with-bus .ensures, made .before .is-open .ensures, c .before .b5 .given .1) (ap (λ (r : LegResult). wireResult Nothing (r .side) (r .memory)) (dropped _ _ _ _ refl))
 
 pub start-at-spec : {M : Type 1} → statement M
 start-at-spec =

@@ -1,7 +1,7 @@
 use mathlib.Core.Path.{ap}
-use Rattle.leg.specs.Effect.{Left, settle}
-use Rattle.signal.specs.declared.Answer.the-variants.{Nothing}
-use Rattle.signal.specs.Signal.{says, dueOf, stopAt}
+use Rattle.leg.specs.Effect.{LegResult, settle}
+use Rattle.signal.specs.declared.WireAnswer.the-variants.{Nothing}
+use Rattle.signal.specs.Signal.{wireResult, dueOf, stopAt}
 use Rattle.signal.proofs.Settle.{read-stopped}
 use borrow.Author.Needs.{needs}
 use Rattle.signal.proofs.stop_at.Statement.{statement}
@@ -46,7 +46,7 @@ returns-3 : tie.Need-returns-3
 unfolding stopAt dueOf
 returns-3 c =
     let made = c .before .before .before .before in
-    rw (c .end-read .ensures, made .with-bus .ensures, c .before .before .b2 .given .1) (ap (λ (r : Left). says Nothing (r .side) (r .memory)) (read-stopped _ _ _))
+    rw (c .end-read .ensures, made .with-bus .ensures, c .before .before .b2 .given .1) (ap (λ (r : LegResult). wireResult Nothing (r .side) (r .memory)) (read-stopped _ _ _))
 
 returns-4 : tie.Need-returns-4
 unfolding stopAt settle dueOf
@@ -64,7 +64,7 @@ unfolding stopAt
 returns-6 c =
     let stopped = c .before .before in
     let made = stopped .before .before .before .before .before in
-    rw (stopped .before .before .before .b5 .given .1) (rw (made .with-bus .ensures) at (ap (λ (r : Left). says Nothing (r .side) (r .memory)) (stopped .stop-write .ensures)))
+    rw (stopped .before .before .before .b5 .given .1) (rw (made .with-bus .ensures) at (ap (λ (r : LegResult). wireResult Nothing (r .side) (r .memory)) (stopped .stop-write .ensures)))
 
 pub stop-at-spec : {M : Type 1} → statement M
 stop-at-spec =

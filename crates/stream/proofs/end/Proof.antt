@@ -4,8 +4,8 @@ use mathlib.Core.Path.{_≡_, ap, sym, _∙_}
 use mathlib.Core.List.{List, [], _∷_}
 use Prim.Native.Nat.{ℕ}
 use lib.ListN.{length, take, length-take}
-use Rattle.script.specs.Lines.{carried}
-use Rattle.stream.specs.Step.{Fed, fedOf, puts}
+use Rattle.script.specs.Lines.{benchState}
+use Rattle.stream.specs.Step.{PieceResult, pieceBy, puts}
 use Rattle.stream.proofs.Held.{end-none, end-some, take-within}
 use Rattle.stream.proofs.end.Statement.{statement}
 use Rattle.stream.proofs.end.Tie as tie
@@ -17,7 +17,7 @@ returns : tie.Need-returns
 returns c =
     let a = c .before .before .before .before .before .args in
     let n = c .before .kept-count in
-    (ap (λ (r : Fed). puts r (a .out .now)) (sym (end-none (length (a .out .now)) (carried (a .b) (a .m .now) (a .reply .now)) (take (a .have) (a .kept .now)) (omega (arith, n .ensures, c .if1 .taken, length-take (a .have) (a .kept .now))))), omega arith)
+    (ap (λ (r : PieceResult). puts r (a .out .now)) (sym (end-none (length (a .out .now)) (benchState (a .b) (a .m .now) (a .reply .now)) (take (a .have) (a .kept .now)) (omega (arith, n .ensures, c .if1 .taken, length-take (a .have) (a .kept .now))))), omega arith)
 
 slice-aggregate-step : tie.Need-slice-aggregate-step
 slice-aggregate-step c = search needs
@@ -33,11 +33,11 @@ returns-2 c =
     let a = c .before .before .before .before .before .before .before .before .before .before .before .before .before .args in
     let n = c .before .before .before .before .before .before .before .before .before .kept-count in
     let room = length (a .out .now) in
-    let st = carried (a .b) (a .m .now) (a .reply .now) in
+    let st = benchState (a .b) (a .m .now) (a .reply .now) in
     let h = take (a .have) (a .kept .now) in (
       c .before .before .step .ensures .0
-          ∙ ap (λ (x : List ℕ). puts (fedOf room st x (10 ∷ [])) (a .out .now)) (take-within (a .kept .now) (a .have) (n .result) (n .ensures))
-          ∙ ap (λ (r : Fed). puts r (a .out .now)) (sym (end-some room st h (λ z. c .before .before .before .before .before .before .before .before .if1 .left (omega (arith, n .ensures, length-take (a .have) (a .kept .now)))))),
+          ∙ ap (λ (x : List ℕ). puts (pieceBy room st x (10 ∷ [])) (a .out .now)) (take-within (a .kept .now) (a .have) (n .result) (n .ensures))
+          ∙ ap (λ (r : PieceResult). puts r (a .out .now)) (sym (end-some room st h (λ z. c .before .before .before .before .before .before .before .before .if1 .left (omega (arith, n .ensures, length-take (a .have) (a .kept .now)))))),
       c .before .before .step .ensures .1 .1,
     )
 

@@ -3,8 +3,8 @@ use mathlib.Core.Path.{ap, _∙_}
 use mathlib.Core.List.{List}
 use Prim.Native.Nat.{ℕ}
 use native.Mathlib.Omega.{arith}
-use Rattle.script.specs.Bench.{Printed, show}
-use Rattle.script.specs.Lines.{carried, printed}
+use Rattle.script.specs.Bench.{LineResult, putLine}
+use Rattle.script.specs.Lines.{benchState, lineFrom}
 use Rattle.stream.proofs.Held.{whole-line}
 use Rattle.stream.proofs.end_line.Statement.{statement}
 use Rattle.stream.proofs.end_line.Tie as tie
@@ -24,10 +24,10 @@ same-length c = search needs
 returns : tie.Need-returns
 returns c =
     let a = c .before .before .before .before .before .before .before .before .before .before .before .before .before .args in
-    let st = carried (a .b) (a .m .now) (a .reply .now) in (
+    let st = benchState (a .b) (a .m .now) (a .reply .now) in (
       c .before .before .line .ensures .0
-          ∙ ap (λ (l : List ℕ). show (printed st l) (a .text .now)) (c .before .before .before .before .line-from .ensures ∙ c .before .before .before .before .before .before .before .before .before .join .ensures .0)
-          ∙ ap (λ (r : Printed). show r (a .text .now)) (whole-line st (a .kept .now) (a .s .now) (a .have)),
+          ∙ ap (λ (l : List ℕ). putLine (lineFrom st l) (a .text .now)) (c .before .before .before .before .line-from .ensures ∙ c .before .before .before .before .before .before .before .before .before .join .ensures .0)
+          ∙ ap (λ (r : LineResult). putLine r (a .text .now)) (whole-line st (a .kept .now) (a .s .now) (a .have)),
       c .before .before .line .ensures .1,
     )
 

@@ -1,7 +1,7 @@
 use borrow.Author.Needs.{needs}
 use Prim.Native.Nat.{_-_}
 use Rattle.parts.proofs.Picks.{picks}
-use Rattle.script.specs.Line.{saidBy, byteSent}
+use Rattle.script.specs.Line.{lineBy, byteSent}
 use Rattle.script.proofs.reading.byte_sent.Statement.{statement}
 use Rattle.script.proofs.reading.byte_sent.Tie as tie
 
@@ -21,11 +21,11 @@ cast-t9 : tie.Need-cast-t9
 cast-t9 c = search needs
 
 returns : tie.Need-returns
-unfolding saidBy byteSent
+unfolding lineBy byteSent
 returns c = rw (c .hex-byte .ensures, c .before .byte-at2 .ensures, c .before .before .byte-at .ensures, ← c .before .before .before .before .all-hex .ensures) (search picks depth 20)
 
 returns-2 : tie.Need-returns-2
-unfolding saidBy byteSent
+unfolding lineBy byteSent
 returns-2 c = rw (← c .before .all-hex .ensures) (search picks depth 20)
 
 pub byte-sent-spec : {M : Type 1} → statement M

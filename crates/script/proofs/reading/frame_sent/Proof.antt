@@ -1,7 +1,7 @@
 use borrow.Author.Needs.{needs}
 use Prim.Native.Nat.{_-_}
 use Rattle.parts.proofs.Picks.{picks}
-use Rattle.script.specs.Line.{saidBy, frameSent}
+use Rattle.script.specs.Line.{lineBy, frameSent}
 use Rattle.script.proofs.reading.frame_sent.Statement.{statement}
 use Rattle.script.proofs.reading.frame_sent.Tie as tie
 
@@ -9,11 +9,11 @@ all-hex-requires : tie.Need-all-hex-requires
 all-hex-requires c κs = search needs
 
 returns : tie.Need-returns
-unfolding saidBy frameSent
+unfolding lineBy frameSent
 returns c = rw (← c .before .all-hex .ensures) (search picks depth 20)
 
 returns-2 : tie.Need-returns-2
-unfolding saidBy frameSent
+unfolding lineBy frameSent
 returns-2 c = rw (← c .before .all-hex .ensures) (search picks depth 20)
 
 pub frame-sent-spec : {M : Type 1} → statement M

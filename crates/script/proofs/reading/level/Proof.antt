@@ -9,7 +9,7 @@ use lib.ListN.{length}
 use borrow.Author.Tests.{eqb-true}
 use Rattle.parts.proofs.Bools.{and-right, or-cases}
 use Rattle.parts.proofs.Picks.{picks}
-use Rattle.script.specs.Line.{saidBy, level}
+use Rattle.script.specs.Line.{lineBy, level}
 use Rattle.script.proofs.reading.level.Statement.{statement}
 use Rattle.script.proofs.reading.level.Tie as tie
 
@@ -27,11 +27,11 @@ cast-t11 : tie.Need-cast-t11
 cast-t11 c = search needs
 
 returns : tie.Need-returns
-unfolding saidBy level
+unfolding lineBy level
 returns c = rw (← c .before .byte-at .ensures) (search picks depth 20)
 
 returns-2 : tie.Need-returns-2
-unfolding saidBy level
+unfolding lineBy level
 returns-2 c = rw (← c .before .byte-at .ensures) (search picks depth 20)
 
 pub level-spec : {M : Type 1} → statement M

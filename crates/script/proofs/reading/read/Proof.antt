@@ -8,12 +8,12 @@ use lib.Seq.{take-all}
 use borrow.Author.Tests.{ne-eqb, le-ltb}
 use Rattle.parts.specs.Pick.{pick}
 use Rattle.parts.proofs.Picks.{picks}
-use Rattle.script.specs.Line.{saidBy, alone, tabbed, lineOf}
+use Rattle.script.specs.Line.{lineBy, alone, tabbed, lineOf}
 use Rattle.script.proofs.reading.read.Statement.{statement}
 use Rattle.script.proofs.reading.read.Tie as tie
 
 returns : tie.Need-returns
-unfolding saidBy lineOf
+unfolding lineBy lineOf
 returns c = search picks depth 20
 
 alone-requires : tie.Need-alone-requires
@@ -24,7 +24,7 @@ unfolding lineOf
 returns-2 c = rw (c .alone .ensures) (search picks depth 20)
 
 returns-3 : tie.Need-returns-3
-unfolding saidBy lineOf pick
+unfolding lineBy lineOf pick
 returns-3 c =
     let s = c .before .before .before .before .args .s .now in
     let e : getD s 1 0 ≡ 0 = List·getD-eq-default s 0 (omega arith) in
@@ -34,7 +34,7 @@ shared-slice-read-if4 : tie.Need-shared-slice-read-if4
 shared-slice-read-if4 c = search needs
 
 returns-4 : tie.Need-returns-4
-unfolding saidBy lineOf
+unfolding lineBy lineOf
 returns-4 c = search picks depth 20
 
 shared-slice-read-tabbed : tie.Need-shared-slice-read-tabbed

@@ -2,7 +2,7 @@ use borrow.Author.Needs.{needs}
 use Prim.Native.Nat.{_-_}
 use borrow.Author.Tests.{ne-eqb}
 use Rattle.parts.specs.Pick.{pick}
-use Rattle.script.specs.Line.{saidBy, level, tabbed}
+use Rattle.script.specs.Line.{lineBy, level, tabbed}
 use Rattle.script.proofs.reading.tabbed.Statement.{statement}
 use Rattle.script.proofs.reading.tabbed.Tie as tie
 
@@ -42,7 +42,7 @@ unfolding tabbed pick
 returns-5 c = rw (c .before .match .keys5) (c .frame-sent .ensures)
 
 returns-6 : tie.Need-returns-6
-unfolding saidBy tabbed pick
+unfolding lineBy tabbed pick
 returns-6 c = rw (ne-eqb _ 0x56 (c .match .rest .0 .0 .0 .0 .1), ne-eqb _ 0x46 (c .match .rest .0 .0 .0 .1), ne-eqb _ 0x42 (c .match .rest .0 .0 .1), ne-eqb _ 0x47 (c .match .rest .0 .1), ne-eqb _ 0x52 (c .match .rest .1))
 
 pub tabbed-spec : {M : Type 1} → statement M

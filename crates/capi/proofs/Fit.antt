@@ -10,10 +10,10 @@ use Rattle.tag.specs.declared.Tag.{Tag}
 use Rattle.tag.specs.declared.WireSide.{WireSide}
 use Rattle.tag.specs.declared.Uid.{Uid}
 use Rattle.ranges.specs.Ranges.{registersInRange, airInRange, mailboxInRange, suppliedInRange, hostInRange, coreInRange, wireInRange, inRange}
-use Rattle.rule.specs.PageRange.{busInRange}
+use Rattle.page.specs.PageRange.{busInRange}
 use Rattle.signal.specs.declared.WireAnswer.{WireAnswer}
 use Rattle.signal.specs.declared.WireAnswer.the-variants.{Nothing as WireNothing, Ack as WireAck, NoAck as WireNoAck, Byte as WireByte}
-use Rattle.signal.specs.Signal.{signalOf}
+use Rattle.wire.specs.Wire.{signalOf}
 use Rattle.reply.specs.Reply.{ReplyBody, nothing, body, answerOf}
 use Rattle.radio.specs.Claims.{replySize}
 use Rattle.radio.specs.Radio.{radioOf}

@@ -2,7 +2,7 @@
 ghost use mathlib.Core.Path.{_≡_};
 ghost use Prim.Native.Nat.{_-_};
 ghost use lib.ListN.{getD};
-ghost use Rattle.rule.specs.PageRange.{page};
+ghost use Rattle.tag.specs.Layout.{page};
 ghost use Rattle.leg.specs.Fetch.{memoryByte, mailboxByte, userByte, systemByte, fetched, isLast};
 ghost use Rattle.leg.specs.Effect.{legResult, withWireCore, programming, userWritten, passwordWritten, systemWritten, legWritten, lastFetched};
 use areas::Side;

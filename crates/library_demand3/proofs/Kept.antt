@@ -13,9 +13,6 @@ use Rattle.parts.proofs.Below.{Below, bytes-below, are-below}
 use Rattle.parts.proofs.Picks.{pick-case}
 use Rattle.tag.specs.declared.Tag.{Tag}
 use Rattle.tag.specs.Layout.{memoryBytes, replyBytes}
-use Rattle.signal.specs.Claims.{sentByte}
-use Rattle.signal.proofs.Line.{keeps-counter}
-use Rattle.signal.proofs.Bytes.{keeps-bytes}
 use Rattle.model.specs.declared.Signal.{Signal}
 use Rattle.model.specs.declared.Signal.the-variants.{Wire, Field, Frame}
 use Rattle.model.specs.Signals.{signalInRange, signalBy}
@@ -24,6 +21,9 @@ use Rattle.model.specs.Claims.{Fit}
 use Rattle.model.proofs.Kept.{keeps}
 use Rattle.model.proofs.Value.{sent-fits}
 use Rattle.state.specs.Claims.{Fits}
+use Rattle.wire_claims.specs.Claims.{sentByte}
+use Rattle.wire_claims.proofs.Line.{keeps-counter}
+use Rattle.wire_claims.proofs.Bytes.{keeps-bytes}
 use Rattle.library_demand3.specs.Kept.{KeepsFits}
 use Rattle.library_demand3.proofs.WireKept.{highByteOf, wire-sound}
 use Rattle.library_demand3.proofs.RadioKept.{radio-sound}

@@ -17,16 +17,18 @@ use Rattle.tag.specs.declared.Uid.{Uid}
 use Rattle.tag.specs.Bus.{isOpen}
 use Rattle.tag.specs.Keys.{passwordAt, samePassword, withI2cPassword}
 use Rattle.tag.specs.Supply.{vccAt}
+use Rattle.tag.specs.Layout.{page}
 use Rattle.rule.specs.declared.Choice.{Choice}
 use Rattle.rule.specs.declared.Choice.the-variants.{NotAcked, Reading, Writing}
-use Rattle.rule.specs.PageRange.{page}
 use Rattle.leg.specs.Effect.{LegResult, Due, nothingDue, clears, writes, started, stopped, settle, legWritten, userWritten, systemWritten, passwordWritten}
 use Rattle.signal.specs.declared.WireSignal.{WireSignal}
 use Rattle.signal.specs.declared.WireSignal.the-variants.{Start, Send, Fetch, Stop, Vcc, ProgrammingEnd}
-use Rattle.signal.specs.Signal.{WireResult, sideBus, dueOf, startAt, startOf, stopAt, selectBy, dataOf, sendAt, fetchAt, signalOf}
-use Rattle.signal.specs.Claims.{sentByte}
+use Rattle.signal.specs.Signal.{WireResult, sideBus, dueOf, startAt, startOf, stopAt}
 use Rattle.state.specs.Claims.{PasswordsFit}
 use Rattle.state.proofs.Decoded.{eight-run}
+use Rattle.send.specs.Send.{selectBy, dataOf, sendAt}
+use Rattle.wire.specs.Wire.{fetchAt, signalOf}
+use Rattle.wire_claims.specs.Claims.{sentByte}
 
 -- the high address byte that a write leg holds, or 0
 unfoldable pub highByteOf : Bus → ℕ

@@ -21,9 +21,9 @@ use Rattle.tag.specs.Radio.{fieldAt}
 use Rattle.tag.specs.Supply.{freshTag}
 use Rattle.ranges.specs.Ranges.{airInRange, coreInRange, hostInRange, suppliedInRange, wireInRange, inRange}
 use Rattle.ranges.proofs.Fresh.{fresh-in-range}
-use Rattle.rule.specs.PageRange.{busInRange}
+use Rattle.page.specs.PageRange.{busInRange}
 use Rattle.signal.specs.declared.WireSignal.{WireSignal}
-use Rattle.signal.proofs.Kept.{keeps as wire-keeps}
+use Rattle.wire_claims.proofs.Kept.{keeps as wire-keeps}
 use Rattle.reply.specs.Outcome.{CommandResult}
 use Rattle.radio.specs.Radio.{radioOf}
 use Rattle.radio.proofs.Kept.{keeps as radio-keeps}

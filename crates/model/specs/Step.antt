@@ -14,10 +14,10 @@ use Rattle.tag.specs.Bus.{isOpen}
 use Rattle.tag.specs.Radio.{fieldAt}
 use Rattle.tag.specs.Supply.{freshTag}
 use Rattle.ranges.specs.Ranges.{inRange}
-use Rattle.rule.specs.PageRange.{busInRange}
+use Rattle.page.specs.PageRange.{busInRange}
 use Rattle.signal.specs.declared.WireAnswer.{WireAnswer}
 use Rattle.signal.specs.declared.WireAnswer.the-variants.{Nothing as WireNothing, Ack as WireAck, NoAck as WireNoAck, Byte as WireByte}
-use Rattle.signal.specs.Signal.{signalOf}
+use Rattle.wire.specs.Wire.{signalOf}
 use Rattle.reply.specs.declared.RadioSide.{RadioSide}
 use Rattle.reply.specs.Reply.{ReplyBody, nothing, body, bufferOf}
 use Rattle.reply.specs.declared.RadioAnswer.{RadioAnswer}

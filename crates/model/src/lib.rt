@@ -5,7 +5,7 @@ ghost use lib.Dec.{eqb};
 ghost use lib.ListN.{length};
 ghost use Rattle.tag.specs.Layout.{memoryBytes};
 ghost use Rattle.tag.specs.Radio.{fieldAt};
-ghost use Rattle.signal.specs.Signal.{signalOf};
+ghost use Rattle.wire.specs.Wire.{signalOf};
 ghost use Rattle.model.specs.declared.Signal.the-variants.{Field, Frame};
 ghost use Rattle.model.specs.declared.Answer.the-variants.{Refused, Nothing};
 ghost use Rattle.model.specs.Signals.{topValue, signalInRange, signalBy};

@@ -17,9 +17,11 @@ use Rattle.areas.proofs.Kept.{byte-in-blocks-area}
 use Rattle.areas.proofs.Runs.{area-between, unlocked}
 use Rattle.tag.specs.declared.Core.{Core}
 use Rattle.tag.specs.declared.Space.the-variants.{User}
+use Rattle.tag.specs.Layout.{page}
 use Rattle.rule.specs.Rule.{memoryAcked, mailboxAcked, userAcked, spaceAcked, acked}
-use Rattle.rule.specs.PageRange.{page, pageAcked}
-use Rattle.rule.proofs.Page.{acked-room, acked-space, page-before, page-last, one-more}
+use Rattle.rule.proofs.AckedByte.{acked-room, acked-space}
+use Rattle.page.specs.PageRange.{pageAcked}
+use Rattle.page.proofs.Acks.{page-before, page-last, one-more}
 
 -- two tests, each of which follows from the other
 same : (a b : Bool) → (a ≡ true → b ≡ true) → (b ≡ true → a ≡ true) → a ≡ b

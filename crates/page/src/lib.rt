@@ -3,7 +3,7 @@ ghost use mathlib.Core.Path.{_≡_};
 ghost use mathlib.Core.List.{List};
 ghost use Prim.Native.Nat.{ℕ};
 ghost use Rattle.tag.specs.declared.Space.the-variants.{User, System};
-ghost use Rattle.rule.specs.PageRange.{pageAcked, busInRange};
+ghost use Rattle.page.specs.PageRange.{pageAcked, busInRange};
 use tag::Bus;
 use tag::Core;
 use tag::Space;

@@ -1,2 +1,2 @@
 pub mod Registers
-pub mod Page
+pub mod AckedByte

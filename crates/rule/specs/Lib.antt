@@ -1,3 +1,2 @@
 pub mod Select
 pub mod Rule
-pub mod PageRange

@@ -1,6 +1,6 @@
 -- Whether a data byte is Acked: byte x, the leg's data byte k (from 0), of a write leg in a space from address f, after its earlier bytes e.
 -- The signal step, the whole leg and the range on page bytes all ask this one definition.
-use mathlib.Core.Bool.{Bool, true, false, not, _&&_, _||_}
+use mathlib.Core.Bool.{Bool, false, not, _&&_, _||_}
 use mathlib.Core.List.{List, [], _∷_}
 use Prim.Native.Nat.{ℕ, _+_, _/_}
 use lib.Dec.{leb, ltb, eqb}

@@ -2,9 +2,9 @@
 ghost use mathlib.Core.Path.{_≡_};
 ghost use Prim.Native.Nat.{_+_};
 ghost use Rattle.registers.specs.Map.{written};
+ghost use Rattle.tag.specs.Layout.{page};
 ghost use Rattle.rule.specs.Select.{selectOf, choose, address, firstOf};
-ghost use Rattle.rule.specs.Rule.{memoryAcked, mailboxAcked, userAcked, writtenAll, isWritable, registerAcked, passwordAcked, systemAcked, spaceAcked, acked};
-ghost use Rattle.rule.specs.PageRange.{page};
+ghost use Rattle.rule.specs.Rule.{memoryAcked, mailboxAcked, userAcked, writtenAll, isWritable, registerAcked, passwordAcked, systemAcked, acked};
 use areas::Side;
 use registers::Registers;
 use tag::Core;

@@ -21,7 +21,6 @@ use Rattle.tag.specs.Layout.{memoryBytes, replyBytes}
 use Rattle.tag.specs.Supply.{freshTag}
 use Rattle.signal.specs.declared.WireAnswer.{WireAnswer}
 use Rattle.signal.specs.declared.WireAnswer.the-variants.{Nothing as WireNothing, Ack as WireAck, NoAck as WireNoAck, Byte as WireByte}
-use Rattle.signal.specs.Signal.{signalOf}
 use Rattle.reply.specs.Reply.{ReplyBody, nothing, body, answerOf, bufferOf}
 use Rattle.radio.specs.Radio.{radioOf}
 use Rattle.model.specs.declared.Answer.{Answer}
@@ -35,6 +34,7 @@ use Rattle.model.proofs.Kept.{keeps, fresh-fits}
 use Rattle.text.specs.Hex.{hexValue, allHex, hexByte, hexBytes, hexText}
 use Rattle.text.specs.Decimal.{decimal}
 use Rattle.text.proofs.HexLaws.{value-small, length-hex-text}
+use Rattle.wire.specs.Wire.{signalOf}
 use Rattle.script.specs.declared.Bench.{Bench}
 use Rattle.script.specs.Line.{ScriptLine, badLine, signalLine, frameLine, longest, alone, level, byteSent, frameSent, tabbed, lineOf}
 use Rattle.script.specs.Text.{badText, answerText, lineText}

@@ -1,5 +1,1 @@
-pub mod Page
-pub mod Kept
-pub mod Line
-pub mod Bytes
 pub mod Settle

@@ -1,4 +1,4 @@
-// A bus signal and its answer, what each signal does, and the end of a leg: a Start and a Stop.
+// A bus signal and its answer, and the end of a leg: a Start and a Stop.
 ghost use mathlib.Core.Path.{_≡_};
 ghost use Rattle.parts.specs.Pick.{pick};
 ghost use Rattle.tag.specs.declared.Bus.the-variants.{DataLeg};

@@ -16,16 +16,17 @@ use Rattle.tag.specs.declared.Bus.the-variants.{DataLeg}
 use Rattle.tag.specs.declared.WireSide.{WireSide}
 use Rattle.tag.specs.declared.Uid.{Uid}
 use Rattle.tag.specs.Bus.{nextAddress}
+use Rattle.tag.specs.Layout.{page}
 use Rattle.rule.specs.Select.{firstOf}
 use Rattle.rule.specs.Rule.{acked}
-use Rattle.rule.specs.PageRange.{page}
+use Rattle.rule.proofs.AckedByte.{acked-room, first-next}
 use Rattle.signal.specs.declared.WireAnswer.the-variants.{Ack, NoAck}
-use Rattle.signal.specs.Signal.{wireResult, sideLine, dataOf, sendAt, fetchAt, signalOf}
+use Rattle.signal.specs.Signal.{wireResult, sideLine}
+use Rattle.send.specs.Send.{dataOf, sendAt}
+use Rattle.wire.specs.Wire.{fetchAt, signalOf}
 use Rattle.transfer.specs.Legs.{NotedSend, NotedFetch, wireSignal, Move, moveSend, moveFetch}
 use Rattle.transfer.specs.Whole.{TransferResult, transferResult, before, bytesSent, replies, onward, accepted}
 use Rattle.transfer.specs.Claim.{runOf}
-use Rattle.rule.proofs.Page.{acked-room}
-use Rattle.signal.proofs.Page.{first-next}
 use Rattle.transfer.proofs.Page.{page-set}
 use Rattle.transfer.proofs.Run.{stepOf, signals, first-then, still}
 

@@ -11,7 +11,9 @@ use Rattle.tag.specs.declared.Uid.{Uid}
 use Rattle.tag.specs.Bus.{nextAddress}
 use Rattle.leg.specs.Fetch.{fetched, isLast}
 use Rattle.signal.specs.declared.WireAnswer.the-variants.{Byte}
-use Rattle.signal.specs.Signal.{wireResult, sideLine, sendAt, fetchAt, signalOf}
+use Rattle.signal.specs.Signal.{wireResult, sideLine}
+use Rattle.send.specs.Send.{sendAt}
+use Rattle.wire.specs.Wire.{fetchAt, signalOf}
 use Rattle.transfer.specs.Legs.{NotedSend, NotedFetch, wireSignal, Move, moveSend, moveFetch}
 use Rattle.transfer.specs.Whole.{transferResult, served, replies, onward, bytesFetched, lastAmong}
 use Rattle.transfer.specs.Claim.{runOf}

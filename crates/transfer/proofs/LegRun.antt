@@ -17,19 +17,20 @@ use Rattle.tag.specs.declared.Bus.the-variants.{Idle, Started, ReadLeg, WriteLe
 use Rattle.tag.specs.declared.WireSide.{WireSide}
 use Rattle.tag.specs.declared.Uid.{Uid}
 use Rattle.tag.specs.Bus.{nextAddress}
+use Rattle.tag.specs.Layout.{page}
 use Rattle.rule.specs.declared.Choice.{Choice}
 use Rattle.rule.specs.declared.Choice.the-variants.{NotAcked, Reading, Writing}
 use Rattle.rule.specs.Select.{choose, address, firstOf}
 use Rattle.rule.specs.Rule.{acked}
-use Rattle.rule.specs.PageRange.{page}
+use Rattle.rule.proofs.AckedByte.{acked-room, first-next}
 use Rattle.leg.specs.Effect.{nothingDue, writes}
 use Rattle.signal.specs.declared.WireAnswer.the-variants.{Ack, NoAck, Byte}
-use Rattle.signal.specs.Signal.{WireResult, wireResult, sideBus, sideLine, dueOf, selectBy, sendAt, fetchAt, signalOf}
+use Rattle.signal.specs.Signal.{WireResult, wireResult, sideBus, sideLine, dueOf}
+use Rattle.send.specs.Send.{selectBy, sendAt}
+use Rattle.wire.specs.Wire.{fetchAt, signalOf}
 use Rattle.transfer.specs.Legs.{Noted, NotedSend, NotedFetch, wireSignal, Move, moveSend, moveFetch}
 use Rattle.transfer.specs.Whole.{TransferResult, transferResult, bytesSent, served, replies, onward, lastAmong, accepted, Leg, answering, idleLeg, readLeg, dataLeg, writeLeg, selectedLeg, legOf, filled}
 use Rattle.transfer.specs.Claim.{runOf}
-use Rattle.rule.proofs.Page.{acked-room}
-use Rattle.signal.proofs.Page.{first-next}
 use Rattle.transfer.proofs.Page.{page-sets}
 use Rattle.transfer.proofs.Run.{stepOf, signals, first-then, still}
 use Rattle.transfer.proofs.FetchRun.{over, fetch-run}

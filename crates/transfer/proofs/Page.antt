@@ -12,8 +12,8 @@ use Rattle.parts.proofs.Bools.{and-left}
 use Rattle.parts.proofs.Lists.{bytesAt-after}
 use Rattle.tag.specs.declared.Space.{Space}
 use Rattle.tag.specs.declared.Core.{Core}
+use Rattle.tag.specs.Layout.{page}
 use Rattle.rule.specs.Rule.{acked}
-use Rattle.rule.specs.PageRange.{page}
 
 -- one byte more
 pub page-set : (m : List ℕ) (k x : ℕ) → length m ≡ 1024 → k < 256 → page (suc k) (set m (768 + k) x) ≡ page k m ++ x ∷ []

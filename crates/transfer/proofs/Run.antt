@@ -6,7 +6,8 @@ use Prim.Native.Nat.{ℕ}
 use Rattle.tag.specs.declared.WireSide.{WireSide}
 use Rattle.tag.specs.declared.Uid.{Uid}
 use Rattle.signal.specs.declared.WireAnswer.the-variants.{NoAck, Byte}
-use Rattle.signal.specs.Signal.{WireResult, wireResult, signalOf}
+use Rattle.signal.specs.Signal.{WireResult, wireResult}
+use Rattle.wire.specs.Wire.{signalOf}
 use Rattle.transfer.specs.Legs.{Noted, NotedSend, NotedFetch, wireSignal, Move, moveSend, moveFetch}
 use Rattle.transfer.specs.Whole.{TransferResult, transferResult, before, replies}
 use Rattle.transfer.specs.Claim.{runOf}

@@ -19,7 +19,9 @@ use Rattle.rule.specs.declared.Choice.the-variants.{NotAcked, Reading, Writing}
 use Rattle.rule.specs.Select.{selectOf, choose}
 use Rattle.leg.specs.Effect.{LegResult, legResult, stopped, started, powerLost, Due, nothingDue, clears, writes, settle}
 use Rattle.signal.specs.declared.WireAnswer.the-variants.{Nothing, NoAck}
-use Rattle.signal.specs.Signal.{WireResult, wireResult, sideBus, dueOf, startAt, startOf, stopAt, selectBy, sendAt, fetchAt, signalOf}
+use Rattle.signal.specs.Signal.{WireResult, wireResult, sideBus, dueOf, startAt, startOf, stopAt}
+use Rattle.send.specs.Send.{selectBy, sendAt}
+use Rattle.wire.specs.Wire.{fetchAt, signalOf}
 use Rattle.transfer.specs.Legs.{Noted, NotedStart, NotedSend, NotedFetch, NotedStop, NotedVccOff, wireSignal, selectRefused, Move, moveSend, moveFetch, Finish, atStop, atVccOff, atRefusal, Legs, leg, last, parse}
 use Rattle.transfer.specs.Whole.{TransferResult, transferResult, before, Leg, selectedLeg, legOf, counting, filled, lastLeg, legsOf, transferOf}
 use Rattle.transfer.specs.Claim.{runOf, Ready, Demand2}

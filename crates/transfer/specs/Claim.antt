@@ -8,7 +8,8 @@ use Rattle.tag.specs.declared.Bus.the-variants.{Started}
 use Rattle.tag.specs.declared.WireSide.{WireSide}
 use Rattle.tag.specs.declared.Uid.{Uid}
 use Rattle.tag.specs.Layout.{memoryBytes}
-use Rattle.signal.specs.Signal.{sideBus, signalOf}
+use Rattle.signal.specs.Signal.{sideBus}
+use Rattle.wire.specs.Wire.{signalOf}
 use Rattle.transfer.specs.Legs.{Noted, wireSignal, finished}
 use Rattle.transfer.specs.Whole.{TransferResult, transferResult, before, transferOf}
 

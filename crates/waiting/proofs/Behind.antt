@@ -16,7 +16,7 @@ use Rattle.tag.specs.declared.Bus.the-variants.{Idle, Started, ReadLeg, WriteLe
 use Rattle.tag.specs.declared.Tag.{Tag}
 use Rattle.tag.specs.Bus.{isOpen, pageBytes}
 use Rattle.ranges.specs.Ranges.{airInRange, coreInRange, hostInRange, suppliedInRange, wireInRange, inRange}
-use Rattle.rule.specs.PageRange.{busInRange}
+use Rattle.page.specs.PageRange.{busInRange}
 use Rattle.model.specs.Signals.{signalBy}
 use Rattle.model.specs.Step.{wireSide, transferOpen, tagInRange}
 use Rattle.model.proofs.Kept.{keeps}

@@ -12,13 +12,15 @@ use Rattle.tag.specs.Mailbox.{controlByte, lengthByte, enabled, controlled}
 use Rattle.tag.specs.Radio.{isQuiet, isSelected, deselected, fieldAt}
 use Rattle.tag.specs.Supply.{vccAt, freshTag}
 use Rattle.ranges.specs.Ranges.{registersInRange, airInRange, mailboxInRange, suppliedInRange, hostInRange, coreInRange, wireInRange, inRange}
-use Rattle.rule.specs.PageRange.{pageAcked, busInRange}
 use Rattle.rule.specs.Rule.{memoryAcked, mailboxAcked, userAcked, writtenAll, isWritable, registerAcked, passwordAcked, systemAcked, spaceAcked, acked}
 use Rattle.rule.specs.Select.{selectOf, choose, firstOf}
+use Rattle.page.specs.PageRange.{pageAcked, busInRange}
 use Rattle.leg.specs.Effect.{userWritten, passwordWritten, systemWritten, legWritten, settle}
 use Rattle.leg.specs.Fetch.{memoryByte, mailboxByte, userByte, systemByte, fetched, isLast}
-use Rattle.signal.specs.Claims.{sentByte}
-use Rattle.signal.specs.Signal.{dueOf, startAt, startOf, stopAt, selectBy, dataOf, sendAt, fetchAt, signalOf}
+use Rattle.signal.specs.Signal.{dueOf, startAt, startOf, stopAt}
+use Rattle.send.specs.Send.{selectBy, dataOf, sendAt}
+use Rattle.wire.specs.Wire.{fetchAt, signalOf}
+use Rattle.wire_claims.specs.Claims.{sentByte}
 use Rattle.reply.specs.Reply.{answerOf, bufferOf}
 use Rattle.frame.specs.Fields.{uidPlace, paramPlace, ownUid, param, isKnown, takesOption, paramBytes}
 use Rattle.frame.specs.Judge.{isSilent, isMute, errorOf, shutOut, badFlags, wrongLength, judge}

@@ -15,11 +15,12 @@ use Rattle.tag.specs.declared.WireSide.{WireSide}
 use Rattle.tag.specs.declared.Tag.{Tag}
 use Rattle.tag.specs.Layout.{memoryBytes, replyBytes}
 use Rattle.ranges.specs.Ranges.{airInRange, wireInRange, inRange}
-use Rattle.rule.specs.PageRange.{busInRange}
+use Rattle.page.specs.PageRange.{busInRange}
 use Rattle.signal.specs.declared.WireSignal.{WireSignal}
-use Rattle.signal.specs.Signal.{sideBus, signalOf}
-use Rattle.signal.specs.Claims.{InRange}
-use Rattle.signal.proofs.Kept.{keeps}
+use Rattle.signal.specs.Signal.{sideBus}
+use Rattle.wire.specs.Wire.{signalOf}
+use Rattle.wire_claims.specs.Claims.{InRange}
+use Rattle.wire_claims.proofs.Kept.{keeps}
 use Rattle.transfer.specs.Legs.{Noted, NotedStart, NotedSend, NotedFetch, NotedStop, NotedVccOff, wireSignal}
 use Rattle.transfer.specs.Whole.{TransferResult}
 use Rattle.transfer.specs.Claim.{runOf}

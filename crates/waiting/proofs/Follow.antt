@@ -21,8 +21,9 @@ use Rattle.tag.specs.Supply.{vccAt}
 use Rattle.leg.specs.Effect.{withHost}
 use Rattle.signal.specs.declared.WireSignal.{WireSignal}
 use Rattle.signal.specs.declared.WireSignal.the-variants.{Start, Send, Fetch, Stop, Vcc, ProgrammingEnd}
-use Rattle.signal.specs.Signal.{WireResult, sideBus, programmed, signalOf}
-use Rattle.signal.proofs.Line.{registers-stay}
+use Rattle.signal.specs.Signal.{WireResult, sideBus}
+use Rattle.wire.specs.Wire.{programmed, signalOf}
+use Rattle.wire_claims.proofs.Line.{registers-stay}
 use Rattle.transfer.specs.Legs.{Noted, NotedStart, NotedSend, NotedFetch, NotedStop, NotedVccOff, wireSignal, ends, finished}
 use Rattle.transfer.specs.Whole.{TransferResult, transferResult, transferOf}
 use Rattle.transfer.specs.Claim.{runOf, Ready}

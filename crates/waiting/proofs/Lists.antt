@@ -10,7 +10,7 @@ use Rattle.parts.proofs.Picks.{pick-false}
 use Rattle.tag.specs.declared.WireSide.{WireSide}
 use Rattle.tag.specs.declared.Uid.{Uid}
 use Rattle.signal.specs.declared.WireAnswer.{WireAnswer}
-use Rattle.signal.specs.Signal.{signalOf}
+use Rattle.wire.specs.Wire.{signalOf}
 use Rattle.transfer.specs.Legs.{Noted, wireSignal, ends, fresher, isEmpty, finished}
 use Rattle.transfer.specs.Whole.{transferResult}
 use Rattle.transfer.specs.Claim.{runOf}

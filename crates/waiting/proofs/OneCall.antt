@@ -16,10 +16,10 @@ use Rattle.tag.specs.declared.Uid.{Uid}
 use Rattle.tag.specs.declared.Tag.{Tag}
 use Rattle.tag.specs.Layout.{memoryBytes, replyBytes}
 use Rattle.ranges.specs.Ranges.{airInRange, coreInRange, hostInRange, suppliedInRange, wireInRange, inRange}
-use Rattle.rule.specs.PageRange.{busInRange}
+use Rattle.page.specs.PageRange.{busInRange}
 use Rattle.signal.specs.declared.WireAnswer.{WireAnswer}
 use Rattle.signal.specs.declared.WireAnswer.the-variants.{Nothing as WireNothing, Ack as WireAck, NoAck as WireNoAck, Byte as WireByte}
-use Rattle.signal.proofs.Line.{registers-stay}
+use Rattle.wire_claims.proofs.Line.{registers-stay}
 use Rattle.reply.specs.declared.RadioSide.{RadioSide}
 use Rattle.reply.specs.declared.RadioAnswer.{RadioAnswer}
 use Rattle.reply.specs.declared.RadioAnswer.the-variants.{Silence as RadioSilence, Reply as RadioReply}

@@ -2,7 +2,8 @@
 ghost use mathlib.Core.Path.{_≡_};
 ghost use Rattle.tag.specs.declared.Bus.the-variants.{ReadLeg};
 ghost use Rattle.signal.specs.declared.WireAnswer.the-variants.{Nothing, Byte};
-ghost use Rattle.signal.specs.Signal.{wireResult, fetchAt, programmed, signalOf};
+ghost use Rattle.signal.specs.Signal.{wireResult};
+ghost use Rattle.wire.specs.Wire.{fetchAt, programmed, signalOf};
 use signal::WireAnswer;
 use signal::WireOutcome;
 use signal::WireSignal;

@@ -1,5 +1,5 @@
-use Rattle.rule.specs.PageRange.{busInRange}
 use borrow.Author.Needs.{needs}
+use Rattle.page.specs.PageRange.{busInRange}
 use Rattle.page.proofs.bus_in_range.Statement.{statement}
 use Rattle.page.proofs.bus_in_range.Tie as tie
 

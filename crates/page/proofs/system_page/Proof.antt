@@ -9,9 +9,9 @@ use borrow.Author.Tests.{not-true, not-false}
 use Rattle.parts.specs.Bytes.{bytesAt}
 use Rattle.tag.specs.declared.Space.the-variants.{System}
 use Rattle.rule.specs.Rule.{acked}
-use Rattle.rule.specs.PageRange.{pageAcked}
-use Rattle.rule.proofs.Page.{stays, one-more, none-more}
+use Rattle.page.specs.PageRange.{pageAcked}
 use Rattle.page.proofs.system_page.Statement.{statement}
+use Rattle.page.proofs.Acks.{stays, one-more, none-more}
 use Rattle.page.proofs.system_page.Tie as tie
 
 abbrev Inv-loop : tie.InvT-loop

@@ -2,8 +2,8 @@ use mathlib.Core.Path.{sym, _∙_}
 use native.Mathlib.Omega.{arith}
 use native.Mathlib.Numerals.{add-one}
 use Rattle.parts.proofs.Picks.{pick-true, pick-false}
-use Rattle.signal.specs.Signal.{dataOf}
-use Rattle.rule.proofs.Page.{acked-room}
+use Rattle.rule.proofs.AckedByte.{acked-room}
+use Rattle.send.specs.Send.{dataOf}
 use borrow.Author.Needs.{needs}
 use Rattle.send.proofs.data.Statement.{statement}
 use Rattle.send.proofs.data.Tie as tie

@@ -1,7 +1,7 @@
 use mathlib.Core.Path.{_≡_, sym, _∙_}
 use Rattle.rule.specs.declared.Choice.the-variants.{NotAcked, Reading, Writing}
 use Rattle.rule.specs.Select.{choose}
-use Rattle.signal.specs.Signal.{selectBy}
+use Rattle.send.specs.Send.{selectBy}
 use borrow.Author.Needs.{needs}
 use Rattle.send.proofs.select.Statement.{statement}
 use Rattle.send.proofs.select.Tie as tie

@@ -1,5 +1,5 @@
-use Rattle.signal.specs.Signal.{sendAt}
 use borrow.Author.Needs.{needs}
+use Rattle.send.specs.Send.{sendAt}
 use Rattle.send.proofs.send_at.Statement.{statement}
 use Rattle.send.proofs.send_at.Tie as tie
 

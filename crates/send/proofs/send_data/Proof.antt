@@ -1,6 +1,6 @@
 use mathlib.Core.Path.{refl}
 use Rattle.parts.proofs.Picks.{pick-true, pick-false}
-use Rattle.signal.specs.Signal.{sendAt}
+use Rattle.send.specs.Send.{sendAt}
 use borrow.Author.Needs.{needs}
 use Rattle.send.proofs.send_data.Statement.{statement}
 use Rattle.send.proofs.send_data.Tie as tie

@@ -1,10 +1,10 @@
 use mathlib.Core.Path.{_∙_}
-use Rattle.rule.specs.PageRange.{page}
 use Rattle.rule.specs.Select.{firstOf}
 use Rattle.leg.specs.Effect.{writes, settle}
 use Rattle.signal.specs.Signal.{dueOf}
 use Rattle.signal.proofs.Settle.{none-due, some-due}
 use borrow.Author.Needs.{needs}
+use Rattle.tag.specs.Layout.{page}
 use Rattle.signal.proofs.stop_write.Statement.{statement}
 use Rattle.signal.proofs.stop_write.Tie as tie
 

@@ -1,5 +1,5 @@
-use Rattle.signal.specs.Signal.{fetchAt}
 use borrow.Author.Needs.{needs}
+use Rattle.wire.specs.Wire.{fetchAt}
 use Rattle.wire.proofs.fetch_at.Statement.{statement}
 use Rattle.wire.proofs.fetch_at.Tie as tie
 

@@ -1,5 +1,5 @@
 use Rattle.parts.proofs.Picks.{pick-true, pick-false}
-use Rattle.signal.specs.Signal.{fetchAt}
+use Rattle.wire.specs.Wire.{fetchAt}
 use borrow.Author.Needs.{needs}
 use Rattle.wire.proofs.fetch_read.Statement.{statement}
 use Rattle.wire.proofs.fetch_read.Tie as tie

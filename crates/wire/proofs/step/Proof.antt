@@ -1,5 +1,5 @@
-use Rattle.signal.specs.Signal.{signalOf}
 use borrow.Author.Needs.{needs}
+use Rattle.wire.specs.Wire.{signalOf}
 use Rattle.wire.proofs.step.Statement.{statement}
 use Rattle.wire.proofs.step.Tie as tie
 

@@ -2,10 +2,10 @@
 use mathlib.Core.Path.{_≡_, refl, _∙_}
 use mathlib.Core.Bool.{Bool, true, false, not, _&&_, _||_}
 use mathlib.Core.List.{List, [], _∷_, _++_}
-use Prim.Native.Nat.{ℕ, zero, suc, _+_, _≤_, _<_}
+use Prim.Native.Nat.{ℕ, zero, suc, _+_, _≤_}
 use native.Mathlib.Omega.{arith}
 use lib.Dec.{ltb, eqb}
-use borrow.Author.Tests.{ltb-true, not-true}
+use borrow.Author.Tests.{not-true}
 use lib.ListN.{length, getD, set}
 use lib.Seq.{getD-set-same, getD-set-other}
 use Rattle.parts.specs.Bytes.{bytesAt}
@@ -17,19 +17,14 @@ use Rattle.tag.specs.declared.Space.{Space}
 use Rattle.tag.specs.declared.Space.the-variants.{System}
 use Rattle.tag.specs.declared.Mailbox.{Mailbox}
 use Rattle.tag.specs.declared.Core.{Core}
-use Rattle.tag.specs.Bus.{nextAddress}
+use Rattle.tag.specs.Layout.{page}
 use Rattle.ranges.specs.Ranges.{registersInRange}
 use Rattle.ranges.proofs.RegistersKept.{written-kept}
-use Rattle.rule.specs.Select.{firstOf}
 use Rattle.rule.specs.Rule.{mailboxAcked, userAcked, registerAcked, systemAcked, isWritable, spaceAcked, acked, writtenAll}
-use Rattle.rule.specs.PageRange.{page, pageAcked}
 use Rattle.rule.proofs.Registers.{written-snoc}
-use Rattle.rule.proofs.Page.{acked-room, acked-space, page-before, page-last}
-
--- the first address stays
-pub first-next : (c k : ℕ) → k < 256 → firstOf (nextAddress c) (suc k) ≡ firstOf c k
-unfolding firstOf
-first-next c k h = omega arith
+use Rattle.rule.proofs.AckedByte.{acked-room, acked-space}
+use Rattle.page.specs.PageRange.{pageAcked}
+use Rattle.page.proofs.Acks.{page-before, page-last}
 
 module _ (s : Space) (c : Core) (session : Bool) (f : ℕ) where
   -- a store past the page's bytes

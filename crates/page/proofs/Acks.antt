@@ -2,28 +2,18 @@
 use mathlib.Core.Path.{_≡_, ap, _∙_}
 use mathlib.Core.Bool.{Bool, true, false, and-false, _&&_}
 use mathlib.Core.List.{List}
-use Prim.Native.Nat.{ℕ, zero, suc, _+_, _<_}
+use Prim.Native.Nat.{ℕ, zero, suc, _+_}
 use native.Mathlib.Nat.{add-zero, add-suc}
-use lib.Dec.{ltb}
 use lib.ListN.{getD}
-use borrow.Author.Tests.{ltb-true}
 use Rattle.parts.specs.Bytes.{bytesAt}
 use Rattle.parts.proofs.Bools.{and-left, and-right}
 use Rattle.tag.specs.declared.Space.{Space}
 use Rattle.tag.specs.declared.Core.{Core}
-use Rattle.rule.specs.Rule.{spaceAcked, acked}
-use Rattle.rule.specs.PageRange.{page, pageAcked}
+use Rattle.tag.specs.Layout.{page}
+use Rattle.rule.specs.Rule.{acked}
+use Rattle.page.specs.PageRange.{pageAcked}
 
 module _ (s : Space) (c : Core) (session : Bool) (f : ℕ) where
-  -- a byte is Acked only at places under 256, and by its space
-  pub acked-room : (k : ℕ) (e : List ℕ) (x : ℕ) → acked s c session f k e x ≡ true → k < 256
-  unfolding acked
-  acked-room k e x h = ltb-true k 256 (and-left (ltb k 256) (spaceAcked s c session f k e x) h)
-
-  pub acked-space : (k : ℕ) (e : List ℕ) (x : ℕ) → acked s c session f k e x ≡ true → spaceAcked s c session f k e x ≡ true
-  unfolding acked
-  acked-space k e x h = and-right (ltb k 256) (spaceAcked s c session f k e x) h
-
   -- of a page's Acks: all but the last, and the last
   pub page-before : (m : List ℕ) (k : ℕ) → pageAcked s c session f m (suc k) ≡ true → pageAcked s c session f m k ≡ true
   unfolding pageAcked

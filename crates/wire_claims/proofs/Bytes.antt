@@ -14,13 +14,15 @@ use Rattle.tag.specs.declared.WireSide.{WireSide}
 use Rattle.tag.specs.declared.Uid.{Uid}
 use Rattle.tag.specs.Bus.{isOpen}
 use Rattle.tag.specs.Keys.{passwordAt, samePassword}
+use Rattle.tag.specs.Layout.{page}
 use Rattle.rule.specs.declared.Choice.{Choice}
 use Rattle.rule.specs.declared.Choice.the-variants.{NotAcked, Reading, Writing}
-use Rattle.rule.specs.PageRange.{page}
 use Rattle.leg.specs.Effect.{LegResult, Due, nothingDue, clears, writes, started, stopped, settle, legWritten, userWritten, systemWritten, passwordWritten}
 use Rattle.signal.specs.declared.WireSignal.the-variants.{Start, Send, Fetch, Stop, Vcc, ProgrammingEnd}
-use Rattle.signal.specs.Signal.{WireResult, sideBus, dueOf, startAt, startOf, stopAt, selectBy, dataOf, sendAt, fetchAt, signalOf}
-use Rattle.signal.specs.Claims.{sentByte, KeepsBytes}
+use Rattle.signal.specs.Signal.{WireResult, sideBus, dueOf, startAt, startOf, stopAt}
+use Rattle.send.specs.Send.{selectBy, dataOf, sendAt}
+use Rattle.wire.specs.Wire.{fetchAt, signalOf}
+use Rattle.wire_claims.specs.Claims.{sentByte, KeepsBytes}
 
 -- ---- the end of a leg
 abbrev S : LegResult → Type 0

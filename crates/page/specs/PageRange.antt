@@ -3,19 +3,13 @@ use mathlib.Core.Bool.{Bool, true, _&&_}
 use mathlib.Core.List.{List}
 use Prim.Native.Nat.{ℕ, zero, suc, _+_}
 use lib.ListN.{getD}
-use Rattle.parts.specs.Bytes.{bytesAt}
 use Rattle.tag.specs.declared.Space.{Space}
 use Rattle.tag.specs.declared.Core.{Core}
-use Rattle.tag.specs.declared.WireSide.{WireSide}
 use Rattle.tag.specs.declared.Bus.{Bus}
 use Rattle.tag.specs.declared.Bus.the-variants.{Idle, Started, ReadLeg, WriteLeg, LowAddress, DataLeg}
-use Rattle.tag.specs.Layout.{pagePlace}
+use Rattle.tag.specs.Layout.{pagePlace, page}
 use Rattle.rule.specs.Select.{firstOf}
 use Rattle.rule.specs.Rule.{acked}
-
--- the first k bytes of the page
-abbrev pub page : ℕ → List ℕ → List ℕ
-page k m = bytesAt m pagePlace k
 
 -- each of the page's k bytes would be Acked at its place
 unfoldable pub pageAcked : Space → Core → Bool → ℕ → List ℕ → ℕ → Bool

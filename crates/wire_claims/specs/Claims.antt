@@ -9,10 +9,10 @@ use Rattle.tag.specs.declared.Uid.{Uid}
 use Rattle.tag.specs.Layout.{memoryBytes}
 use Rattle.tag.specs.Bus.{isOpen}
 use Rattle.ranges.specs.Ranges.{suppliedInRange, wireInRange}
-use Rattle.rule.specs.PageRange.{busInRange}
+use Rattle.page.specs.PageRange.{busInRange}
 use Rattle.signal.specs.declared.WireSignal.{WireSignal}
 use Rattle.signal.specs.declared.WireSignal.the-variants.{Start, Send, Fetch, Stop, Vcc, ProgrammingEnd}
-use Rattle.signal.specs.Signal.{signalOf}
+use Rattle.wire.specs.Wire.{signalOf}
 
 -- 01's ranges of the wire side, its page bytes and the lent memory
 pub record InRange (w : WireSide) (m : List ℕ) : Type 0 where

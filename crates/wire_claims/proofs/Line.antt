@@ -20,10 +20,12 @@ use Rattle.ranges.specs.Ranges.{suppliedInRange}
 use Rattle.rule.specs.declared.Choice.{Choice}
 use Rattle.rule.specs.declared.Choice.the-variants.{NotAcked, Reading, Writing}
 use Rattle.leg.specs.Effect.{LegResult, Due, nothingDue, clears, writes, started, stopped, settle, legWritten, userWritten, systemWritten, passwordWritten}
 use Rattle.signal.specs.declared.WireSignal.the-variants.{Start, Send, Fetch, Stop, Vcc, ProgrammingEnd}
-use Rattle.signal.specs.Signal.{WireResult, sideBus, dueOf, startAt, startOf, stopAt, selectBy, dataOf, sendAt, fetchAt, signalOf}
-use Rattle.signal.specs.Claims.{KeepsCounter, RegistersStay}
-use Rattle.signal.proofs.Kept.{inactive}
+use Rattle.signal.specs.Signal.{WireResult, sideBus, dueOf, startAt, startOf, stopAt}
+use Rattle.send.specs.Send.{selectBy, dataOf, sendAt}
+use Rattle.wire.specs.Wire.{fetchAt, signalOf}
+use Rattle.wire_claims.specs.Claims.{KeepsCounter, RegistersStay}
+use Rattle.wire_claims.proofs.Kept.{inactive}
 
 -- ---- the end of a leg
 module _ (w : WireSide) (m : List ℕ) where

@@ -26,6 +26,7 @@ use Rattle.tag.specs.Bus.{isOpen, isActive, pageBytes, nextAddress}
 use Rattle.tag.specs.Mailbox.{controlled, hostPut, hostRead}
 use Rattle.tag.specs.Keys.{passwordAt, samePassword, withI2cPassword}
 use Rattle.tag.specs.Supply.{withRegisters, withMailbox, withPasswords, vccOff, vccOn, vccAt}
+use Rattle.tag.specs.Layout.{page}
 use Rattle.ranges.specs.Ranges.{registersInRange, mailboxInRange, coreInRange, hostInRange, suppliedInRange, wireInRange}
 use Rattle.ranges.proofs.MailboxKept.{empty-kept, host-read-kept, host-put-kept, controlled-kept}
 use Rattle.ranges.proofs.RegistersKept.{dynamic-kept, reload-kept}
@@ -33,14 +34,17 @@ use Rattle.rule.specs.declared.Choice.{Choice}
 use Rattle.rule.specs.declared.Choice.the-variants.{NotAcked, Reading, Writing}
 use Rattle.rule.specs.Select.{choose, selectOf, firstOf}
 use Rattle.rule.specs.Rule.{mailboxAcked, userAcked, spaceAcked, acked, writtenAll}
-use Rattle.rule.specs.PageRange.{page, pageAcked, busInRange}
+use Rattle.rule.proofs.AckedByte.{acked-room, acked-space, first-next}
+use Rattle.page.specs.PageRange.{pageAcked, busInRange}
+use Rattle.page.proofs.Acks.{page-last}
 use Rattle.leg.specs.Effect.{LegResult, Due, nothingDue, clears, writes, started, stopped, settle, legWritten, userWritten, systemWritten, passwordWritten, legResult, withWireCore, withI2cSession, programming}
 use Rattle.signal.specs.declared.WireSignal.{WireSignal}
 use Rattle.signal.specs.declared.WireSignal.the-variants.{Start, Send, Fetch, Stop, Vcc, ProgrammingEnd}
-use Rattle.signal.specs.Signal.{WireResult, sideBus, sideLine, dueOf, startAt, startOf, stopAt, selectBy, dataOf, sendAt, fetchAt, programmed, signalOf}
-use Rattle.signal.specs.Claims.{SignalKeepsRange}
-use Rattle.rule.proofs.Page.{acked-room, acked-space, page-last}
-use Rattle.signal.proofs.Page.{first-next, page-more, of-mailbox, free, registers-kept}
+use Rattle.signal.specs.Signal.{WireResult, sideBus, sideLine, dueOf, startAt, startOf, stopAt}
+use Rattle.send.specs.Send.{selectBy, dataOf, sendAt}
+use Rattle.wire.specs.Wire.{fetchAt, programmed, signalOf}
+use Rattle.wire_claims.specs.Claims.{SignalKeepsRange}
+use Rattle.wire_claims.proofs.Page.{page-more, of-mailbox, free, registers-kept}
 
 -- ---- the tests of supply: v is VCC
 quieter : (v a b : Bool) → (v || not (a || b)) ≡ true → (v || not (a || false)) ≡ true

@@ -1,0 +1,4 @@
+pub mod Page
+pub mod Kept
+pub mod Line
+pub mod Bytes

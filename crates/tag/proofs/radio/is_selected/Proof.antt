@@ -1,7 +1,7 @@
 use Rattle.tag.specs.Radio.{isSelected}
 use borrow.Author.Needs.{needs}
-use Rattle.tag.proofs.is_selected.Statement.{statement}
-use Rattle.tag.proofs.is_selected.Tie as tie
+use Rattle.tag.proofs.radio.is_selected.Statement.{statement}
+use Rattle.tag.proofs.radio.is_selected.Tie as tie
 
 enum-told : tie.Need-enum-told
 enum-told c = search needs

@@ -1,7 +1,7 @@
-use Rattle.tag.specs.Bus.{pageBytes}
+use Rattle.tag.specs.Bus.{isOpen}
 use borrow.Author.Needs.{needs}
-use Rattle.tag.proofs.page_bytes.Statement.{statement}
-use Rattle.tag.proofs.page_bytes.Tie as tie
+use Rattle.tag.proofs.line.is_open.Statement.{statement}
+use Rattle.tag.proofs.line.is_open.Tie as tie
 
 enum-told : tie.Need-enum-told
 enum-told c = search needs
@@ -22,31 +22,31 @@ enum-known-b-5 : tie.Need-enum-known-b-5
 enum-known-b-5 c = search needs
 
 returns : tie.Need-returns
-unfolding pageBytes
+unfolding isOpen
 returns c = rw (c .enum-told .given .1)
 
 returns-2 : tie.Need-returns-2
-unfolding pageBytes
+unfolding isOpen
 returns-2 c = rw (c .before .b .given .1)
 
 returns-3 : tie.Need-returns-3
-unfolding pageBytes
+unfolding isOpen
 returns-3 c = rw (c .before .b2 .given .1)
 
 returns-4 : tie.Need-returns-4
-unfolding pageBytes
+unfolding isOpen
 returns-4 c = rw (c .before .b3 .given .1)
 
 returns-5 : tie.Need-returns-5
-unfolding pageBytes
+unfolding isOpen
 returns-5 c = rw (c .before .b4 .given .1)
 
 returns-6 : tie.Need-returns-6
-unfolding pageBytes
+unfolding isOpen
 returns-6 c = rw (c .before .b5 .given .1)
 
-pub page-bytes-spec : {M : Type 1} → statement M
-page-bytes-spec =
+pub is-open-spec : {M : Type 1} → statement M
+is-open-spec =
     tie.close
     (tie.spec
     enum-told

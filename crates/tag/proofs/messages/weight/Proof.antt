@@ -1,7 +1,7 @@
 use Rattle.parts.proofs.Picks.{picks}
 use borrow.Author.Needs.{needs}
-use Rattle.tag.proofs.weight.Statement.{statement}
-use Rattle.tag.proofs.weight.Tie as tie
+use Rattle.tag.proofs.messages.weight.Statement.{statement}
+use Rattle.tag.proofs.messages.weight.Tie as tie
 
 returns : tie.Need-returns
 returns c = (search picks depth 20, search needs)

@@ -1,7 +1,7 @@
-use Rattle.tag.specs.Bus.{isActive}
+use Rattle.tag.specs.Bus.{pageBytes}
 use borrow.Author.Needs.{needs}
-use Rattle.tag.proofs.is_active.Statement.{statement}
-use Rattle.tag.proofs.is_active.Tie as tie
+use Rattle.tag.proofs.line.page_bytes.Statement.{statement}
+use Rattle.tag.proofs.line.page_bytes.Tie as tie
 
 enum-told : tie.Need-enum-told
 enum-told c = search needs
@@ -22,31 +22,31 @@ enum-known-b-5 : tie.Need-enum-known-b-5
 enum-known-b-5 c = search needs
 
 returns : tie.Need-returns
-unfolding isActive
+unfolding pageBytes
 returns c = rw (c .enum-told .given .1)
 
 returns-2 : tie.Need-returns-2
-unfolding isActive
+unfolding pageBytes
 returns-2 c = rw (c .before .b .given .1)
 
 returns-3 : tie.Need-returns-3
-unfolding isActive
+unfolding pageBytes
 returns-3 c = rw (c .before .b2 .given .1)
 
 returns-4 : tie.Need-returns-4
-unfolding isActive
+unfolding pageBytes
 returns-4 c = rw (c .before .b3 .given .1)
 
 returns-5 : tie.Need-returns-5
-unfolding isActive
+unfolding pageBytes
 returns-5 c = rw (c .before .b4 .given .1)
 
 returns-6 : tie.Need-returns-6
-unfolding isActive
+unfolding pageBytes
 returns-6 c = rw (c .before .b5 .given .1)
 
-pub is-active-spec : {M : Type 1} → statement M
-is-active-spec =
+pub page-bytes-spec : {M : Type 1} → statement M
+page-bytes-spec =
     tie.close
     (tie.spec
     enum-told

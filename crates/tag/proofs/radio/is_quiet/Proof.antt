@@ -1,7 +1,7 @@
 use Rattle.tag.specs.Radio.{isQuiet}
 use borrow.Author.Needs.{needs}
-use Rattle.tag.proofs.is_quiet.Statement.{statement}
-use Rattle.tag.proofs.is_quiet.Tie as tie
+use Rattle.tag.proofs.radio.is_quiet.Statement.{statement}
+use Rattle.tag.proofs.radio.is_quiet.Tie as tie
 
 enum-told : tie.Need-enum-told
 enum-told c = search needs

@@ -20,8 +20,8 @@ use Rattle.model.specs.declared.Answer.the-variants.{Refused, Nothing, Ack, NoA
 use Rattle.model.specs.declared.Signal.{Signal}
 use Rattle.model.specs.declared.Signal.the-variants.{Wire, Field, Frame}
 use Rattle.model.specs.Signals.{signalBy}
-use Rattle.model.specs.Step.{StepResult, FreshResult, fromWire, fromRadio, radioSide, wireSide, transferOpen, actOf, stepOf, freshOf}
-use Rattle.capi.specs.Interface.{answerNumber, isRefused, stateAfter, CallResult, callResult, stepCall, FreshCallResult, freshCallResult, freshCall}
+use Rattle.model.specs.Step.{StepResult, FreshResult, fromWire, fromRadio, radioSide, wireSide, transferOpen, actOf, stepOf, freshOf, isRefused}
+use Rattle.capi.specs.Interface.{answerNumber, stateAfter, CallResult, callResult, stepCall, FreshCallResult, freshCallResult, freshCall}
 use Rattle.capi.specs.Claims.{RefusedStepKeeps, RefusedFreshKeeps}
 
 -- a number below 0x100 is a refusal's

@@ -11,8 +11,8 @@ use Rattle.tag.specs.declared.Tag.{Tag}
 use Rattle.state.specs.Layout.{airDecodes, hostDecodes, mailboxDecodes, bytesOf, decodes, tagOf}
 use Rattle.state.proofs.There.{decodes-encoded}
 use Rattle.model.specs.Signals.{signalInRange}
-use Rattle.model.specs.Step.{StepResult, stepOf}
-use Rattle.capi.specs.Interface.{answerNumber, isRefused, stateAfter, CallResult, callResult, stepCall}
+use Rattle.model.specs.Step.{StepResult, stepOf, isRefused}
+use Rattle.capi.specs.Interface.{answerNumber, stateAfter, CallResult, callResult, stepCall}
 use Rattle.capi.specs.Claims.{StepsTheTag}
 
 -- bytes that decode have their length

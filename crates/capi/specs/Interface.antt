@@ -1,5 +1,5 @@
 -- What a program in C or Rust calls: numbers and lent bytes, the state among them.
-use mathlib.Core.Bool.{Bool, true, false, not}
+use mathlib.Core.Bool.{Bool, true, not}
 use mathlib.Core.List.{List}
 use Prim.Native.Nat.{ℕ, _+_}
 use lib.Dec.{leb, ltb, eqb}
@@ -13,7 +13,7 @@ use Rattle.model.specs.declared.Refusal.the-variants.{MemoryLength, ReplyShort,
 use Rattle.model.specs.declared.Answer.{Answer}
 use Rattle.model.specs.declared.Answer.the-variants.{Refused, Nothing, Ack, NoAck, Byte, Silence, Reply}
 use Rattle.model.specs.Signals.{signalInRange}
-use Rattle.model.specs.Step.{number, stepOf, freshOf}
+use Rattle.model.specs.Step.{number, isRefused, stepOf, freshOf}
 use Rattle.capi.specs.declared.LibraryRefusal.{LibraryRefusal}
 use Rattle.capi.specs.declared.LibraryRefusal.the-variants.{Model, StateLength, UidLength}
 
@@ -36,15 +36,6 @@ answerNumber NoAck = 0x102
 answerNumber (Byte x) = 0x200 + x
 answerNumber Silence = 0x103
 answerNumber (Reply n) = 0x1000 + n
-
-unfoldable pub isRefused : Answer → Bool
-isRefused (Refused r) = true
-isRefused Nothing = false
-isRefused Ack = false
-isRefused NoAck = false
-isRefused (Byte x) = false
-isRefused Silence = false
-isRefused (Reply n) = false
 
 -- a reply has at most 643 bytes
 unfoldable pub replyFits : Answer → Bool

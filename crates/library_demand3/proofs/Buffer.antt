@@ -13,15 +13,14 @@ use Rattle.tag.specs.declared.Tag.{Tag}
 use Rattle.state.specs.Layout.{bytesOf, tagOf}
 use Rattle.reply.specs.Reply.{nothing, body, answerOf}
 use Rattle.model.specs.Signals.{signalBy}
-use Rattle.model.specs.Step.{fromRadio, transferOpen}
-use Rattle.model.proofs.Kept.{keeps}
+use Rattle.model.specs.Step.{fromRadio, transferOpen, isRefused}
 use Rattle.capi.specs.Interface.{answerNumber}
-use Rattle.waiting.specs.Calls.{Call, Device, device, DeviceResult, entry, runBy}
+use Rattle.calls.specs.Calls.{Call, Device, device, DeviceResult, entry, runBy, framesFit, callReply}
 use Rattle.waiting.specs.Waiting.{noTransfer, waitRun}
-use Rattle.waiting.specs.Claim.{framesFit, isClosed, isRefusal, isFrame, struck, callReply, shutReply, startAfter}
-use Rattle.waiting.proofs.OneCall.{Fits, struck-is}
-use Rattle.waiting.proofs.Struck.{fits-next}
-use Rattle.waiting.proofs.Demand3.{demand-3, ends-alike}
+use Rattle.demand3.specs.Demand3.{isClosed, isFrame, struck, shutReply, startAfter}
+use Rattle.calls.proofs.Laws.{Fits, fits-next}
+use Rattle.demand3.proofs.OneCall.{struck-is}
+use Rattle.demand3.proofs.Demand3.{demand-3, ends-alike}
 use Rattle.library_demand3.specs.Calls.{LibraryStep, LibraryAnswer, answerBy, LibraryRunResult, libraryRun}
 use Rattle.library_demand3.specs.Claim.{inNumber, inNumbers, inBytes, libraryStruck, EachLibraryStruck, LibrarySame, EveryLibraryList}
 use Rattle.library_demand3.specs.Follows.{NumberShut, AnswerShut, BufferFollows}
@@ -76,7 +75,7 @@ module _ (step : LibraryStep) where
     unfolding libraryRun runBy inNumbers
     next = record {
       good = good-next d c (first-frame c cs (b .frames)) (b .good);
-      fits = fits-next keeps d c (first-frame c cs (b .frames)) (b .fits);
+      fits = fits-next d c (first-frame c cs (b .frames)) (b .fits);
       frames = rest-frames c cs (b .frames);
       answers = ap (λ (l : List LibraryAnswer). drop 1 l) (b .answers);
       shut = λ p q e h. b .shut (c ∷ p) q (ap (λ (l : List Call). c ∷ l) e) h;
@@ -99,7 +98,7 @@ module _ (step : LibraryStep) where
         let frame = isFrame (signalBy (c .code) (c .value)) in
         let unrefused = not (ltb (step s m c .number) 0x100) in
         let both = and-left (transferOpen (tagOf s) && frame) unrefused h in
-        and-both (transferOpen (d .tag) && frame) (not (isRefusal (entry d c .says .answer)))
+        and-both (transferOpen (d .tag) && frame) (not (isRefused (entry d c .says .answer)))
         (and-both (transferOpen (d .tag)) frame (by-open (transferOpen (d .tag)) refl (and-left (transferOpen (tagOf s)) frame both)) (and-right (transferOpen (tagOf s)) frame both))
         (ap not (sym (refusal-number (entry d c .says .answer))) ∙ ap (λ (a : LibraryAnswer). not (ltb (a .number) 0x100)) (sym answer-is)
         ∙ and-right (transferOpen (tagOf s) && frame) unrefused h)

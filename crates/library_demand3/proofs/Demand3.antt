@@ -11,10 +11,10 @@ use Rattle.state.proofs.There.{decodes-encoded}
 use Rattle.state.proofs.Again.{encodes-decoded}
 use Rattle.state.proofs.Decoded.{decoded-fits}
 use Rattle.model.specs.Step.{transferOpen, tagInRange}
-use Rattle.waiting.specs.Calls.{Call, Device, device, entry, runBy}
+use Rattle.calls.specs.Calls.{Call, Device, device, entry, runBy, framesFit}
 use Rattle.waiting.specs.Waiting.{noTransfer, waitRun}
-use Rattle.waiting.specs.Claim.{framesFit, isClosed}
-use Rattle.waiting.proofs.Demand3.{demand-3, ends-alike}
+use Rattle.demand3.specs.Demand3.{isClosed}
+use Rattle.demand3.proofs.Demand3.{demand-3, ends-alike}
 use Rattle.library_demand3.specs.Calls.{exported, LibraryRunResult, libraryRun}
 use Rattle.library_demand3.specs.Claim.{inBytes, EachLibraryStruck, LibraryShut, LibraryAgrees, Starts, LibraryDemand3, LibraryEndsAlike}
 use Rattle.library_demand3.proofs.Striking.{library-striking-follows}

@@ -22,9 +22,9 @@ use Rattle.state.proofs.There.{decodes-encoded}
 use Rattle.state.proofs.AreBytes.{encodes-bytes}
 use Rattle.state.proofs.Decoded.{eight-run}
 use Rattle.model.specs.declared.Answer.the-variants.{Nothing}
-use Rattle.model.specs.Step.{number, transferOpen, tagInRange, freshOf}
+use Rattle.model.specs.Step.{number, transferOpen, tagInRange, freshOf, isRefused}
 use Rattle.model.proofs.Kept.{fresh-fits}
-use Rattle.capi.specs.Interface.{refusalNumber, answerNumber, isRefused, stateAfter, FreshCallResult, freshCallResult, freshCall}
+use Rattle.capi.specs.Interface.{refusalNumber, answerNumber, stateAfter, FreshCallResult, freshCallResult, freshCall}
 use Rattle.library_demand3.specs.Claim.{Starts, FreshStarts}
 
 -- ---- what the call leaves

@@ -17,12 +17,12 @@ use Rattle.model.specs.declared.Refusal.the-variants.{MemoryLength, ReplyShort,
 use Rattle.model.specs.declared.Answer.{Answer}
 use Rattle.model.specs.declared.Answer.the-variants.{Refused, Nothing, Ack, NoAck, Byte, Silence, Reply}
 use Rattle.model.specs.Signals.{signalBy}
-use Rattle.model.specs.Step.{StepResult, number, transferOpen, stepOf}
-use Rattle.capi.specs.Interface.{refusalNumber, answerNumber, isRefused, stateAfter, CallResult, callResult}
+use Rattle.model.specs.Step.{StepResult, number, transferOpen, stepOf, isRefused}
+use Rattle.capi.specs.Interface.{refusalNumber, answerNumber, stateAfter, CallResult, callResult}
 use Rattle.capi.proofs.Refusals.{act-served}
 use Rattle.capi.proofs.Tags.{steps-the-tag}
-use Rattle.waiting.specs.Calls.{Call, Device, device, DeviceResult, RunResult, entry, runBy}
-use Rattle.waiting.specs.Claim.{framesFit, isRefusal, isFrame, struck, Shut, startAfter, EachStruck, AllShut}
+use Rattle.calls.specs.Calls.{Call, Device, device, DeviceResult, RunResult, entry, runBy, framesFit}
+use Rattle.demand3.specs.Demand3.{isFrame, struck, Shut, startAfter, EachStruck, AllShut}
 use Rattle.library_demand3.specs.Calls.{exported, answerBy, LibraryRunResult, libraryRunResult, libraryRun}
 use Rattle.library_demand3.specs.Claim.{inNumber, inNumbers, libraryStruck, shutAnswer, EachLibraryStruck, LibraryShut}
 use Rattle.library_demand3.proofs.Kept.{keeps-fits}
@@ -102,8 +102,8 @@ run-good (c ∷ cs) d b g = run-good cs (entry d c .device) (rest-frames c cs b)
 
 -- ---- struck frames
 -- a refusal's number is below 0x100, and no other's
-pub refusal-number : (a : Answer) → ltb (answerNumber a) 0x100 ≡ isRefusal a
-unfolding answerNumber refusalNumber number isRefusal
+pub refusal-number : (a : Answer) → ltb (answerNumber a) 0x100 ≡ isRefused a
+unfolding answerNumber refusalNumber number isRefused
 refusal-number (Refused MemoryLength) = refl
 refusal-number (Refused ReplyShort) = refl
 refusal-number (Refused SignalUnknown) = refl

@@ -3,7 +3,7 @@
 use mathlib.Core.List.{List, [], _∷_}
 use Prim.Native.Nat.{ℕ}
 use Rattle.capi.specs.Interface.{CallResult, stepCall}
-use Rattle.waiting.specs.Calls.{Call}
+use Rattle.calls.specs.Calls.{Call}
 
 -- of the state's bytes, the memory and a call: the number, the state's bytes, the memory and the reply buffer at the return
 abbrev pub LibraryStep : Type 0

@@ -15,9 +15,9 @@ use Rattle.model.specs.declared.Answer.the-variants.{Nothing}
 use Rattle.model.specs.Signals.{signalBy}
 use Rattle.model.specs.Step.{transferOpen, tagInRange}
 use Rattle.capi.specs.Interface.{answerNumber, freshCall}
-use Rattle.waiting.specs.Calls.{Call, CallAnswer, device}
+use Rattle.calls.specs.Calls.{Call, CallAnswer, device, framesFit, callReply}
 use Rattle.waiting.specs.Waiting.{Waiting, noTransfer, inside, waitRun}
-use Rattle.waiting.specs.Claim.{framesFit, isFrame, shutReply, callReply, startAfter, isClosed}
+use Rattle.demand3.specs.Demand3.{isFrame, shutReply, startAfter, isClosed}
 use Rattle.library_demand3.specs.Calls.{LibraryStep, exported, LibraryAnswer, libraryAnswer, answerBy, LibraryRunResult, libraryRunResult, libraryRun}
 
 -- ---- the waiting tag in numbers and bytes

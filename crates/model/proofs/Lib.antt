@@ -1,4 +1,3 @@
 pub mod Kept
-pub mod Served
 pub mod Value
 pub mod Clear

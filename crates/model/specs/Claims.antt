@@ -2,16 +2,14 @@
 use mathlib.Core.Path.{_≡_}
 use mathlib.Core.Bool.{true}
 use mathlib.Core.List.{List}
-use Prim.Native.Nat.{ℕ, _≤_}
+use Prim.Native.Nat.{ℕ}
 use lib.ListN.{length, replicate}
 use Rattle.parts.specs.Bytes.{areBytes}
 use Rattle.tag.specs.declared.Uid.{Uid}
 use Rattle.tag.specs.declared.Tag.{Tag}
-use Rattle.tag.specs.Layout.{memoryBytes, replyBytes}
+use Rattle.tag.specs.Layout.{memoryBytes}
 use Rattle.tag.specs.Supply.{freshTag}
-use Rattle.reply.specs.Reply.{bufferOf, answerOf}
-use Rattle.radio.specs.Radio.{radioOf}
-use Rattle.model.specs.Step.{stepResult, fromRadio, radioSide, withRadio, transferOpen, tagInRange, stepOf}
+use Rattle.model.specs.Step.{tagInRange, stepOf}
 
 -- the tag is in range, with 1,024 bytes
 pub record Fit (t : Tag) (m : List ℕ) : Type 0 where
@@ -26,10 +24,3 @@ StepKeepsFit = (t : Tag) (m o : List ℕ) (code value : ℕ) (s : List ℕ) → 
 -- the fresh tag has it
 abbrev pub FreshFits : Type 0
 FreshFits = (u : Uid) → Fit (freshTag u) (replicate memoryBytes 0)
-
--- demand 2, till direction, at the entry: a frame's call is the judge and the table of commands
-abbrev pub FrameServed : Type 0
-FrameServed = (t : Tag) (m o s : List ℕ) → Fit t m → replyBytes ≤ length o
-    → stepOf t m o 8 0 s
-    ≡ (let r = radioOf (radioSide t) (t .uid) (t .host .vcc) (transferOpen t) (t .host .programming) m s in
-    stepResult (fromRadio (answerOf (r .reply))) (withRadio (r .side) t) (r .memory) (bufferOf (r .reply) o))

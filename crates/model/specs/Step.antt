@@ -1,5 +1,5 @@
 -- "What the bench hands in": the refusals, and what a call does to the tag and both lent buffers.
-use mathlib.Core.Bool.{Bool, not, _&&_}
+use mathlib.Core.Bool.{Bool, true, false, not, _&&_}
 use mathlib.Core.List.{List}
 use Prim.Native.Nat.{ℕ}
 use lib.Dec.{ltb, eqb}
@@ -58,6 +58,16 @@ number ReplyShort = 2
 number SignalUnknown = 3
 -- "state breaks a range below"
 number OutOfRange = 4
+
+-- an answer is a refusal
+unfoldable pub isRefused : Answer → Bool
+isRefused (Refused why) = true
+isRefused Nothing = false
+isRefused Ack = false
+isRefused NoAck = false
+isRefused (Byte x) = false
+isRefused Silence = false
+isRefused (Reply n) = false
 
 -- "A refusal returns the number and the state handed in; every lent byte stays."
 abbrev pub refused : Refusal → Tag → List ℕ → List ℕ → StepResult

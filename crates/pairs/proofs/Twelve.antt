@@ -12,13 +12,11 @@ use Rattle.tag.specs.declared.Tag.{Tag}
 use Rattle.tag.specs.Layout.{replyBytes}
 use Rattle.model.specs.Signals.{signalInRange}
 use Rattle.model.specs.declared.Refusal.the-variants.{ReplyShort, SignalUnknown}
-use Rattle.model.proofs.Kept.{keeps, fresh-fits}
-use Rattle.waiting.specs.Calls.{Call, Device, device, DeviceResult, RunResult, runResult, entry, runBy}
-use Rattle.waiting.specs.Examples.{uid}
-use Rattle.waiting.specs.Claim.{framesFit}
-use Rattle.waiting.proofs.OneCall.{Fits, acted, refusal, call-is}
-use Rattle.waiting.proofs.Struck.{first-fits, rest-fits, fits-next}
-use Rattle.waiting.proofs.Computes.{computes}
+use Rattle.model.proofs.Kept.{fresh-fits}
+use Rattle.calls.specs.Calls.{Call, Device, device, DeviceResult, RunResult, runResult, entry, runBy, framesFit}
+use Rattle.calls.specs.Examples.{uid}
+use Rattle.calls.proofs.Laws.{Fits, acted, refusal, call-is, first-fits, rest-fits, fits-next}
+use Rattle.calls.proofs.Computes.{computes}
 use Rattle.pairs.specs.Pairs.{Value, valueOf, values, Result, resultOf, Part, Pair, crcIs, goes, HoldFrom, freshDevice, supplies, Holds, AllHold, pair1, pair2, pair3, pair4, pair4wire, pair5, pair6, pair7, pair8, pair9, pair9more, pair10, pair11, pair12, twelve, Twelve}
 
 -- ---- from a tag in range refusals 1 and 4 never come, so no call need judge them: that is what would take long
@@ -38,7 +36,7 @@ runs : (cs : List Call) (d : Device) → framesFit cs ≡ true → Fits d → Ru
 unfolding runBy unranged
 runs [] d b f = record { same = refl; fits = f }
 runs (c ∷ cs) d b f =
-    let r = runs cs (entry d c .device) (rest-fits c cs b) (fits-next keeps d c (first-fits c cs b) f) in
+    let r = runs cs (entry d c .device) (rest-fits c cs b) (fits-next d c (first-fits c cs b) f) in
     record {
       same = ap (λ (r : RunResult). runResult (entry d c .says ∷ r .answers) (r .device)) (r .same) ∙ ap (λ (e : DeviceResult). then e cs) (call-is d c f);
       fits = r .fits;

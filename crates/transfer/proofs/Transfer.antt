@@ -24,7 +24,7 @@ use Rattle.send.specs.Send.{selectBy, sendAt}
 use Rattle.wire.specs.Wire.{fetchAt, signalOf}
 use Rattle.transfer.specs.Legs.{Noted, NotedStart, NotedSend, NotedFetch, NotedStop, NotedVccOff, wireSignal, selectRefused, Move, moveSend, moveFetch, Finish, atStop, atVccOff, atRefusal, Legs, leg, last, parse}
 use Rattle.transfer.specs.Whole.{TransferResult, transferResult, before, Leg, selectedLeg, legOf, counting, filled, lastLeg, legsOf, transferOf}
-use Rattle.transfer.specs.Claim.{runOf, Ready, Demand2}
+use Rattle.transfer.specs.Claim.{runOf, Ready, TransferBySignals}
 use Rattle.transfer.proofs.Run.{stepOf, signals, run-then, first-then, still}
 use Rattle.transfer.proofs.LegRun.{Goes, leg-goes}
 use Rattle.transfer.proofs.Parse.{endSignals, render, refuses, done, parted}
@@ -168,8 +168,8 @@ legs-run (leg ms l) h u w m o y =
     leg-run w u m o y ms (render l) (λ (w : WireSide) (m : List ℕ). legsOf w u m l) (legs-run l h u) (legOf w u m ms) (leg-goes w u m (y .bytes) o ms)
 
 -- the theorem
-pub demand-2 : Demand2
+pub transfer-by-signals : TransferBySignals
 unfolding transferOf
-demand-2 n h w u m o y =
+transfer-by-signals n h w u m o y =
     let p = parted n true h in
     sym (ap (runOf (sideBus (Started o) w) u m) (sym (p .same)) ∙ legs-run (parse n) (p .ends) u w m o y)

@@ -1,4 +1,4 @@
--- Demand 2: the whole transfer is what its signals give one by one: every answer, the wire side and all 1,024 bytes.
+-- The whole transfer is what its signals give one by one: every answer, the wire side and all 1,024 bytes.
 use mathlib.Core.Path.{_≡_}
 use mathlib.Core.Bool.{Bool, true, false}
 use mathlib.Core.List.{List, [], _∷_}
@@ -27,7 +27,7 @@ pub record Ready (w : WireSide) (m : List ℕ) : Type 0 where
   pub bytes : length m ≡ memoryBytes
 
 -- n is what comes after the first Start, up to the end of the transfer; the bus is started, a transfer open or not
-abbrev pub Demand2 : Type 0
-Demand2 =
+abbrev pub TransferBySignals : Type 0
+TransferBySignals =
     (n : List Noted) → finished true n ≡ true → (w : WireSide) (u : Uid) (m : List ℕ) (o : Bool) → Ready w m
     → transferOf w u m n ≡ runOf (sideBus (Started o) w) u m n

@@ -27,19 +27,19 @@ use Rattle.wire_claims.proofs.Line.{registers-stay}
 use Rattle.transfer.specs.Legs.{Noted, NotedStart, NotedSend, NotedFetch, NotedStop, NotedVccOff, wireSignal, ends, finished}
 use Rattle.transfer.specs.Whole.{TransferResult, transferResult, transferOf}
 use Rattle.transfer.specs.Claim.{runOf, Ready}
-use Rattle.transfer.proofs.Transfer.{demand-2}
+use Rattle.transfer.proofs.Transfer.{transfer-by-signals}
 use Rattle.model.specs.declared.Refusal.the-variants.{ReplyShort, SignalUnknown}
 use Rattle.model.specs.declared.Answer.the-variants.{Refused, Nothing}
 use Rattle.model.specs.declared.Signal.{Signal}
 use Rattle.model.specs.declared.Signal.the-variants.{Wire, Field, Frame}
 use Rattle.model.specs.Signals.{signalInRange, signalBy}
 use Rattle.model.specs.Step.{fromWire, wireSide, withWire, withTagAir, transferOpen, actOf}
-use Rattle.waiting.specs.Calls.{Call, CallAnswer, callAnswer, Device, device, DeviceResult, deviceResult, entry}
+use Rattle.calls.specs.Calls.{Call, CallAnswer, callAnswer, Device, device, DeviceResult, deviceResult, entry, callReply}
 use Rattle.waiting.specs.Waiting.{Slot, given, waits, fill, Waiting, noTransfer, inside, answered, isStarted, ackedSelect, atOnce, acts, whenClosed, note, frameAnswer, notes, whenOpen, waitAct, waitStep}
-use Rattle.waiting.specs.Claim.{callReply}
 use Rattle.waiting.proofs.OpenStep.{Open, Going, going, opens, stays-shut, Selects, selects, first-goes}
 use Rattle.waiting.proofs.Lists.{run-snoc, run-length, On, here, more, on-snoc, on-finished, waiting, waiting-waits, waiting-given, fill-waits, fill-given}
-use Rattle.waiting.proofs.OneCall.{Fits, call-is, actedBy, shutBy, frame-shut, frame-waits, supplied}
+use Rattle.calls.proofs.Laws.{Fits, call-is, actedBy, supplied}
+use Rattle.waiting.proofs.Frames.{shutBy, frame-shut, frame-waits}
 
 -- ---- where the tag by signals stands
 abbrev pub running : Device → List Noted → TransferResult
@@ -175,7 +175,7 @@ module _ (out : List CallAnswer) (k : Device) (n : List Noted) (sl : List Slot) 
   whole-here : (s : Noted) → finished true (n ++ s ∷ []) ≡ true
       → transferOf (wireSide (k .tag)) (k .tag .uid) (k .memory) (n ++ s ∷ []) ≡ running k (n ++ s ∷ [])
   whole-here s h =
-      demand-2 (n ++ s ∷ []) h (wireSide (k .tag)) (k .tag .uid) (k .memory) (g .before) (g .ready)
+      transfer-by-signals (n ++ s ∷ []) h (wireSide (k .tag)) (k .tag .uid) (k .memory) (g .before) (g .ready)
       ∙ ap (λ (b : Bus). runOf (sideBus b (wireSide (k .tag))) (k .tag .uid) (k .memory) (n ++ s ∷ [])) (sym (g .at))
 
   -- the signal ends the transfer

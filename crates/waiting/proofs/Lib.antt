@@ -1,11 +1,4 @@
 pub mod OpenStep
 pub mod Lists
-pub mod OneCall
-pub mod Struck
+pub mod Frames
 pub mod Follow
-pub mod Demand3
-pub mod Follows
-pub mod Entry
-pub mod Behind
-pub mod Wrong
-pub mod Computes

@@ -16,7 +16,7 @@ use Rattle.transfer.specs.Whole.{transferResult}
 use Rattle.transfer.specs.Claim.{runOf}
 use Rattle.transfer.proofs.Run.{run-append}
 use Rattle.model.specs.Step.{fromWire}
-use Rattle.waiting.specs.Calls.{CallAnswer, callAnswer}
+use Rattle.calls.specs.Calls.{CallAnswer, callAnswer}
 use Rattle.waiting.specs.Waiting.{Slot, given, waits, fill}
 
 -- ---- runs

@@ -13,19 +13,17 @@ use Rattle.tag.specs.Layout.{replyBytes}
 use Rattle.tag.specs.Radio.{fieldAt}
 use Rattle.rule.specs.Select.{choose}
 use Rattle.signal.specs.declared.WireAnswer.{WireAnswer}
-use Rattle.signal.specs.declared.WireSignal.{WireSignal}
 use Rattle.signal.specs.declared.WireSignal.the-variants.{Start as SignalStart, Send, Fetch, Stop as SignalStop, Vcc, ProgrammingEnd}
 use Rattle.transfer.specs.Legs.{Noted, NotedStart, NotedSend, NotedFetch, NotedStop, NotedVccOff, selectRefused, finished}
 use Rattle.transfer.specs.Whole.{transferOf}
-use Rattle.reply.specs.Reply.{answerOf, bufferOf}
 use Rattle.radio.specs.Radio.{radioOf}
 use Rattle.model.specs.declared.Refusal.the-variants.{ReplyShort, SignalUnknown}
 use Rattle.model.specs.declared.Answer.the-variants.{Refused, Nothing}
 use Rattle.model.specs.declared.Signal.{Signal}
 use Rattle.model.specs.declared.Signal.the-variants.{Wire, Field, Frame}
 use Rattle.model.specs.Signals.{signalInRange, signalBy}
-use Rattle.model.specs.Step.{fromWire, fromRadio, wireSide, withWire, radioSide, withTagAir, actOf}
-use Rattle.waiting.specs.Calls.{Call, CallAnswer, callAnswer, Device, device, DeviceResult, deviceResultOf}
+use Rattle.model.specs.Step.{fromWire, wireSide, withWire, radioSide, withTagAir, actOf}
+use Rattle.calls.specs.Calls.{Call, callReply, CallAnswer, callAnswer, Device, device, DeviceResult, deviceResultOf}
 
 -- the place of an answer: given, or waiting for the transfer's end with the reply buffer of its call
 pub data Slot : Type 0 where
@@ -94,7 +92,7 @@ note out k n sl =
 unfoldable pub frameAnswer : Device → Call → CallAnswer
 frameAnswer k c =
     let r = radioOf (radioSide (k .tag)) (k .tag .uid) (k .tag .host .vcc) true (k .tag .host .programming) (k .memory) (c .frame) in
-    callAnswer (fromRadio (answerOf (r .reply))) (bufferOf (r .reply) (c .buffer))
+    callReply (r .reply) (c .buffer)
 
 -- one more signal noted
 abbrev pub notes : List CallAnswer → Device → List Noted → List Slot → Noted → Call → Waiting

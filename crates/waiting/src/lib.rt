@@ -1,1 +1,1 @@
-// The waiting tag, and demand 3: definitions and their proofs.
+// The waiting tag, and that it follows the entry point call by call: definitions and their proofs.

@@ -1,4 +1,4 @@
-use Rattle.capi.specs.Interface.{isRefused}
+use Rattle.model.specs.Step.{isRefused}
 use borrow.Author.Needs.{needs}
 use Rattle.capi.proofs.is_refused.Statement.{statement}
 use Rattle.capi.proofs.is_refused.Tie as tie

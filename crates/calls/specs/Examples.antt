@@ -1,0 +1,147 @@
+-- Calls and tags to write lists with: for the twelve pairs and the wrong tags. No step is run here.
+use mathlib.Core.Bool.{Bool, true, false}
+use mathlib.Core.List.{List, [], _∷_, _++_}
+use Prim.Native.Nat.{ℕ, _-_}
+use lib.ListN.{length, replicate}
+use Rattle.registers.specs.declared.Registers.{Registers}
+use Rattle.registers.specs.Defined.{freshRegisters, rfaSs, endA, mbMode}
+use Rattle.registers.specs.Map.{withSecurity, withEnds, withMode}
+use Rattle.tag.specs.declared.RadioState.{RadioState}
+use Rattle.tag.specs.declared.RadioState.the-variants.{Ready}
+use Rattle.tag.specs.declared.Air.{Air}
+use Rattle.tag.specs.declared.Bus.{Bus}
+use Rattle.tag.specs.declared.Bus.the-variants.{Idle}
+use Rattle.tag.specs.declared.Host.{Host}
+use Rattle.tag.specs.declared.Core.{Core}
+use Rattle.tag.specs.declared.Uid.{Uid}
+use Rattle.tag.specs.Layout.{userBytes, memoryBytes, replyBytes}
+use Rattle.tag.specs.Radio.{withState, withRadioSession}
+use Rattle.tag.specs.Mailbox.{emptyMailbox, noMessage}
+use Rattle.tag.specs.Keys.{freshPasswords}
+use Rattle.tag.specs.Supply.{withBus, withRegisters, withMailbox}
+use Rattle.model.specs.Step.{withTagAir}
+use Rattle.crc.specs.Crc.{closed}
+use Rattle.calls.specs.Calls.{Call, Device, device}
+
+abbrev pub zeros : ℕ → List ℕ
+zeros n = replicate n 0
+
+-- ---- calls, by the codes of model/specs/Signals, each with a reply buffer of 643 zeros
+abbrev pub callOf : ℕ → ℕ → List ℕ → Call
+callOf code value s = record { buffer = zeros replyBytes; code = code; value = value; frame = s }
+
+-- VCC and the field, 0 or 1
+abbrev pub vccTo : ℕ → Call
+vccTo level = callOf 1 level []
+
+abbrev pub fieldTo : ℕ → Call
+fieldTo level = callOf 2 level []
+
+abbrev pub start : Call
+start = callOf 3 0 []
+
+abbrev pub send : ℕ → Call
+send x = callOf 4 x []
+
+-- bytes sent, one after the other
+unfoldable pub sends : List ℕ → List Call
+sends [] = []
+sends (x ∷ s) = send x ∷ sends s
+
+-- a fetch with the host's Ack, and without
+abbrev pub fetch : Call
+fetch = callOf 5 1 []
+
+abbrev pub fetchLast : Call
+fetchLast = callOf 5 0 []
+
+abbrev pub stop : Call
+stop = callOf 6 0 []
+
+abbrev pub programmingEnd : Call
+programmingEnd = callOf 7 0 []
+
+-- a frame, with its CRC
+abbrev pub frame : List ℕ → Call
+frame s = callOf 8 0 (closed s)
+
+-- ---- tags, written down from 01's words
+-- the bench's UID
+abbrev pub uid : Uid
+uid = record { bytes = 0x01 ∷ 0x02 ∷ 0x03 ∷ 0x04 ∷ 0x05 ∷ 0x24 ∷ 0x02 ∷ 0xE0 ∷ [] }
+
+-- "a fresh powered tag in the field": "all bytes, registers and passwords 0, ends 0Fh, UID as set, Ready"
+abbrev pub powered : Device
+powered = device (record {
+  air = record { field = true; radio = Ready; session = 0 };
+  host = record { vcc = true; session = false; programming = false; counter = 0; bus = Idle };
+  core = record { registers = freshRegisters; mailbox = emptyMailbox; passwords = freshPasswords };
+  uid = uid;
+}) (zeros memoryBytes)
+
+-- ---- a device but for one thing: `powered but counterAt 0x0200`
+infixl 10 _but_
+abbrev pub _but_ : Device → (Device → Device) → Device
+_but_ d f = f d
+
+abbrev pub onAir : (Air → Air) → Device → Device
+onAir f d = device (withTagAir (f (d .tag .air)) (d .tag)) (d .memory)
+
+abbrev pub onHost : (Host → Host) → Device → Device
+onHost f d = device (record { air = d .tag .air; host = f (d .tag .host); core = d .tag .core; uid = d .tag .uid }) (d .memory)
+
+abbrev pub onCore : (Core → Core) → Device → Device
+onCore f d = device (record { air = d .tag .air; host = d .tag .host; core = f (d .tag .core); uid = d .tag .uid }) (d .memory)
+
+abbrev pub onRegisters : (Registers → Registers) → Device → Device
+onRegisters f d = onCore (λ (c : Core). withRegisters (f (c .registers)) c) d
+
+-- ---- the radio side
+abbrev pub fieldIs : Bool → Device → Device
+fieldIs on d = onAir (λ (a : Air). record { field = on; radio = a .radio; session = a .session }) d
+
+abbrev pub radioState : RadioState → Device → Device
+radioState x d = onAir (withState x) d
+
+-- "radio session .. 1 to 4 for passwords 0 to 3"
+abbrev pub radioSession : ℕ → Device → Device
+radioSession n d = onAir (withRadioSession n) d
+
+-- ---- the host side
+abbrev pub vccIs : Bool → Device → Device
+vccIs on d = onHost (λ (h : Host). record { vcc = on; session = h .session; programming = h .programming; counter = h .counter; bus = h .bus }) d
+
+abbrev pub i2cSession : Device → Device
+i2cSession d = onHost (λ (h : Host). record { vcc = h .vcc; session = true; programming = h .programming; counter = h .counter; bus = h .bus }) d
+
+abbrev pub beingProgrammed : Device → Device
+beingProgrammed d = onHost (λ (h : Host). record { vcc = h .vcc; session = h .session; programming = true; counter = h .counter; bus = h .bus }) d
+
+abbrev pub counterAt : ℕ → Device → Device
+counterAt n d = onHost (λ (h : Host). record { vcc = h .vcc; session = h .session; programming = h .programming; counter = n; bus = h .bus }) d
+
+abbrev pub onBus : Bus → Device → Device
+onBus b d = onHost (withBus b) d
+
+-- ---- registers
+-- ENDA1 to ENDA3
+abbrev pub areaEnds : ℕ → ℕ → ℕ → Device → Device
+areaEnds a b c d = onRegisters (withEnds (record { end1 = endA a; end2 = endA b; end3 = endA c })) d
+
+-- RFA1SS to RFA4SS
+abbrev pub areaRights : ℕ → ℕ → ℕ → ℕ → Device → Device
+areaRights a b c e d = onRegisters (withSecurity (record { area1 = rfaSs a; area2 = rfaSs b; area3 = rfaSs c; area4 = rfaSs e })) d
+
+abbrev pub mailboxMode : ℕ → Device → Device
+mailboxMode n d = onRegisters (withMode (mbMode n)) d
+
+-- MB_EN 1, and a host message of n bytes with its CURRENT bit, and HOST_PUT or not
+abbrev pub hostMessage : ℕ → Bool → Device → Device
+hostMessage n put d = onCore (withMailbox (record { enabled = true; host = record { put = put; current = true }; rf = noMessage; length = n })) d
+
+-- ---- the bytes: of user memory, mailbox and page buffer the first ones, all others being 0
+abbrev pub thenZeros : ℕ → List ℕ → List ℕ
+thenZeros n s = s ++ zeros (n - length s)
+
+abbrev pub bytes : List ℕ → List ℕ → List ℕ → Device → Device
+bytes user mailbox page d = device (d .tag) (thenZeros userBytes user ++ thenZeros 256 mailbox ++ thenZeros 256 page)

@@ -1,0 +1,3 @@
+pub mod Frames
+pub mod Transfers
+pub mod Demand2

@@ -1,0 +1,3 @@
+pub mod OneCall
+pub mod Struck
+pub mod Demand3

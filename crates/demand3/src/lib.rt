@@ -1,0 +1,1 @@
+// Demand 3: the claim and its proof.

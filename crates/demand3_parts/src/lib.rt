@@ -1,0 +1,1 @@
+// Which parts of demand 3 follow from the others, and which do not: definitions and their proofs.

@@ -1,0 +1,63 @@
+-- A frame while a transfer is open, by the entry point and by the waiting tag. Assumes nothing.
+use mathlib.Core.Path.{_≡_, refl, ap, _∙_}
+use mathlib.Core.Bool.{Bool, true, false, _||_}
+use mathlib.Core.List.{List}
+use Prim.Native.Nat.{ℕ}
+use Rattle.parts.specs.Pick.{pick}
+use Rattle.parts.specs.Bits.{isSet}
+use Rattle.parts.proofs.Bools.{or-second}
+use Rattle.registers.specs.declared.RfMngt.{RfMngt}
+use Rattle.tag.specs.declared.Air.{Air}
+use Rattle.tag.specs.declared.Uid.{Uid}
+use Rattle.tag.specs.declared.Tag.{Tag}
+use Rattle.reply.specs.declared.RadioSide.{RadioSide}
+use Rattle.errors.specs.declared.RadioError.the-variants.{ShutOut}
+use Rattle.reply.specs.Reply.{ReplyBody, nothing, fault}
+use Rattle.reply.specs.Outcome.{CommandResult, commandResult}
+use Rattle.frame.specs.declared.Verdict.{Verdict}
+use Rattle.frame.specs.declared.Verdict.the-variants.{Silence, Error}
+use Rattle.frame.specs.Judge.{isSilent, isMute, errorOf, shutOut}
+use Rattle.frame.proofs.ShutOut.{shut-out-decides}
+use Rattle.radio.specs.Radio.{verdictResult, radioOf}
+use Rattle.model.specs.declared.Signal.the-variants.{Frame}
+use Rattle.model.specs.Step.{radioSide, transferOpen, actOf}
+use Rattle.calls.specs.Calls.{Call, Device, device, deviceResult, callReply}
+use Rattle.waiting.specs.Waiting.{frameAnswer}
+use Rattle.calls.proofs.Laws.{actedBy}
+
+two-tests : (a b : Bool) (t : RadioSide) (u : Uid) (vcc : Bool) (m s : List ℕ)
+    → verdictResult (pick a Silence (pick b Silence (Error ShutOut))) t u vcc m s ≡ commandResult (pick (a || b) nothing (fault ShutOut)) t m
+unfolding verdictResult pick
+two-tests true b t u vcc m s = refl
+two-tests false true t u vcc m s = refl
+two-tests false false t u vcc m s = refl
+
+abbrev pub shutBy : List ℕ → Air → Uid → RfMngt → ReplyBody
+shutBy s a u d = pick (isSilent s a u d || isMute s u) nothing (fault ShutOut)
+
+pub shut-told : (t : RadioSide) (u : Uid) (vcc transfer programming : Bool) (m s : List ℕ) → transfer ≡ true
+    → radioOf t u vcc transfer programming m s ≡ commandResult (shutBy s (t .air) u (t .core .registers .dynamic)) t m
+unfolding radioOf shutOut errorOf
+shut-told t u vcc transfer programming m s h =
+    let d = t .core .registers .dynamic in
+    ap (λ (v : Verdict). verdictResult v t u vcc m s)
+    (shut-out-decides s (t .air) u d (transfer || programming) (or-second (isSet 1 (d .bits)) (transfer || programming) (rw h)))
+    ∙ two-tests (isSilent s (t .air) u d) (isMute s u) t u vcc m s
+
+abbrev shutFrom : Tag → Call → ReplyBody
+shutFrom t c = shutBy (c .frame) (t .air) (t .uid) (t .core .registers .dynamic)
+
+-- by the entry point
+pub frame-shut : (d : Device) (c : Call) → transferOpen (d .tag) ≡ true
+    → actedBy Frame d c ≡ deviceResult (callReply (shutFrom (d .tag) c) (c .buffer)) d
+unfolding actOf
+frame-shut d c h =
+    ap (λ (r : CommandResult). deviceResult (callReply (r .reply) (c .buffer)) (device (record { air = r .side .air; host = d .tag .host; core = r .side .core; uid = d .tag .uid }) (r .memory)))
+    (shut-told (radioSide (d .tag)) (d .tag .uid) (d .tag .host .vcc) (transferOpen (d .tag)) (d .tag .host .programming) (d .memory) (c .frame) h)
+
+-- by the waiting tag
+pub frame-waits : (k : Device) (c : Call) → frameAnswer k c ≡ callReply (shutFrom (k .tag) c) (c .buffer)
+unfolding frameAnswer
+frame-waits k c =
+    ap (λ (r : CommandResult). callReply (r .reply) (c .buffer))
+    (shut-told (radioSide (k .tag)) (k .tag .uid) (k .tag .host .vcc) true (k .tag .host .programming) (k .memory) (c .frame) refl)

@@ -1,0 +1,34 @@
+-- What a wrong tag is refuted by.
+use mathlib.Core.List.{List, [], _∷_}
+use Rattle.calls.specs.Calls.{Call, Device, Step}
+use Rattle.demand3.specs.Demand3.{Unchanged, RepliesShut, EachStruck, Same, Judged, Striking, EveryList}
+
+-- the parts of demand 3, a struck frame's two apart
+pub data ClaimPart : Type 0 where
+  bySame : ClaimPart
+  byJudged : ClaimPart
+  byStriking : ClaimPart
+  byUnchanged : ClaimPart
+  byReply : ClaimPart
+
+unfoldable pub partOf : ClaimPart → Step → Device → List Call → Type 0
+partOf bySame step d cs = Same step d cs
+partOf byJudged step d cs = Judged step d cs
+partOf byStriking step d cs = Striking step d cs
+partOf byUnchanged step d cs = EachStruck step (Unchanged step) (d .tag) d cs
+partOf byReply step d cs = EachStruck step (RepliesShut step) (d .tag) d cs
+
+-- a tag, and the part that tells it: for some list of calls this part does not hold of it
+pub record WrongTag : Type 0 where
+  pub step : Step
+  pub part : ClaimPart
+
+abbrev pub toldBy : ClaimPart → Step → WrongTag
+toldBy p step = record { step = step; part = p }
+
+abbrev pub Told : ClaimPart → Step → Type 0
+Told p step = EveryList (partOf p step) → ⊥
+
+unfoldable pub AllTold : List WrongTag → Type 0
+AllTold [] = Unit {0}
+AllTold (w ∷ ws) = Told (w .part) (w .step) × AllTold ws

@@ -1,0 +1,1 @@
+// Tags that demand 3 shuts out: definitions and their proofs.

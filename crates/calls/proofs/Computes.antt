@@ -28,7 +28,8 @@ use Rattle.blocks.specs.Blocks.{leavesArea, statusOf, blockOf, blocksOf, readOf
 use Rattle.block_writes.specs.Writes.{mayWriteAll, writeOf, lockOf}
 use Rattle.config.specs.Config.{isPointer, readConfigOf, mailboxAfterWrite, writtenCore, writeConfigOf, readDynamicOf, writeDynamicOf}
 use Rattle.message.specs.Message.{takesMessage, writeMessageOf, lengthOf, asked, mailboxAfterRead, readMessageOf}
-use Rattle.password.specs.Password.{presentOf, writePasswordOf, stayQuietOf, selectUidOf, resetToReadyOf}
+use Rattle.password.specs.Password.{presentOf, writePasswordOf}
+use Rattle.radio_state.specs.RadioState.{stayQuietOf, selectUidOf, resetToReadyOf}
 use Rattle.radio.specs.Commands.{serveOf}
 use Rattle.radio.specs.Radio.{verdictResult, radioOf}
 use Rattle.model.specs.Signals.{topValue, signalInRange, signalBy}

@@ -1,14 +1,14 @@
--- Commands on passwords and on the radio state: B3 Present, B1 Write Password; 02 Stay Quiet, 25 Select, 26 Reset.
-use mathlib.Core.Bool.{Bool, not}
+-- Commands on passwords: B3 Present, B1 Write Password.
+use mathlib.Core.Bool.{not}
 use mathlib.Core.List.{List, []}
 use Prim.Native.Nat.{ℕ, _+_}
 use lib.Dec.{ltb, eqb}
 use Rattle.parts.specs.Pick.{pick}
-use Rattle.tag.specs.Radio.{withRadioSession, selected, deselected, quieted, reset}
+use Rattle.tag.specs.Radio.{withRadioSession}
 use Rattle.tag.specs.Keys.{passwordAt, samePassword, radioPassword, withRadioPassword}
 use Rattle.errors.specs.declared.RadioError.the-variants.{NoSuchPassword, WrongPassword, PasswordSessionClosed}
 use Rattle.reply.specs.declared.RadioSide.{RadioSide}
-use Rattle.reply.specs.Reply.{nothing, good, fault}
+use Rattle.reply.specs.Reply.{good, fault}
 use Rattle.reply.specs.Outcome.{CommandResult, commandResult, fails, withAir, sidePasswords}
 
 -- "B3 Present (n, 8 bytes): 10h n above 3, session kept; wrong: session closed, 0Fh"; the password stands at place `at` of the frame
@@ -24,17 +24,3 @@ writePasswordOf s m n frame at =
     pick (ltb 3 n) (fails NoSuchPassword s m)
     (pick (not (eqb (s .air .session) (n + 1))) (fails PasswordSessionClosed s m)
     (commandResult (good []) (sidePasswords (withRadioPassword n (passwordAt frame at) (s .core .passwords)) s) m))
-
--- "02 Stay Quiet: Quiet; silent"
-unfoldable pub stayQuietOf : RadioSide → List ℕ → CommandResult
-stayQuietOf s m = commandResult nothing (withAir (quieted (s .air)) s) m
-
--- "25 Select: own UID Selected; another UID: Selected becomes Ready, silent"
-unfoldable pub selectUidOf : RadioSide → List ℕ → Bool → CommandResult
-selectUidOf s m own =
-    pick own (commandResult (good []) (withAir (selected (s .air)) s) m)
-    (commandResult nothing (withAir (deselected (s .air)) s) m)
-
--- "26 Reset gives Ready"
-unfoldable pub resetToReadyOf : RadioSide → List ℕ → CommandResult
-resetToReadyOf s m = commandResult (good []) (withAir (reset (s .air)) s) m

@@ -37,7 +37,8 @@ use Rattle.blocks.specs.Blocks.{readOf, statusReply}
 use Rattle.block_writes.specs.Writes.{writeOf, lockOf}
 use Rattle.config.specs.Config.{mailboxAfterWrite, writtenCore, readConfigOf, writeConfigOf, readDynamicOf, writeDynamicOf}
 use Rattle.message.specs.Message as message
-use Rattle.password.specs.Password.{presentOf, writePasswordOf, stayQuietOf, selectUidOf, resetToReadyOf}
+use Rattle.password.specs.Password.{presentOf, writePasswordOf}
+use Rattle.radio_state.specs.RadioState.{stayQuietOf, selectUidOf, resetToReadyOf}
 use Rattle.radio.specs.declared.RequestFields.{RequestFields}
 use Rattle.radio.specs.Claims.{radioInRange, FrameKeepsRange}
 use Rattle.radio.specs.Commands.{requestOf, serveOf}

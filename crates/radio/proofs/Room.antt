@@ -26,7 +26,8 @@ use Rattle.blocks.specs.Blocks.{leavesArea, blockOf, blocksOf, readOf, statusOf
 use Rattle.block_writes.specs.Writes.{writeOf, lockOf}
 use Rattle.config.specs.Config.{readConfigOf, writeConfigOf, readDynamicOf, writeDynamicOf}
 use Rattle.message.specs.Message.{writeMessageOf, lengthOf, asked, readMessageOf}
-use Rattle.password.specs.Password.{presentOf, writePasswordOf, stayQuietOf, selectUidOf, resetToReadyOf}
+use Rattle.password.specs.Password.{presentOf, writePasswordOf}
+use Rattle.radio_state.specs.RadioState.{stayQuietOf, selectUidOf, resetToReadyOf}
 use Rattle.radio.specs.declared.RequestFields.{RequestFields}
 use Rattle.radio.specs.Claims.{replySize, RepliesFit}
 use Rattle.radio.specs.Commands.{requestOf, serveOf}

@@ -1,4 +1,4 @@
--- The table of commands: what each says and leaves. Its rows are defined where their crates are: blocks, config, message, password.
+-- The table of commands: what each says and leaves. Its rows are defined where their crates are: blocks, block_writes, config, message, password, radio_state.
 use mathlib.Core.Bool.{Bool}
 use mathlib.Core.List.{List}
 use Prim.Native.Nat.{ℕ, _+_}
@@ -13,7 +13,8 @@ use Rattle.blocks.specs.Blocks.{readOf, statusReply}
 use Rattle.block_writes.specs.Writes.{writeOf, lockOf}
 use Rattle.config.specs.Config.{readConfigOf, writeConfigOf, readDynamicOf, writeDynamicOf}
 use Rattle.message.specs.Message.{writeMessageOf, lengthOf, readMessageOf}
-use Rattle.password.specs.Password.{presentOf, writePasswordOf, stayQuietOf, selectUidOf, resetToReadyOf}
+use Rattle.password.specs.Password.{presentOf, writePasswordOf}
+use Rattle.radio_state.specs.RadioState.{stayQuietOf, selectUidOf, resetToReadyOf}
 use Rattle.radio.specs.declared.RequestFields.{RequestFields}
 
 -- a frame's fields: command, first two parameter bytes, option, whether its UID is the tag's, the place of its parameters

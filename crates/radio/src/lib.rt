@@ -52,9 +52,9 @@ fn serve(
     let second = q.second;
     let at = q.at as usize;
     match command {
-        0x02 => password::stay_quiet(t, m, out),
-        0x25 => password::select(t, m, out, q.own),
-        0x26 => password::reset(t, m, out),
+        0x02 => radio_state::stay_quiet(t, m, out),
+        0x25 => radio_state::select(t, m, out, q.own),
+        0x26 => radio_state::reset(t, m, out),
         0x20 => blocks::read(t, m, out, q.option, first, 0),
         0x23 => blocks::read(t, m, out, q.option, first, second),
         0x21 => block_writes::write(t, m, out, first, 0, s, at + 1),

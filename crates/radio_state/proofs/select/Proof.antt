@@ -3,9 +3,9 @@ use borrow.Author.Needs.{needs}
 use Rattle.parts.proofs.Picks.{picks}
 use Rattle.reply.specs.Reply.{good}
 use Rattle.reply.proofs.Finish.{said, silent}
-use Rattle.password.specs.Password.{selectUidOf}
-use Rattle.password.proofs.select.Statement.{statement}
-use Rattle.password.proofs.select.Tie as tie
+use Rattle.radio_state.specs.RadioState.{selectUidOf}
+use Rattle.radio_state.proofs.select.Statement.{statement}
+use Rattle.radio_state.proofs.select.Tie as tie
 
 select-requires : tie.Need-select-requires
 select-requires c κs = search needs

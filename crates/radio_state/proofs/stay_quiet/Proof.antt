@@ -1,8 +1,8 @@
 use borrow.Author.Needs.{needs}
 use Rattle.reply.proofs.Finish.{silent}
-use Rattle.password.specs.Password.{stayQuietOf}
-use Rattle.password.proofs.stay_quiet.Statement.{statement}
-use Rattle.password.proofs.stay_quiet.Tie as tie
+use Rattle.radio_state.specs.RadioState.{stayQuietOf}
+use Rattle.radio_state.proofs.stay_quiet.Statement.{statement}
+use Rattle.radio_state.proofs.stay_quiet.Tie as tie
 
 stay-quiet-requires : tie.Need-stay-quiet-requires
 stay-quiet-requires c κs = search needs

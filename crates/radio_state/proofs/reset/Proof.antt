@@ -2,9 +2,9 @@ use mathlib.Core.List.{[]}
 use borrow.Author.Needs.{needs}
 use Rattle.reply.specs.Reply.{good}
 use Rattle.reply.proofs.Finish.{said}
-use Rattle.password.specs.Password.{resetToReadyOf}
-use Rattle.password.proofs.reset.Statement.{statement}
-use Rattle.password.proofs.reset.Tie as tie
+use Rattle.radio_state.specs.RadioState.{resetToReadyOf}
+use Rattle.radio_state.proofs.reset.Statement.{statement}
+use Rattle.radio_state.proofs.reset.Tie as tie
 
 reset-requires : tie.Need-reset-requires
 reset-requires c κs = search needs

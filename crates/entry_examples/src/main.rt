@@ -28,6 +28,9 @@ const REPLY: usize = 700;
 // A line's bytes: a place and the whole memory.
 const LINE: usize = 1102;
 
+// More bytes than the script has.
+const SCRIPT: usize = 262144;
+
 // What a line prints: that it is none of these, a call's answer, the tag, or the two CRCs.
 enum Said {
     Bad,
@@ -280,11 +283,11 @@ fn lines(s: &[u8], m: &mut [u8], out: &mut [u8], bytes: &mut [u8]) {
 }
 
 fn main() {
-    let mut input = io::large_buffer();
+    let mut input = [0u8; SCRIPT];
     let n = io::read_full(0, &mut input);
-    if n == 65536 {
+    if n == SCRIPT {
         // What lies behind these bytes would not be run.
-        io::write_all(2, b"the script has 65,536 bytes or more\n");
+        io::write_all(2, b"the script has 262,144 bytes or more\n");
         return;
     }
     let mut m = [0u8; MEMORY];

@@ -10,8 +10,9 @@ use Rattle.tag.specs.declared.Tag.{Tag}
 use Rattle.tag.specs.Layout.{memoryBytes, replyBytes}
 use Rattle.tag.specs.Supply.{freshTag}
 use Rattle.reply.specs.Reply.{bufferOf, answerOf}
+use Rattle.reply.specs.Outcome.{radioSide, withRadio}
 use Rattle.radio.specs.Radio.{radioOf}
-use Rattle.model.specs.Step.{stepResult, fromRadio, radioSide, withRadio, transferOpen, tagInRange, stepOf}
+use Rattle.model.specs.Step.{stepResult, fromRadio, transferOpen, tagInRange, stepOf}
 
 -- the tag is in range, with 1,024 bytes
 pub record Fit (t : Tag) (m : List ℕ) : Type 0 where

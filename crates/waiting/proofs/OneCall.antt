@@ -15,6 +15,7 @@ use Rattle.tag.specs.declared.Air.{Air}
 use Rattle.tag.specs.declared.Uid.{Uid}
 use Rattle.tag.specs.declared.Tag.{Tag}
 use Rattle.tag.specs.Layout.{memoryBytes, replyBytes}
+use Rattle.tag.specs.Parts.{wireSide}
 use Rattle.ranges.specs.Ranges.{airInRange, coreInRange, hostInRange, suppliedInRange, wireInRange, inRange}
 use Rattle.page.specs.PageRange.{busInRange}
 use Rattle.signal.specs.declared.WireAnswer.{WireAnswer}
@@ -25,7 +26,7 @@ use Rattle.reply.specs.declared.RadioAnswer.{RadioAnswer}
 use Rattle.reply.specs.declared.RadioAnswer.the-variants.{Silence as RadioSilence, Reply as RadioReply}
 use Rattle.errors.specs.declared.RadioError.the-variants.{ShutOut}
 use Rattle.reply.specs.Reply.{ReplyBody, nothing, fault}
-use Rattle.reply.specs.Outcome.{CommandResult, commandResult}
+use Rattle.reply.specs.Outcome.{CommandResult, commandResult, radioSide, withRadio}
 use Rattle.frame.specs.declared.Verdict.{Verdict}
 use Rattle.frame.specs.declared.Verdict.the-variants.{Silence, Error}
 use Rattle.frame.specs.Judge.{isSilent, isMute, errorOf, shutOut}
@@ -38,7 +39,7 @@ use Rattle.model.specs.declared.Answer.the-variants.{Refused}
 use Rattle.model.specs.declared.Signal.{Signal}
 use Rattle.model.specs.declared.Signal.the-variants.{Wire, Field, Frame}
 use Rattle.model.specs.Signals.{signalInRange, signalBy}
-use Rattle.model.specs.Step.{StepResult, refused, fromWire, fromRadio, wireSide, radioSide, transferOpen, tagInRange, actOf, stepOf}
+use Rattle.model.specs.Step.{StepResult, refused, fromWire, fromRadio, transferOpen, tagInRange, actOf, stepOf}
 use Rattle.model.specs.Claims.{Fit}
 use Rattle.waiting.specs.Calls.{Call, callAnswer, Device, device, DeviceResult, deviceResult, deviceResultOf, entry}
 use Rattle.waiting.specs.Waiting.{frameAnswer}
@@ -111,7 +112,7 @@ pub frame-shut : (d : Device) (c : Call) → transferOpen (d .tag) ≡ true
     → actedBy Frame d c ≡ deviceResult (callReply (shutReply (d .tag) (d .tag .air) (c .frame)) (c .buffer)) d
 unfolding actOf
 frame-shut d c h =
-    ap (λ (r : CommandResult). deviceResult (callReply (r .reply) (c .buffer)) (device (record { air = r .side .air; host = d .tag .host; core = r .side .core; uid = d .tag .uid }) (r .memory)))
+    ap (λ (r : CommandResult). deviceResult (callReply (r .reply) (c .buffer)) (device (withRadio (r .side) (d .tag)) (r .memory)))
     (shut-told (radioSide (d .tag)) (d .tag .uid) (d .tag .host .vcc) (transferOpen (d .tag)) (d .tag .host .programming) (d .memory) (c .frame) h)
 
 -- by the waiting tag

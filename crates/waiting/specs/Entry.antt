@@ -9,9 +9,10 @@ use Rattle.tag.specs.declared.Bus.the-variants.{Started}
 use Rattle.tag.specs.Layout.{memoryBytes, replyBytes}
 use Rattle.signal.specs.declared.WireAnswer.{WireAnswer}
 use Rattle.parts.specs.Pick.{pick}
+use Rattle.tag.specs.Parts.{wireSide, withWire}
 use Rattle.transfer.specs.Legs.{Noted, NotedStart, NotedSend, NotedFetch, NotedStop, NotedVccOff, finished}
 use Rattle.transfer.specs.Whole.{transferOf}
-use Rattle.model.specs.Step.{fromWire, wireSide, withWire, tagInRange}
+use Rattle.model.specs.Step.{fromWire, tagInRange}
 use Rattle.waiting.specs.Calls.{Call, CallAnswer, callAnswer, Device, device, runResult, entry, runBy}
 
 -- a wire signal with the reply buffer and the frame that its call hands in

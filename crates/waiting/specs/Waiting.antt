@@ -11,6 +11,7 @@ use Rattle.tag.specs.declared.Bus.the-variants.{Idle, Started, ReadLeg, WriteLe
 use Rattle.tag.specs.declared.Host.{Host}
 use Rattle.tag.specs.Layout.{replyBytes}
 use Rattle.tag.specs.Radio.{fieldAt}
+use Rattle.tag.specs.Parts.{wireSide, withWire, withTagAir}
 use Rattle.rule.specs.Select.{choose}
 use Rattle.signal.specs.declared.WireAnswer.{WireAnswer}
 use Rattle.signal.specs.declared.WireSignal.{WireSignal}
@@ -18,13 +19,14 @@ use Rattle.signal.specs.declared.WireSignal.the-variants.{Start as SignalStart,
 use Rattle.transfer.specs.Legs.{Noted, NotedStart, NotedSend, NotedFetch, NotedStop, NotedVccOff, selectRefused, finished}
 use Rattle.transfer.specs.Whole.{transferOf}
 use Rattle.reply.specs.Reply.{answerOf, bufferOf}
+use Rattle.reply.specs.Outcome.{radioSide}
 use Rattle.radio.specs.Radio.{radioOf}
 use Rattle.model.specs.declared.Refusal.the-variants.{ReplyShort, SignalUnknown}
 use Rattle.model.specs.declared.Answer.the-variants.{Refused, Nothing}
 use Rattle.model.specs.declared.Signal.{Signal}
 use Rattle.model.specs.declared.Signal.the-variants.{Wire, Field, Frame}
 use Rattle.model.specs.Signals.{signalInRange, signalBy}
-use Rattle.model.specs.Step.{fromWire, fromRadio, wireSide, withWire, radioSide, withTagAir, actOf}
+use Rattle.model.specs.Step.{fromWire, fromRadio, actOf}
 use Rattle.waiting.specs.Calls.{Call, CallAnswer, callAnswer, Device, device, DeviceResult, deviceResultOf}
 
 -- the place of an answer: given, or waiting for the transfer's end with the reply buffer of its call

@@ -19,7 +19,8 @@ use Rattle.model.specs.declared.Refusal.the-variants.{ReplyShort, SignalUnknown
 use Rattle.model.specs.declared.Answer.the-variants.{Refused}
 use Rattle.model.specs.declared.Signal.{Signal}
 use Rattle.model.specs.Signals.{signalInRange, signalBy}
-use Rattle.model.specs.Step.{StepResult, refused, wireSide, tagInRange, actOf, stepOf}
+use Rattle.model.specs.Step.{StepResult, refused, tagInRange, actOf, stepOf}
+use Rattle.tag.specs.Parts.{wireSide}
 use Rattle.model.specs.Claims.{Fit}
 use Rattle.model.proofs.Kept.{keeps}
 use Rattle.calls.specs.Calls.{Call, callAnswer, Device, DeviceResult, deviceResult, deviceResultOf, RunResult, runResult, runBy, entry, framesFit}

@@ -15,11 +15,9 @@ use Rattle.tag.specs.declared.Host.{Host}
 use Rattle.tag.specs.declared.Core.{Core}
 use Rattle.tag.specs.declared.Uid.{Uid}
 use Rattle.tag.specs.Layout.{userBytes, memoryBytes, replyBytes}
-use Rattle.tag.specs.Radio.{withState, withRadioSession}
+use Rattle.tag.specs.Parts.{withField, withState, withRadioSession, withVcc, withI2cSession, withProgramming, withCounter, withTagHost, withTagCore, withBus, withRegisters, withMailbox, withTagAir}
 use Rattle.tag.specs.Mailbox.{emptyMailbox, noMessage}
 use Rattle.tag.specs.Keys.{freshPasswords}
-use Rattle.tag.specs.Supply.{withBus, withRegisters, withMailbox}
-use Rattle.model.specs.Step.{withTagAir}
 use Rattle.crc.specs.Crc.{closed}
 use Rattle.calls.specs.Calls.{Call, Device, device}
 
@@ -88,17 +86,17 @@ abbrev pub onAir : (Air → Air) → Device → Device
 onAir f d = device (withTagAir (f (d .tag .air)) (d .tag)) (d .memory)
 
 abbrev pub onHost : (Host → Host) → Device → Device
-onHost f d = device (record { air = d .tag .air; host = f (d .tag .host); core = d .tag .core; uid = d .tag .uid }) (d .memory)
+onHost f d = device (withTagHost (f (d .tag .host)) (d .tag)) (d .memory)
 
 abbrev pub onCore : (Core → Core) → Device → Device
-onCore f d = device (record { air = d .tag .air; host = d .tag .host; core = f (d .tag .core); uid = d .tag .uid }) (d .memory)
+onCore f d = device (withTagCore (f (d .tag .core)) (d .tag)) (d .memory)
 
 abbrev pub onRegisters : (Registers → Registers) → Device → Device
 onRegisters f d = onCore (λ (c : Core). withRegisters (f (c .registers)) c) d
 
 -- ---- the radio side
 abbrev pub fieldIs : Bool → Device → Device
-fieldIs on d = onAir (λ (a : Air). record { field = on; radio = a .radio; session = a .session }) d
+fieldIs on d = onAir (withField on) d
 
 abbrev pub radioState : RadioState → Device → Device
 radioState x d = onAir (withState x) d
@@ -109,16 +107,16 @@ radioSession n d = onAir (withRadioSession n) d
 
 -- ---- the host side
 abbrev pub vccIs : Bool → Device → Device
-vccIs on d = onHost (λ (h : Host). record { vcc = on; session = h .session; programming = h .programming; counter = h .counter; bus = h .bus }) d
+vccIs on d = onHost (withVcc on) d
 
 abbrev pub i2cSession : Device → Device
-i2cSession d = onHost (λ (h : Host). record { vcc = h .vcc; session = true; programming = h .programming; counter = h .counter; bus = h .bus }) d
+i2cSession d = onHost (withI2cSession true) d
 
 abbrev pub beingProgrammed : Device → Device
-beingProgrammed d = onHost (λ (h : Host). record { vcc = h .vcc; session = h .session; programming = true; counter = h .counter; bus = h .bus }) d
+beingProgrammed d = onHost (withProgramming true) d
 
 abbrev pub counterAt : ℕ → Device → Device
-counterAt n d = onHost (λ (h : Host). record { vcc = h .vcc; session = h .session; programming = h .programming; counter = n; bus = h .bus }) d
+counterAt n d = onHost (withCounter n) d
 
 abbrev pub onBus : Bus → Device → Device
 onBus b d = onHost (withBus b) d

@@ -7,14 +7,15 @@ use borrow.Author.Tests.{le-leb, leb-true, not-false}
 use Rattle.parts.proofs.Picks.{pick-case}
 use Rattle.parts.proofs.Bools.{and-left, and-right}
 use Rattle.tag.specs.declared.Tag.{Tag}
-use Rattle.tag.specs.declared.WireSide.{WireSide}
 use Rattle.tag.specs.declared.Uid.{Uid}
+use Rattle.tag.specs.Parts.{wireSide}
 use Rattle.ranges.specs.Ranges.{registersInRange, airInRange, mailboxInRange, suppliedInRange, hostInRange, coreInRange, wireInRange, inRange}
 use Rattle.page.specs.PageRange.{busInRange}
 use Rattle.signal.specs.declared.WireAnswer.{WireAnswer}
 use Rattle.signal.specs.declared.WireAnswer.the-variants.{Nothing as WireNothing, Ack as WireAck, NoAck as WireNoAck, Byte as WireByte}
 use Rattle.wire.specs.Wire.{signalOf}
 use Rattle.reply.specs.Reply.{ReplyBody, nothing, body, answerOf}
+use Rattle.reply.specs.Outcome.{radioSide}
 use Rattle.radio.specs.Claims.{replySize}
 use Rattle.radio.specs.Radio.{radioOf}
 use Rattle.radio.proofs.Room.{replies-fit}
@@ -23,16 +24,15 @@ use Rattle.model.specs.declared.Answer.the-variants.{Reply}
 use Rattle.model.specs.declared.Signal.{Signal}
 use Rattle.model.specs.declared.Signal.the-variants.{Wire, Field, Frame}
 use Rattle.model.specs.Signals.{signalBy}
-use Rattle.model.specs.Step.{StepResult, FreshResult, fromWire, fromRadio, radioSide, wireSide, transferOpen, tagInRange, actOf, stepOf, freshOf}
+use Rattle.model.specs.Step.{StepResult, FreshResult, fromWire, fromRadio, transferOpen, tagInRange, actOf, stepOf, freshOf}
 use Rattle.capi.specs.Interface.{replyFits}
 use Rattle.capi.specs.Claims.{StepRepliesFit}
 
 mailbox-fits : (t : Tag) (m : List ℕ) → tagInRange t m ≡ true → mailboxInRange (t .core .mailbox) ≡ true
 unfolding tagInRange inRange wireInRange coreInRange
 mailbox-fits t m h =
-    let w : WireSide = record { host = t .host; core = t .core } in
     let whole = and-left (inRange t) (busInRange (t .host .bus) (t .host .counter) (t .core) (t .host .session) m) h in
-    let wire = and-right (airInRange (t .air)) (wireInRange w) whole in
+    let wire = and-right (airInRange (t .air)) (wireInRange (wireSide t)) whole in
     let supplied = suppliedInRange (t .host) (t .core .mailbox .enabled) in
     let core = and-left (coreInRange (t .core)) (hostInRange (t .host)) (and-left (coreInRange (t .core) && hostInRange (t .host)) supplied wire) in
     and-right (registersInRange (t .core .registers)) (mailboxInRange (t .core .mailbox)) core

@@ -9,18 +9,20 @@ use Rattle.parts.proofs.Picks.{pick-case}
 use Rattle.tag.specs.declared.Tag.{Tag}
 use Rattle.tag.specs.declared.Uid.{Uid}
 use Rattle.tag.specs.Keys.{uidAt}
+use Rattle.tag.specs.Parts.{wireSide}
 use Rattle.state.specs.Layout.{tagOf}
 use Rattle.signal.specs.declared.WireAnswer.{WireAnswer}
 use Rattle.signal.specs.declared.WireAnswer.the-variants.{Nothing as WireNothing, Ack as WireAck, NoAck as WireNoAck, Byte as WireByte}
 use Rattle.wire.specs.Wire.{signalOf}
 use Rattle.reply.specs.Reply.{ReplyBody, nothing, body, answerOf}
+use Rattle.reply.specs.Outcome.{radioSide}
 use Rattle.radio.specs.Radio.{radioOf}
 use Rattle.model.specs.declared.Answer.{Answer}
 use Rattle.model.specs.declared.Answer.the-variants.{Refused, Nothing, Ack, NoAck, Byte, Silence, Reply}
 use Rattle.model.specs.declared.Signal.{Signal}
 use Rattle.model.specs.declared.Signal.the-variants.{Wire, Field, Frame}
 use Rattle.model.specs.Signals.{signalBy}
-use Rattle.model.specs.Step.{StepResult, FreshResult, fromWire, fromRadio, radioSide, wireSide, transferOpen, actOf, stepOf, freshOf, isRefused}
+use Rattle.model.specs.Step.{StepResult, FreshResult, fromWire, fromRadio, transferOpen, actOf, stepOf, freshOf, isRefused}
 use Rattle.capi.specs.Interface.{answerNumber, stateAfter, CallResult, callResult, stepCall, FreshCallResult, freshCallResult, freshCall}
 use Rattle.capi.specs.Claims.{RefusedStepKeeps, RefusedFreshKeeps}
 

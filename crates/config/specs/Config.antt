@@ -10,7 +10,7 @@ use Rattle.areas.specs.Ends.{endAllows}
 use Rattle.tag.specs.declared.Mailbox.{Mailbox}
 use Rattle.tag.specs.declared.Core.{Core}
 use Rattle.tag.specs.Mailbox.{controlByte, disabled, controlled}
-use Rattle.tag.specs.Supply.{withRegisters, withMailbox}
+use Rattle.tag.specs.Parts.{withRegisters, withMailbox}
 use Rattle.errors.specs.declared.RadioError.the-variants.{NoSuchRegister, ConfigurationClosed, EndRefused, NoSuchDynamicRegister}
 use Rattle.reply.specs.declared.RadioSide.{RadioSide}
 use Rattle.reply.specs.Reply.{good}

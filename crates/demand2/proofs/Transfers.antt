@@ -14,6 +14,7 @@ use Rattle.tag.specs.declared.Bus.the-variants.{Started}
 use Rattle.tag.specs.declared.WireSide.{WireSide}
 use Rattle.tag.specs.declared.Tag.{Tag}
 use Rattle.tag.specs.Layout.{memoryBytes, replyBytes}
+use Rattle.tag.specs.Parts.{wireSide, withWire}
 use Rattle.ranges.specs.Ranges.{airInRange, wireInRange, inRange}
 use Rattle.page.specs.PageRange.{busInRange}
 use Rattle.signal.specs.declared.WireSignal.{WireSignal}
@@ -28,7 +29,7 @@ use Rattle.transfer.proofs.Transfer.{transfer-by-signals}
 use Rattle.model.specs.declared.Signal.{Signal}
 use Rattle.model.specs.declared.Signal.the-variants.{Wire}
 use Rattle.model.specs.Signals.{topValue, signalInRange, signalBy}
-use Rattle.model.specs.Step.{wireSide, withWire, tagInRange, actOf, stepOf}
+use Rattle.model.specs.Step.{tagInRange, actOf, stepOf}
 use Rattle.model.specs.Claims.{Fit}
 use Rattle.calls.specs.Calls.{Call, Device, device, DeviceResult, deviceResultOf, RunResult, runResult, entry, runBy}
 use Rattle.demand2.specs.Demand2.{WireCall, callBy, wireCalls, signals, sendsByte, allServed, answersOf, TransferServed}

@@ -10,11 +10,13 @@ use Rattle.tag.specs.declared.Tag.{Tag}
 use Rattle.tag.specs.Layout.{memoryBytes, replyBytes}
 use Rattle.signal.specs.declared.WireAnswer.{WireAnswer}
 use Rattle.parts.specs.Pick.{pick}
+use Rattle.tag.specs.Parts.{wireSide, withWire}
 use Rattle.transfer.specs.Legs.{Noted, NotedStart, NotedSend, NotedFetch, NotedStop, NotedVccOff, finished}
 use Rattle.transfer.specs.Whole.{transferOf}
 use Rattle.reply.specs.Reply.{bufferOf, answerOf}
 use Rattle.radio.specs.Radio.{radioOf}
-use Rattle.model.specs.Step.{stepResult, fromWire, fromRadio, wireSide, withWire, radioSide, withRadio, transferOpen, tagInRange, stepOf}
+use Rattle.model.specs.Step.{stepResult, fromWire, fromRadio, transferOpen, tagInRange, stepOf}
+use Rattle.reply.specs.Outcome.{radioSide, withRadio}
 use Rattle.model.specs.Claims.{Fit}
 use Rattle.calls.specs.Calls.{Call, CallAnswer, callAnswer, Device, device, runResult, entry, runBy}
 

@@ -11,7 +11,8 @@ use Rattle.model.specs.declared.Answer.{Answer}
 use Rattle.model.specs.declared.Signal.{Signal}
 use Rattle.model.specs.declared.Signal.the-variants.{Wire, Field, Frame}
 use Rattle.model.specs.Signals.{signalBy}
-use Rattle.model.specs.Step.{fromWire, fromRadio, wireSide, transferOpen, actOf, isRefused}
+use Rattle.model.specs.Step.{fromWire, fromRadio, transferOpen, actOf, isRefused}
+use Rattle.tag.specs.Parts.{wireSide}
 use Rattle.calls.specs.Calls.{Call, Device, DeviceResult, deviceResult, entry, callReply}
 use Rattle.demand3.specs.Demand3.{refusedByState, isFrame, struck, shutReply}
 use Rattle.calls.proofs.Laws.{Fits, actedBy, call-case, supplied}

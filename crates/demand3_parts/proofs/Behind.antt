@@ -15,10 +15,11 @@ use Rattle.tag.specs.declared.Bus.{Bus}
 use Rattle.tag.specs.declared.Bus.the-variants.{Idle, Started, ReadLeg, WriteLeg, LowAddress, DataLeg}
 use Rattle.tag.specs.declared.Tag.{Tag}
 use Rattle.tag.specs.Bus.{isOpen, pageBytes}
+use Rattle.tag.specs.Parts.{wireSide}
 use Rattle.ranges.specs.Ranges.{airInRange, coreInRange, hostInRange, suppliedInRange, wireInRange, inRange}
 use Rattle.page.specs.PageRange.{busInRange}
 use Rattle.model.specs.Signals.{signalBy}
-use Rattle.model.specs.Step.{wireSide, transferOpen, tagInRange, isRefused}
+use Rattle.model.specs.Step.{transferOpen, tagInRange, isRefused}
 use Rattle.calls.specs.Calls.{Call, CallAnswer, Device, DeviceResult, entry, runBy, framesFit, callReply}
 use Rattle.calls.specs.Examples.{_but_, radioSession, onBus, fieldIs}
 use Rattle.waiting.specs.Waiting.{noTransfer}

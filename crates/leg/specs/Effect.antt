@@ -10,14 +10,11 @@ use Rattle.registers.specs.Defined.{rfMngt}
 use Rattle.registers.specs.Map.{withDynamic}
 use Rattle.tag.specs.declared.Space.{Space}
 use Rattle.tag.specs.declared.Space.the-variants.{User, System}
-use Rattle.tag.specs.declared.Host.{Host}
-use Rattle.tag.specs.declared.Password.{Password}
-use Rattle.tag.specs.declared.Core.{Core}
 use Rattle.tag.specs.declared.WireSide.{WireSide}
 use Rattle.tag.specs.Layout.{userBytes, mailboxPlace}
 use Rattle.tag.specs.Mailbox.{controlled, hostPut, hostRead}
 use Rattle.tag.specs.Keys.{passwordAt, samePassword, withI2cPassword}
-use Rattle.tag.specs.Supply.{withRegisters, withMailbox, withPasswords}
+use Rattle.tag.specs.Parts.{withI2cSession, withProgramming, withRegisters, withMailbox, withPasswords, withHost, withWireCore}
 use Rattle.rule.specs.Rule.{writtenAll}
 
 -- the wire side and the memory
@@ -28,18 +25,12 @@ pub record LegResult : Type 0 where
 abbrev pub legResult : WireSide → List ℕ → LegResult
 legResult w m = record { side = w; memory = m }
 
-abbrev pub withWireCore : Core → WireSide → WireSide
-withWireCore c w = record { host = w .host; core = c }
-
-abbrev pub withHost : Host → WireSide → WireSide
-withHost h w = record { host = h; core = w .core }
-
-abbrev pub withI2cSession : Bool → WireSide → WireSide
-withI2cSession b w = withHost (record { vcc = w .host .vcc; session = b; programming = w .host .programming; counter = w .host .counter; bus = w .host .bus }) w
+abbrev pub sideSession : Bool → WireSide → WireSide
+sideSession x w = withHost (withI2cSession x (w .host)) w
 
 -- "starts programming"
 abbrev pub programming : WireSide → WireSide
-programming w = withHost (record { vcc = w .host .vcc; session = w .host .session; programming = true; counter = w .host .counter; bus = w .host .bus }) w
+programming w = withHost (withProgramming true (w .host)) w
 
 -- user space: memory; RF_MNGT_Dyn; MB_CTRL_Dyn, "using bit 0 only"; the mailbox, a put by the host
 unfoldable pub userWritten : WireSide → List ℕ → ℕ → List ℕ → LegResult
@@ -57,7 +48,7 @@ passwordWritten w m bs =
     let first = passwordAt bs 0 in
     let second = passwordAt bs 9 in
     pick (ltb (length bs) 17) (legResult w m)
-    (pick (eqb (getD bs 8 0) 0x09) (legResult (withI2cSession (samePassword (w .core .passwords .i2c) first && samePassword (w .core .passwords .i2c) second) w) m)
+    (pick (eqb (getD bs 8 0) 0x09) (legResult (sideSession (samePassword (w .core .passwords .i2c) first && samePassword (w .core .passwords .i2c) second) w) m)
     (pick (samePassword first second) (legResult (programming (withWireCore (withPasswords (withI2cPassword first (w .core .passwords)) (w .core)) w)) m)
     (legResult w m)))
 

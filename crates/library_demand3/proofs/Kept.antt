@@ -13,10 +13,11 @@ use Rattle.parts.proofs.Below.{Below, bytes-below, are-below}
 use Rattle.parts.proofs.Picks.{pick-case}
 use Rattle.tag.specs.declared.Tag.{Tag}
 use Rattle.tag.specs.Layout.{memoryBytes, replyBytes}
+use Rattle.tag.specs.Parts.{wireSide}
 use Rattle.model.specs.declared.Signal.{Signal}
 use Rattle.model.specs.declared.Signal.the-variants.{Wire, Field, Frame}
 use Rattle.model.specs.Signals.{signalInRange, signalBy}
-use Rattle.model.specs.Step.{StepResult, wireSide, radioSide, transferOpen, tagInRange, actOf, stepOf}
+use Rattle.model.specs.Step.{StepResult, transferOpen, tagInRange, actOf, stepOf}
 use Rattle.model.specs.Claims.{Fit}
 use Rattle.model.proofs.Kept.{keeps}
 use Rattle.model.proofs.Value.{sent-fits}
@@ -24,6 +25,7 @@ use Rattle.state.specs.Claims.{Fits}
 use Rattle.wire_claims.specs.Claims.{sentByte}
 use Rattle.wire_claims.proofs.Line.{keeps-counter}
 use Rattle.wire_claims.proofs.Bytes.{keeps-bytes}
+use Rattle.reply.specs.Outcome.{radioSide}
 use Rattle.library_demand3.specs.Kept.{KeepsFits}
 use Rattle.library_demand3.proofs.WireKept.{highByteOf, wire-sound}
 use Rattle.library_demand3.proofs.RadioKept.{radio-sound}

@@ -19,19 +19,20 @@ use Rattle.tag.specs.declared.Tag.{Tag}
 use Rattle.tag.specs.Bus.{isOpen, isActive}
 use Rattle.tag.specs.Radio.{fieldAt}
 use Rattle.tag.specs.Supply.{freshTag}
+use Rattle.tag.specs.Parts.{wireSide, withTagAir}
 use Rattle.ranges.specs.Ranges.{airInRange, coreInRange, hostInRange, suppliedInRange, wireInRange, inRange}
 use Rattle.ranges.proofs.Fresh.{fresh-in-range}
 use Rattle.page.specs.PageRange.{busInRange}
 use Rattle.signal.specs.declared.WireSignal.{WireSignal}
 use Rattle.wire_claims.proofs.Kept.{keeps as wire-keeps}
-use Rattle.reply.specs.Outcome.{CommandResult}
+use Rattle.reply.specs.Outcome.{CommandResult, radioSide, withRadio}
 use Rattle.radio.specs.Radio.{radioOf}
 use Rattle.radio.proofs.Kept.{keeps as radio-keeps}
 use Rattle.radio.proofs.ShutOut.{shut-out}
 use Rattle.model.specs.declared.Signal.{Signal}
 use Rattle.model.specs.declared.Signal.the-variants.{Wire, Field, Frame}
 use Rattle.model.specs.Signals.{signalBy}
-use Rattle.model.specs.Step.{StepResult, wireSide, radioSide, withRadio, withTagAir, transferOpen, tagInRange, actOf, stepOf}
+use Rattle.model.specs.Step.{StepResult, transferOpen, tagInRange, actOf, stepOf}
 use Rattle.model.specs.Claims.{Fit, StepKeepsFit, FreshFits}
 
 -- ---- the test of supply: v is VCC, e MB_EN, s session, p programming, a bus activity

@@ -5,11 +5,10 @@ use Prim.Native.Nat.{ℕ}
 use lib.Dec.{ltb, eqb}
 use lib.ListN.{length, replicate}
 use Rattle.parts.specs.Pick.{pick}
-use Rattle.tag.specs.declared.Air.{Air}
-use Rattle.tag.specs.declared.WireSide.{WireSide}
 use Rattle.tag.specs.declared.Uid.{Uid}
 use Rattle.tag.specs.declared.Tag.{Tag}
 use Rattle.tag.specs.Layout.{memoryBytes, replyBytes}
+use Rattle.tag.specs.Parts.{withTagAir, wireSide, withWire}
 use Rattle.tag.specs.Bus.{isOpen}
 use Rattle.tag.specs.Radio.{fieldAt}
 use Rattle.tag.specs.Supply.{freshTag}
@@ -18,11 +17,11 @@ use Rattle.page.specs.PageRange.{busInRange}
 use Rattle.signal.specs.declared.WireAnswer.{WireAnswer}
 use Rattle.signal.specs.declared.WireAnswer.the-variants.{Nothing as WireNothing, Ack as WireAck, NoAck as WireNoAck, Byte as WireByte}
 use Rattle.wire.specs.Wire.{signalOf}
-use Rattle.reply.specs.declared.RadioSide.{RadioSide}
 use Rattle.reply.specs.Reply.{ReplyBody, nothing, body, bufferOf}
 use Rattle.reply.specs.declared.RadioAnswer.{RadioAnswer}
 use Rattle.reply.specs.declared.RadioAnswer.the-variants.{Silence as RadioSilence, Reply as RadioReply}
 use Rattle.reply.specs.Reply.{answerOf}
+use Rattle.reply.specs.Outcome.{radioSide, withRadio}
 use Rattle.radio.specs.Radio.{radioOf}
 use Rattle.model.specs.declared.Refusal.{Refusal}
 use Rattle.model.specs.declared.Refusal.the-variants.{MemoryLength, ReplyShort, SignalUnknown, OutOfRange}
@@ -84,22 +83,6 @@ fromWire (WireByte x) = Byte x
 unfoldable pub fromRadio : RadioAnswer → Answer
 fromRadio RadioSilence = Silence
 fromRadio (RadioReply n) = Reply n
-
--- ---- the parts of the tag
-abbrev pub wireSide : Tag → WireSide
-wireSide t = record { host = t .host; core = t .core }
-
-abbrev pub withWire : WireSide → Tag → Tag
-withWire w t = record { air = t .air; host = w .host; core = w .core; uid = t .uid }
-
-abbrev pub radioSide : Tag → RadioSide
-radioSide t = record { air = t .air; core = t .core }
-
-abbrev pub withRadio : RadioSide → Tag → Tag
-withRadio r t = record { air = r .air; host = t .host; core = r .core; uid = t .uid }
-
-abbrev pub withTagAir : Air → Tag → Tag
-withTagAir a t = record { air = a; host = t .host; core = t .core; uid = t .uid }
 
 -- a transfer is open
 abbrev pub transferOpen : Tag → Bool

@@ -1,9 +1,11 @@
 -- The Acks of a page's bytes. Assumes nothing.
-use mathlib.Core.Path.{_≡_, ap, _∙_}
+use mathlib.Core.Path.{_≡_, sym, ap, _∙_}
 use mathlib.Core.Bool.{Bool, true, false, and-false, _&&_}
 use mathlib.Core.List.{List}
-use Prim.Native.Nat.{ℕ, zero, suc, _+_}
+use Prim.Native.Nat.{ℕ, zero, suc, _+_, _-_, _<_}
 use native.Mathlib.Nat.{add-zero, add-suc}
+use native.Mathlib.Numerals.{add-one}
+use native.Mathlib.Omega.{arith}
 use lib.ListN.{getD}
 use Rattle.parts.specs.Bytes.{bytesAt}
 use Rattle.parts.proofs.Bools.{and-left, and-right}
@@ -41,3 +43,13 @@ module _ (s : Space) (c : Core) (session : Bool) (f : ℕ) (m : List ℕ) where
   pub none-more : (k : ℕ) → acked s c session f k (bytesAt m 768 k) (getD m (768 + k) 0) ≡ false → pageAcked s c session f m (suc k) ≡ false
   unfolding pageAcked
   none-more k e = rw e (and-false (pageAcked s c session f m k))
+
+  -- the same at a loop's next place, and at its end
+  pub next-acked : (i : ℕ) → pageAcked s c session f m i ≡ true → acked s c session f i (page i m) (getD m (768 + i) 0) ≡ true
+      → pageAcked s c session f m (i + 1) ≡ true
+  next-acked i h e = ap (pageAcked s c session f m) (add-one i) ∙ one-more i h e
+
+  pub refused-at : (i k : ℕ) → i < k → acked s c session f i (page i m) (getD m (768 + i) 0) ≡ false → false ≡ pageAcked s c session f m k
+  refused-at i k l e =
+      let n : suc i + (k - suc i) ≡ k = omega arith in
+      sym (ap (pageAcked s c session f m) (sym n) ∙ stays (suc i) (k - suc i) (none-more i e))

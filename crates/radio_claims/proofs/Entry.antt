@@ -15,7 +15,7 @@ use Rattle.crc.specs.Crc.{crcBytes, closedAt}
 use Rattle.tag.specs.declared.Tag.{Tag}
 use Rattle.reply.specs.declared.RadioSide.{RadioSide}
 use Rattle.reply.specs.Reply.{ReplyBody, body, answerOf, bufferOf}
-use Rattle.reply.specs.Outcome.{CommandResult}
+use Rattle.reply.specs.Outcome.{CommandResult, radioSide, withRadio}
 use Rattle.radio.specs.Radio.{radioOf}
 use Rattle.model.specs.declared.Refusal.{Refusal}
 use Rattle.model.specs.declared.Refusal.the-variants.{MemoryLength, ReplyShort, SignalUnknown, OutOfRange}
@@ -24,7 +24,7 @@ use Rattle.model.specs.declared.Answer.the-variants.{Refused, Nothing, Ack, NoA
 use Rattle.model.specs.declared.Signal.{Signal}
 use Rattle.model.specs.declared.Signal.the-variants.{Frame}
 use Rattle.model.specs.Signals.{signalBy}
-use Rattle.model.specs.Step.{StepResult, fromRadio, radioSide, withRadio, transferOpen, actOf, stepOf}
+use Rattle.model.specs.Step.{StepResult, fromRadio, transferOpen, actOf, stepOf}
 use Rattle.radio_claims.specs.Claims.{errorLeaves, ErrorCallsLeave}
 use Rattle.radio_claims.proofs.Errors.{Shape, silent, served, failed, frame-leaves}
 

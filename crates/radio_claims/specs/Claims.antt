@@ -9,20 +9,20 @@ use lib.ListN.{length, getD}
 use Rattle.parts.specs.Pick.{pick}
 use Rattle.tag.specs.declared.Uid.{Uid}
 use Rattle.tag.specs.declared.Tag.{Tag}
-use Rattle.tag.specs.Radio.{withRadioSession}
 use Rattle.tag.specs.Keys.{passwordAt, samePassword, radioPassword}
+use Rattle.tag.specs.Parts.{withRadioSession}
 use Rattle.errors.specs.declared.RadioError.{RadioError}
 use Rattle.errors.specs.declared.RadioError.the-variants.{WriteForbidden}
 use Rattle.reply.specs.declared.RadioSide.{RadioSide}
 use Rattle.reply.specs.Reply.{ReplyBody, body, good, fault}
-use Rattle.reply.specs.Outcome.{commandResult, fails, withAir}
+use Rattle.reply.specs.Outcome.{commandResult, fails, withAir, radioSide, withRadio}
 use Rattle.frame.specs.declared.Verdict.{Verdict}
 use Rattle.frame.specs.declared.Verdict.the-variants.{Silence, Error, Request}
 use Rattle.frame.specs.Fields.{command, optionFlag, paramPlace, param}
 use Rattle.frame.specs.Judge.{judge}
 use Rattle.radio.specs.Radio.{radioOf}
 use Rattle.model.specs.declared.Answer.the-variants.{Reply}
-use Rattle.model.specs.Step.{radioSide, withRadio, transferOpen, stepOf}
+use Rattle.model.specs.Step.{transferOpen, stepOf}
 
 -- ---- "01h and the code (nothing changed but by B3)"
 -- without B3: a reply that begins with 01h has the code of an error rule, and tag and memory stay

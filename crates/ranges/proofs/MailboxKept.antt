@@ -9,6 +9,7 @@ use Rattle.parts.proofs.Bools.{and-left, and-right, or-first, or-second}
 use Rattle.parts.proofs.Picks.{pick-case}
 use Rattle.registers.specs.declared.MbMode.{MbMode}
 use Rattle.tag.specs.declared.Mailbox.{Mailbox}
+use Rattle.tag.specs.Parts.{withEnabled}
 use Rattle.tag.specs.Mailbox.{emptyMailbox, disabled, enabled, controlled, hostPut, radioPut, hostRead, radioRead}
 use Rattle.ranges.specs.Ranges.{mailboxInRange}
 
@@ -66,7 +67,7 @@ enabled-kept mode vcc m h =
     pick-case (λ (b : Mailbox). mailboxInRange b ≡ true) (isSet 1 (mode .bits) && vcc) _ m
     (λ t.
     let f = fits m h in
-    in-range (record { enabled = true; host = m .host; rf = m .rf; length = m .length })
+    in-range (withEnabled true m)
     (record { size = f .size; one = f .one; host = f .host; radio = f .radio; exact = f .exact; on = or-second (eqb (m .length) 0) true refl }))
     (λ t. h)
 

@@ -1,6 +1,5 @@
 -- 01's sentence "Ranges", but for the page bytes that "would be Acked there". What the types hold is listed in docs/DECISIONS.md.
-use mathlib.Core.Bool.{Bool, true, false, not, _&&_, _||_}
-use Prim.Native.Nat.{ℕ}
+use mathlib.Core.Bool.{Bool, not, _&&_, _||_}
 use lib.Dec.{leb, ltb, eqb}
 use Rattle.registers.specs.declared.Registers.{Registers}
 use Rattle.registers.specs.Defined.{definedOnly}
@@ -12,6 +11,7 @@ use Rattle.tag.specs.declared.Mailbox.{Mailbox}
 use Rattle.tag.specs.declared.Core.{Core}
 use Rattle.tag.specs.declared.WireSide.{WireSide}
 use Rattle.tag.specs.declared.Tag.{Tag}
+use Rattle.tag.specs.Parts.{wireSide}
 use Rattle.tag.specs.Bus.{isOpen, isActive, pageBytes}
 
 -- "ends as under Areas"; "undefined register bits 0"
@@ -55,4 +55,4 @@ wireInRange w = coreInRange (w .core) && hostInRange (w .host) && suppliedInRang
 
 -- of the whole tag
 unfoldable pub inRange : Tag → Bool
-inRange t = airInRange (t .air) && wireInRange (record { host = t .host; core = t .core })
+inRange t = airInRange (t .air) && wireInRange (wireSide t)

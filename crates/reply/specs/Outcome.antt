@@ -6,12 +6,13 @@ use Rattle.tag.specs.declared.Air.{Air}
 use Rattle.tag.specs.declared.Mailbox.{Mailbox}
 use Rattle.tag.specs.declared.Passwords.{Passwords}
 use Rattle.tag.specs.declared.Core.{Core}
-use Rattle.tag.specs.Supply.{withRegisters, withMailbox, withPasswords}
+use Rattle.tag.specs.declared.Tag.{Tag}
+use Rattle.tag.specs.Parts.{withRegisters, withMailbox, withPasswords, withTagAir, withTagCore}
 use Rattle.errors.specs.declared.RadioError.{RadioError}
 use Rattle.reply.specs.declared.RadioAnswer.{RadioAnswer}
 use Rattle.reply.specs.declared.RadioSide.{RadioSide}
 use Rattle.reply.specs.declared.RadioOutcome.{RadioOutcome}
-use Rattle.reply.specs.Reply.{ReplyBody, good, fault, answerOf, bufferOf}
+use Rattle.reply.specs.Reply.{ReplyBody, fault, answerOf, bufferOf}
 
 -- what a command says and leaves
 pub record CommandResult : Type 0 where
@@ -55,3 +56,10 @@ sideMailbox m s = withRadioCore (withMailbox m (s .core)) s
 
 abbrev pub sidePasswords : Passwords → RadioSide → RadioSide
 sidePasswords p s = withRadioCore (withPasswords p (s .core)) s
+
+-- ---- what a request may change of the tag
+abbrev pub radioSide : Tag → RadioSide
+radioSide t = record { air = t .air; core = t .core }
+
+abbrev pub withRadio : RadioSide → Tag → Tag
+withRadio v t = withTagAir (v .air) (withTagCore (v .core) t)

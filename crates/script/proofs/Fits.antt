@@ -11,7 +11,6 @@ use lib.Seq.{take-all}
 use Rattle.parts.proofs.Bools.{and-left, and-right}
 use Rattle.parts.proofs.Picks.{pick-case, pick-true}
 use Rattle.tag.specs.declared.Tag.{Tag}
-use Rattle.tag.specs.declared.WireSide.{WireSide}
 use Rattle.ranges.specs.Ranges.{registersInRange, airInRange, mailboxInRange, suppliedInRange, hostInRange, coreInRange, wireInRange, inRange}
 use Rattle.signal.specs.declared.WireAnswer.{WireAnswer}
 use Rattle.signal.specs.declared.WireAnswer.the-variants.{Nothing as WireNothing, Ack as WireAck, NoAck as WireNoAck, Byte as WireByte}
@@ -24,13 +23,15 @@ use Rattle.model.specs.declared.Answer.the-variants.{Refused, Nothing, Ack, NoA
 use Rattle.model.specs.declared.Signal.{Signal}
 use Rattle.model.specs.declared.Signal.the-variants.{Wire, Field, Frame}
 use Rattle.model.specs.Signals.{signalBy}
-use Rattle.model.specs.Step.{StepResult, fromWire, fromRadio, radioSide, wireSide, transferOpen, tagInRange, actOf, stepOf}
+use Rattle.model.specs.Step.{StepResult, fromWire, fromRadio, transferOpen, tagInRange, actOf, stepOf}
 use Rattle.text.specs.Hex.{hexText}
 use Rattle.text.specs.Decimal.{decimal}
 use Rattle.text.proofs.HexLaws.{length-hex-text}
 use Rattle.text.proofs.DecimalLaws.{digits-most}
+use Rattle.tag.specs.Parts.{wireSide}
 use Rattle.page.specs.PageRange.{busInRange}
 use Rattle.wire.specs.Wire.{signalOf}
+use Rattle.reply.specs.Outcome.{radioSide}
 use Rattle.script.specs.declared.Bench.{Bench}
 use Rattle.script.specs.Line.{ScriptLine, badLine, signalLine, frameLine, longest, lineOf}
 use Rattle.script.specs.Text.{badText, answerText, lineText}
@@ -52,9 +53,8 @@ replied (Reply n) = n
 mailbox-fits : (t : Tag) (m : List ℕ) → tagInRange t m ≡ true → mailboxInRange (t .core .mailbox) ≡ true
 unfolding tagInRange inRange wireInRange coreInRange
 mailbox-fits t m h =
-    let w : WireSide = record { host = t .host; core = t .core } in
     let whole = and-left (inRange t) (busInRange (t .host .bus) (t .host .counter) (t .core) (t .host .session) m) h in
-    let wire = and-right (airInRange (t .air)) (wireInRange w) whole in
+    let wire = and-right (airInRange (t .air)) (wireInRange (wireSide t)) whole in
     let supplied = suppliedInRange (t .host) (t .core .mailbox .enabled) in
     let core = and-left (coreInRange (t .core)) (hostInRange (t .host)) (and-left (coreInRange (t .core) && hostInRange (t .host)) supplied wire) in
     and-right (registersInRange (t .core .registers)) (mailboxInRange (t .core .mailbox)) core

@@ -28,13 +28,15 @@ use Rattle.model.specs.declared.Answer.the-variants.{Refused, Nothing, Ack, NoA
 use Rattle.model.specs.declared.Signal.{Signal}
 use Rattle.model.specs.declared.Signal.the-variants.{Wire, Field, Frame}
 use Rattle.model.specs.Signals.{topValue, signalInRange, signalBy}
-use Rattle.model.specs.Step.{StepResult, FreshResult, freshResult, fromWire, fromRadio, radioSide, wireSide, transferOpen, tagInRange, actOf, stepOf, freshOf}
+use Rattle.model.specs.Step.{StepResult, FreshResult, freshResult, fromWire, fromRadio, transferOpen, tagInRange, actOf, stepOf, freshOf}
 use Rattle.model.specs.Claims.{Fit}
 use Rattle.model.proofs.Kept.{keeps, fresh-fits}
 use Rattle.text.specs.Hex.{hexValue, allHex, hexByte, hexBytes, hexText}
 use Rattle.text.specs.Decimal.{decimal}
 use Rattle.text.proofs.HexLaws.{value-small, length-hex-text}
+use Rattle.tag.specs.Parts.{wireSide}
 use Rattle.wire.specs.Wire.{signalOf}
+use Rattle.reply.specs.Outcome.{radioSide}
 use Rattle.script.specs.declared.Bench.{Bench}
 use Rattle.script.specs.Line.{ScriptLine, badLine, signalLine, frameLine, longest, alone, level, byteSent, frameSent, tabbed, lineOf}
 use Rattle.script.specs.Text.{badText, answerText, lineText}

@@ -8,9 +8,10 @@ use Rattle.tag.specs.declared.Bus.{Bus}
 use Rattle.tag.specs.declared.Bus.the-variants.{Idle, Started, ReadLeg, WriteLeg, LowAddress, DataLeg}
 use Rattle.tag.specs.declared.WireSide.{WireSide}
 use Rattle.tag.specs.Layout.{page}
+use Rattle.tag.specs.Parts.{withCounter, withBus, withHost}
 use Rattle.tag.specs.Bus.{isOpen}
 use Rattle.rule.specs.Select.{firstOf}
-use Rattle.leg.specs.Effect.{withHost, stopped, started, Due, nothingDue, clears, writes, settle}
+use Rattle.leg.specs.Effect.{stopped, started, Due, nothingDue, clears, writes, settle}
 use Rattle.signal.specs.declared.WireAnswer.{WireAnswer}
 use Rattle.signal.specs.declared.WireAnswer.the-variants.{Nothing}
 
@@ -24,11 +25,11 @@ abbrev pub wireResult : WireAnswer → WireSide → List ℕ → WireResult
 wireResult a w m = record { answer = a; side = w; memory = m }
 
 abbrev pub sideBus : Bus → WireSide → WireSide
-sideBus b w = withHost (record { vcc = w .host .vcc; session = w .host .session; programming = w .host .programming; counter = w .host .counter; bus = b }) w
+sideBus b w = withHost (withBus b (w .host)) w
 
 -- the counter and the bus
 abbrev pub sideLine : ℕ → Bus → WireSide → WireSide
-sideLine c b w = withHost (record { vcc = w .host .vcc; session = w .host .session; programming = w .host .programming; counter = c; bus = b }) w
+sideLine c b w = withHost (withBus b (withCounter c (w .host))) w
 
 -- what the bus has due at the leg's end, with the counter and the memory.
 -- "The first NoAck from the tag spoils the leg: .. it writes nothing." "A leg with no data writes nothing"

@@ -1,7 +1,8 @@
 // A bus signal and its answer, and the end of a leg: a Start and a Stop.
 ghost use mathlib.Core.Path.{_≡_};
 ghost use Rattle.parts.specs.Pick.{pick};
-ghost use Rattle.tag.specs.declared.Bus.the-variants.{DataLeg};
+ghost use Rattle.tag.specs.declared.Bus.the-variants.{Started, DataLeg};
+ghost use Rattle.tag.specs.Bus.{isOpen};
 ghost use Rattle.leg.specs.Effect.{legResult, stopped, lastFetched, settle};
 ghost use Rattle.signal.specs.declared.WireAnswer.the-variants.{Nothing};
 ghost use Rattle.signal.specs.Signal.{wireResult, sideBus, sideLine, dueOf, startAt, startOf, stopAt};
@@ -63,11 +64,18 @@ fn end_read(w: WireSide, last: bool) -> WireSide
     w
 }
 
+// The bus after a Start.
+fn started(w: WireSide, b: Bus) -> WireSide
+    ensures { λ r. ⌜ r ≡ sideBus (Started (isOpen b)) w ⌝ }
+{
+    with_bus(w, Bus::Started(tag::is_open(b)))
+}
+
 // A Start on a powered bus: the leg ends, its writes dropped.
 fn start_at(b: Bus, w: WireSide, m: &[u8]) -> WireSide
     ensures { λ r. ⌜ wireResult Nothing r (now (m .entry)) ≡ startAt b w (now (m .entry)) ⌝ }
 {
-    let next = with_bus(w, Bus::Started(tag::is_open(b)));
+    let next = started(w, b);
     match b {
         Bus::Idle => next,
         Bus::Started(transfer) => next,

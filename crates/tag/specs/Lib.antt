@@ -1,4 +1,5 @@
 pub mod Layout
+pub mod Parts
 pub mod Radio
 pub mod Mailbox
 pub mod Keys

@@ -1,12 +1,13 @@
 -- The mailbox but for its bytes: MB_CTRL_Dyn and the message's length.
 -- "MB_CTRL_Dyn: b0 MB_EN, b1 HOST_PUT, b2 RF_PUT, b6 HOST_CURRENT, b7 RF_CURRENT."
 use mathlib.Core.Bool.{Bool, true, false, _&&_}
-use Prim.Native.Nat.{ℕ, _+_, _*_, _-_, _%_}
+use Prim.Native.Nat.{ℕ, _+_, _-_, _%_}
 use Rattle.parts.specs.Pick.{pick}
 use Rattle.parts.specs.Bits.{isSet}
 use Rattle.registers.specs.declared.MbMode.{MbMode}
 use Rattle.tag.specs.declared.Message.{Message}
 use Rattle.tag.specs.declared.Mailbox.{Mailbox}
+use Rattle.tag.specs.Parts.{withPut, withCurrent, withEnabled, withHostMessage, withRfMessage, withLength}
 
 abbrev pub weight : Bool → ℕ → ℕ
 weight b w = pick b w 0
@@ -37,7 +38,7 @@ disabled m = emptyMailbox
 -- "Setting b0 works only with MB_MODE 1 and VCC, otherwise it stays as it was"
 unfoldable pub enabled : MbMode → Bool → Mailbox → Mailbox
 enabled mode vcc m =
-    pick (isSet 1 (mode .bits) && vcc) (record { enabled = true; host = m .host; rf = m .rf; length = m .length })
+    pick (isSet 1 (mode .bits) && vcc) (withEnabled true m)
     m
 
 -- a write of MB_CTRL_Dyn, "using bit 0 only"
@@ -49,18 +50,18 @@ abbrev pub putMessage : Message
 putMessage = record { put = true; current = true }
 
 abbrev pub replaced : Message → Message
-replaced m = record { put = m .put; current = false }
+replaced m = withCurrent false m
 
 abbrev pub hostPut : ℕ → Mailbox → Mailbox
-hostPut n m = record { enabled = m .enabled; host = putMessage; rf = replaced (m .rf); length = n }
+hostPut n m = withLength n (withHostMessage putMessage (withRfMessage (replaced (m .rf)) m))
 
 abbrev pub radioPut : ℕ → Mailbox → Mailbox
-radioPut n m = record { enabled = m .enabled; host = replaced (m .host); rf = putMessage; length = n }
+radioPut n m = withLength n (withRfMessage putMessage (withHostMessage (replaced (m .host)) m))
 
 -- "Fetching the last byte of an RF message clears RF_PUT"
 abbrev pub hostRead : Mailbox → Mailbox
-hostRead m = record { enabled = m .enabled; host = m .host; rf = record { put = false; current = m .rf .current }; length = m .length }
+hostRead m = withRfMessage (withPut false (m .rf)) m
 
 -- "a till's reading of the last byte of a host message clears HOST_PUT"
 abbrev pub radioRead : Mailbox → Mailbox
-radioRead m = record { enabled = m .enabled; host = record { put = false; current = m .host .current }; rf = m .rf; length = m .length }
+radioRead m = withHostMessage (withPut false (m .host)) m

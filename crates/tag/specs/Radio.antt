@@ -1,10 +1,10 @@
 -- "The radio state is Ready, Quiet or Selected", and the field.
 use mathlib.Core.Bool.{Bool, true, false}
-use Prim.Native.Nat.{ℕ}
 use Rattle.parts.specs.Pick.{pick}
 use Rattle.tag.specs.declared.RadioState.{RadioState}
 use Rattle.tag.specs.declared.RadioState.the-variants.{Ready, Quiet, Selected}
 use Rattle.tag.specs.declared.Air.{Air}
+use Rattle.tag.specs.Parts.{withField, withState}
 
 unfoldable pub isQuiet : RadioState → Bool
 isQuiet Ready = false
@@ -15,13 +15,6 @@ unfoldable pub isSelected : RadioState → Bool
 isSelected Ready = false
 isSelected Quiet = false
 isSelected Selected = true
-
-abbrev pub withState : RadioState → Air → Air
-withState x a = record { field = a .field; radio = x; session = a .session }
-
--- the open radio session: 0 none, 1 to 4 for passwords 0 to 3
-abbrev pub withRadioSession : ℕ → Air → Air
-withRadioSession n a = record { field = a .field; radio = a .radio; session = n }
 
 -- "own UID Selected"
 abbrev pub selected : Air → Air
@@ -47,7 +40,7 @@ abbrev pub fieldOff : Air → Air
 fieldOff a = outOfField
 
 abbrev pub fieldOn : Air → Air
-fieldOn a = record { field = true; radio = a .radio; session = a .session }
+fieldOn a = withField true a
 
 -- the field at a level; "a repeated .. field level .. change[s] nothing (house)"
 unfoldable pub fieldAt : Bool → Air → Air

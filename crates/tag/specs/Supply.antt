@@ -1,34 +1,18 @@
 -- Supply changes, and the fresh tag.
 use mathlib.Core.Bool.{Bool, true, false}
-use Prim.Native.Nat.{ℕ}
 use Rattle.parts.specs.Pick.{pick}
-use Rattle.registers.specs.declared.Registers.{Registers}
 use Rattle.registers.specs.Defined.{freshRegisters}
 use Rattle.registers.specs.Map.{withDynamic}
-use Rattle.tag.specs.declared.Bus.{Bus}
 use Rattle.tag.specs.declared.Bus.the-variants.{Idle}
 use Rattle.tag.specs.declared.Host.{Host}
-use Rattle.tag.specs.declared.Mailbox.{Mailbox}
-use Rattle.tag.specs.declared.Passwords.{Passwords}
 use Rattle.tag.specs.declared.Uid.{Uid}
 use Rattle.tag.specs.declared.Core.{Core}
 use Rattle.tag.specs.declared.WireSide.{WireSide}
 use Rattle.tag.specs.declared.Tag.{Tag}
+use Rattle.tag.specs.Parts.{withVcc, withRegisters, withMailbox, withHost, withWireCore}
 use Rattle.tag.specs.Radio.{outOfField}
 use Rattle.tag.specs.Mailbox.{emptyMailbox, disabled}
 use Rattle.tag.specs.Keys.{freshPasswords}
-
-abbrev pub withBus : Bus → Host → Host
-withBus b h = record { vcc = h .vcc; session = h .session; programming = h .programming; counter = h .counter; bus = b }
-
-abbrev pub withRegisters : Registers → Core → Core
-withRegisters r c = record { registers = r; mailbox = c .mailbox; passwords = c .passwords }
-
-abbrev pub withMailbox : Mailbox → Core → Core
-withMailbox m c = record { registers = c .registers; mailbox = m; passwords = c .passwords }
-
-abbrev pub withPasswords : Passwords → Core → Core
-withPasswords p c = record { registers = c .registers; mailbox = c .mailbox; passwords = p }
 
 -- "sets .. RF_MNGT_Dyn to RF_MNGT"
 abbrev pub reloaded : Core → Core
@@ -40,12 +24,11 @@ unpowered = record { vcc = false; session = false; programming = false; counter 
 
 -- "VCC off closes the I2C session, drops the transfer and programming, empties the mailbox, clears MB_EN, sets the counter to 0 and RF_MNGT_Dyn to RF_MNGT."
 abbrev pub vccOff : WireSide → WireSide
-vccOff w = record { host = unpowered; core = withMailbox (disabled (w .core .mailbox)) (reloaded (w .core)) }
+vccOff w = withHost unpowered (withWireCore (withMailbox (disabled (w .core .mailbox)) (reloaded (w .core))) w)
 
 -- "VCC on from off .. reloads RF_MNGT_Dyn."
 abbrev pub vccOn : WireSide → WireSide
-vccOn w =
-    record { host = record { vcc = true; session = w .host .session; programming = w .host .programming; counter = w .host .counter; bus = w .host .bus }; core = reloaded (w .core) }
+vccOn w = withHost (withVcc true (w .host)) (withWireCore (reloaded (w .core)) w)
 
 -- VCC at a level; "a repeated supply .. level .. change[s] nothing (house)"
 unfoldable pub vccAt : Bool → WireSide → WireSide

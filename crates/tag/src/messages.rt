@@ -88,36 +88,24 @@ impl Mailbox {
     pub fn host_put(self, n: u16) -> Mailbox
         ensures { λ r. ⌜ r ≡ hostPut n self ⌝ }
     {
-        Mailbox {
-            enabled: self.enabled,
-            host: Message {
-                put: true,
-                current: true,
-            },
-            rf: Message {
-                put: self.rf.put,
-                current: false,
-            },
-            length: n,
-        }
+        let mut m = self;
+        m.host.put = true;
+        m.host.current = true;
+        m.rf.current = false;
+        m.length = n;
+        m
     }
 
     // A message of n bytes from the radio.
     pub fn radio_put(self, n: u16) -> Mailbox
         ensures { λ r. ⌜ r ≡ radioPut n self ⌝ }
     {
-        Mailbox {
-            enabled: self.enabled,
-            host: Message {
-                put: self.host.put,
-                current: false,
-            },
-            rf: Message {
-                put: true,
-                current: true,
-            },
-            length: n,
-        }
+        let mut m = self;
+        m.rf.put = true;
+        m.rf.current = true;
+        m.host.current = false;
+        m.length = n;
+        m
     }
 
     // The host has read an RF message to its end.

@@ -1,6 +1,7 @@
 // The radio state and the field.
 ghost use mathlib.Core.Path.{_≡_};
-ghost use Rattle.tag.specs.Radio.{isQuiet, isSelected, withRadioSession, selected, deselected, quieted, reset, outOfField, fieldOff, fieldOn, fieldAt};
+ghost use Rattle.tag.specs.Radio.{isQuiet, isSelected, selected, deselected, quieted, reset, outOfField, fieldOff, fieldOn, fieldAt};
+ghost use Rattle.tag.specs.Parts.{withState, withRadioSession};
 use crate::Air;
 use crate::RadioState;
 
@@ -44,15 +45,21 @@ impl Air {
         a
     }
 
+    fn with_state(self, radio: RadioState) -> Air
+        ensures { λ r. ⌜ r ≡ withState radio self ⌝ }
+    {
+        Air {
+            field: self.field,
+            radio,
+            session: self.session,
+        }
+    }
+
     // Select with the own UID.
     pub fn select(self) -> Air
         ensures { λ r. ⌜ r ≡ selected self ⌝ }
     {
-        Air {
-            field: self.field,
-            radio: RadioState::Selected,
-            session: self.session,
-        }
+        self.with_state(RadioState::Selected)
     }
 
     // Select with another UID.
@@ -69,21 +76,13 @@ impl Air {
     pub fn stay_quiet(self) -> Air
         ensures { λ r. ⌜ r ≡ quieted self ⌝ }
     {
-        Air {
-            field: self.field,
-            radio: RadioState::Quiet,
-            session: self.session,
-        }
+        self.with_state(RadioState::Quiet)
     }
 
     pub fn reset(self) -> Air
         ensures { λ r. ⌜ r ≡ reset self ⌝ }
     {
-        Air {
-            field: self.field,
-            radio: RadioState::Ready,
-            session: self.session,
-        }
+        self.with_state(RadioState::Ready)
     }
 
     pub fn field_off(self) -> Air

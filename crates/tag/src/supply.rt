@@ -1,6 +1,7 @@
 // Supply changes, and the fresh tag.
 ghost use mathlib.Core.Path.{_≡_};
-ghost use Rattle.tag.specs.Supply.{withBus, unpowered, vccOff, vccOn, vccAt, freshTag};
+ghost use Rattle.tag.specs.Supply.{unpowered, vccOff, vccOn, vccAt, freshTag};
+ghost use Rattle.tag.specs.Parts.{withBus};
 use crate::Air;
 use crate::Bus;
 use crate::Core;
@@ -48,10 +49,10 @@ impl WireSide {
         let mut core = self.core;
         core.mailbox = mailbox;
         core.registers = registers;
-        WireSide {
-            host: Host::fresh(),
-            core,
-        }
+        let mut w = self;
+        w.host = Host::fresh();
+        w.core = core;
+        w
     }
 
     pub fn vcc_on(self) -> WireSide

@@ -12,13 +12,14 @@ use Rattle.tag.specs.declared.WireSide.{WireSide}
 use Rattle.tag.specs.declared.Uid.{Uid}
 use Rattle.tag.specs.Layout.{pagePlace}
 use Rattle.tag.specs.Bus.{nextAddress}
-use Rattle.tag.specs.Supply.{withBus, vccOff}
+use Rattle.tag.specs.Supply.{vccOff}
+use Rattle.tag.specs.Parts.{withCounter, withBus, withHost}
 use Rattle.rule.specs.declared.Choice.{Choice}
 use Rattle.rule.specs.declared.Choice.the-variants.{NotAcked, Reading, Writing}
 use Rattle.rule.specs.Select.{choose, address}
 use Rattle.rule.specs.Rule.{acked}
 use Rattle.leg.specs.Fetch.{fetched, isLast}
-use Rattle.leg.specs.Effect.{withHost, stopped, started, powerLost, Due, nothingDue, clears, writes, settle}
+use Rattle.leg.specs.Effect.{stopped, started, powerLost, Due, nothingDue, clears, writes, settle}
 use Rattle.signal.specs.declared.WireAnswer.{WireAnswer}
 use Rattle.signal.specs.declared.WireAnswer.the-variants.{Nothing, Ack, NoAck, Byte}
 use Rattle.transfer.specs.Legs.{Noted, Move, moveSend, moveFetch, Finish, atStop, atVccOff, atRefusal, Legs, leg, last, parse}
@@ -142,7 +143,7 @@ legOf w u m (moveSend x ∷ ms) = selectedLeg (choose (w .host .vcc) (w .host .p
 -- ---- the legs one after the other
 -- what a leg leaves before its end
 abbrev pub counting : Leg → WireSide → WireSide
-counting e w = withHost (record { vcc = w .host .vcc; session = w .host .session; programming = w .host .programming; counter = e .counter; bus = w .host .bus }) w
+counting e w = withHost (withCounter (e .counter) (w .host)) w
 
 abbrev pub filled : Leg → List ℕ → List ℕ
 filled e m = sets m pagePlace (e .page)

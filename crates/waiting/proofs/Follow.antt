@@ -18,7 +18,7 @@ use Rattle.tag.specs.Bus.{isOpen}
 use Rattle.tag.specs.Layout.{replyBytes}
 use Rattle.tag.specs.Radio.{fieldAt}
 use Rattle.tag.specs.Supply.{vccAt}
-use Rattle.leg.specs.Effect.{withHost}
+use Rattle.tag.specs.Parts.{withProgramming, withHost, wireSide, withWire, withTagAir}
 use Rattle.signal.specs.declared.WireSignal.{WireSignal}
 use Rattle.signal.specs.declared.WireSignal.the-variants.{Start, Send, Fetch, Stop, Vcc, ProgrammingEnd}
 use Rattle.signal.specs.Signal.{WireResult, sideBus}
@@ -33,7 +33,7 @@ use Rattle.model.specs.declared.Answer.the-variants.{Refused, Nothing}
 use Rattle.model.specs.declared.Signal.{Signal}
 use Rattle.model.specs.declared.Signal.the-variants.{Wire, Field, Frame}
 use Rattle.model.specs.Signals.{signalInRange, signalBy}
-use Rattle.model.specs.Step.{fromWire, wireSide, withWire, withTagAir, transferOpen, actOf}
+use Rattle.model.specs.Step.{fromWire, transferOpen, actOf}
 use Rattle.calls.specs.Calls.{Call, CallAnswer, callAnswer, Device, device, DeviceResult, deviceResult, entry, callReply}
 use Rattle.waiting.specs.Waiting.{Slot, given, waits, fill, Waiting, noTransfer, inside, answered, isStarted, ackedSelect, atOnce, acts, whenClosed, note, frameAnswer, notes, whenOpen, waitAct, waitStep}
 use Rattle.waiting.proofs.OpenStep.{Open, Going, going, opens, stays-shut, Selects, selects, first-goes}
@@ -152,7 +152,7 @@ vcc-again w v = sym (pick-true _ _ _ true refl (pick-true _ _ _ (w .host .vcc) v
 
 programmed-again : (w : WireSide) → w .host .programming ≡ false → programmed w ≡ w
 programmed-again w p =
-    ap (λ (b : Bool). withHost (record { vcc = w .host .vcc; session = w .host .session; programming = b; counter = w .host .counter; bus = w .host .bus }) w) (sym p)
+    ap (λ (b : Bool). withHost (withProgramming b (w .host)) w) (sym p)
 
 module _ (out : List CallAnswer) (k : Device) (n : List Noted) (sl : List Slot) (g : Inside k n sl) where
   -- the signal s after those of the list

@@ -13,14 +13,14 @@ use Rattle.tag.specs.declared.Tag.{Tag}
 use Rattle.reply.specs.declared.RadioSide.{RadioSide}
 use Rattle.errors.specs.declared.RadioError.the-variants.{ShutOut}
 use Rattle.reply.specs.Reply.{ReplyBody, nothing, fault}
-use Rattle.reply.specs.Outcome.{CommandResult, commandResult}
+use Rattle.reply.specs.Outcome.{CommandResult, commandResult, radioSide}
 use Rattle.frame.specs.declared.Verdict.{Verdict}
 use Rattle.frame.specs.declared.Verdict.the-variants.{Silence, Error}
 use Rattle.frame.specs.Judge.{isSilent, isMute, errorOf, shutOut}
 use Rattle.frame.proofs.ShutOut.{shut-out-decides}
 use Rattle.radio.specs.Radio.{verdictResult, radioOf}
 use Rattle.model.specs.declared.Signal.the-variants.{Frame}
-use Rattle.model.specs.Step.{radioSide, transferOpen, actOf}
+use Rattle.model.specs.Step.{transferOpen, actOf}
 use Rattle.calls.specs.Calls.{Call, Device, device, deviceResult, callReply}
 use Rattle.waiting.specs.Waiting.{frameAnswer}
 use Rattle.calls.proofs.Laws.{actedBy}

@@ -11,6 +11,7 @@ use Rattle.tag.specs.declared.Bus.the-variants.{Idle, Started, ReadLeg, WriteLe
 use Rattle.tag.specs.declared.Host.{Host}
 use Rattle.tag.specs.Layout.{replyBytes}
 use Rattle.tag.specs.Radio.{fieldAt}
+use Rattle.tag.specs.Parts.{wireSide, withWire, withTagAir}
 use Rattle.rule.specs.Select.{choose}
 use Rattle.signal.specs.declared.WireAnswer.{WireAnswer}
 use Rattle.signal.specs.declared.WireSignal.the-variants.{Start as SignalStart, Send, Fetch, Stop as SignalStop, Vcc, ProgrammingEnd}
@@ -22,7 +23,8 @@ use Rattle.model.specs.declared.Answer.the-variants.{Refused, Nothing}
 use Rattle.model.specs.declared.Signal.{Signal}
 use Rattle.model.specs.declared.Signal.the-variants.{Wire, Field, Frame}
 use Rattle.model.specs.Signals.{signalInRange, signalBy}
-use Rattle.model.specs.Step.{fromWire, wireSide, withWire, radioSide, withTagAir, actOf}
+use Rattle.model.specs.Step.{fromWire, actOf}
+use Rattle.reply.specs.Outcome.{radioSide}
 use Rattle.calls.specs.Calls.{Call, callReply, CallAnswer, callAnswer, Device, device, DeviceResult, deviceResultOf}
 
 -- the place of an answer: given, or waiting for the transfer's end with the reply buffer of its call

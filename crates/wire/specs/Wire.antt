@@ -7,10 +7,10 @@ use Rattle.tag.specs.declared.Bus.{Bus}
 use Rattle.tag.specs.declared.Bus.the-variants.{Idle, Started, ReadLeg, WriteLeg, LowAddress, DataLeg}
 use Rattle.tag.specs.declared.WireSide.{WireSide}
 use Rattle.tag.specs.declared.Uid.{Uid}
+use Rattle.tag.specs.Parts.{withProgramming, withHost}
 use Rattle.tag.specs.Bus.{nextAddress}
 use Rattle.tag.specs.Supply.{vccAt}
 use Rattle.leg.specs.Fetch.{fetched, isLast}
-use Rattle.leg.specs.Effect.{withHost}
 use Rattle.signal.specs.declared.WireAnswer.the-variants.{Nothing, Byte}
 use Rattle.signal.specs.declared.WireSignal.{WireSignal}
 use Rattle.signal.specs.declared.WireSignal.the-variants.{Start, Send, Fetch, Stop, Vcc, ProgrammingEnd}
@@ -31,7 +31,7 @@ fetchAt (DataLeg space count spoiled) w u m ack = wireResult (Byte 0xFF) w m
 
 -- "a programming end with nothing under way change[s] nothing"
 abbrev pub programmed : WireSide → WireSide
-programmed w = withHost (record { vcc = w .host .vcc; session = w .host .session; programming = false; counter = w .host .counter; bus = w .host .bus }) w
+programmed w = withHost (withProgramming false (w .host)) w
 
 unfoldable pub signalOf : WireSide → Uid → List ℕ → WireSignal → WireResult
 signalOf w u m Start = startOf w m

@@ -25,8 +25,9 @@ use Rattle.tag.specs.declared.Uid.{Uid}
 use Rattle.tag.specs.Bus.{isOpen, isActive, pageBytes, nextAddress}
 use Rattle.tag.specs.Mailbox.{controlled, hostPut, hostRead}
 use Rattle.tag.specs.Keys.{passwordAt, samePassword, withI2cPassword}
-use Rattle.tag.specs.Supply.{withRegisters, withMailbox, withPasswords, vccOff, vccOn, vccAt}
+use Rattle.tag.specs.Supply.{vccOff, vccOn, vccAt}
 use Rattle.tag.specs.Layout.{page}
+use Rattle.tag.specs.Parts.{withRegisters, withMailbox, withPasswords, withWireCore}
 use Rattle.ranges.specs.Ranges.{registersInRange, mailboxInRange, coreInRange, hostInRange, suppliedInRange, wireInRange}
 use Rattle.ranges.proofs.MailboxKept.{empty-kept, host-read-kept, host-put-kept, controlled-kept}
 use Rattle.ranges.proofs.RegistersKept.{dynamic-kept, reload-kept}
@@ -37,7 +38,7 @@ use Rattle.rule.specs.Rule.{mailboxAcked, userAcked, spaceAcked, acked, written
 use Rattle.rule.proofs.AckedByte.{acked-room, acked-space, first-next}
 use Rattle.page.specs.PageRange.{pageAcked, busInRange}
 use Rattle.page.proofs.Acks.{page-last}
-use Rattle.leg.specs.Effect.{LegResult, Due, nothingDue, clears, writes, started, stopped, settle, legWritten, userWritten, systemWritten, passwordWritten, legResult, withWireCore, withI2cSession, programming}
+use Rattle.leg.specs.Effect.{LegResult, Due, nothingDue, clears, writes, started, stopped, settle, legWritten, userWritten, systemWritten, passwordWritten, legResult, sideSession, programming}
 use Rattle.signal.specs.declared.WireSignal.{WireSignal}
 use Rattle.signal.specs.declared.WireSignal.the-variants.{Start, Send, Fetch, Stop, Vcc, ProgrammingEnd}
 use Rattle.signal.specs.Signal.{WireResult, sideBus, sideLine, dueOf, startAt, startOf, stopAt}
@@ -163,7 +164,7 @@ module _ (w₀ : WireSide) (m : List ℕ) (g : Fits (sideBus Idle w₀)) (size :
 
   -- the core changed, the host side not but for the session
   changes : (o : Bool) (c : Core) (m′ : List ℕ) → registersInRange (c .registers) ≡ true → mailboxInRange (c .mailbox) ≡ true → length m′ ≡ 1024
-      → L (legResult (withI2cSession o (withWireCore c w)) m′)
+      → L (legResult (sideSession o (withWireCore c w)) m′)
   unfolding isOpen pageBytes busInRange
   changes o c m′ r b l =
       record { side = record { registers = r; mailbox = b; room = refl; alone = g .alone; supplied = rw v }; bus = refl; size = l }

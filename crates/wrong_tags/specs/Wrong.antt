@@ -10,11 +10,12 @@ use Rattle.tag.specs.declared.Core.{Core}
 use Rattle.tag.specs.declared.Tag.{Tag}
 use Rattle.tag.specs.Layout.{userBytes}
 use Rattle.tag.specs.Radio.{deselected}
+use Rattle.tag.specs.Parts.{withTagAir}
 use Rattle.frame.specs.Fields.{command, ownUid}
 use Rattle.frame.specs.Judge.{isSilent}
 use Rattle.model.specs.declared.Answer.the-variants.{NoAck}
 use Rattle.model.specs.declared.Signal.the-variants.{Frame}
-use Rattle.model.specs.Step.{withTagAir, actOf}
+use Rattle.model.specs.Step.{actOf}
 use Rattle.calls.specs.Calls.{Call, callAnswer, Device, device, DeviceResult, deviceResult, deviceResultOf, entry}
 use Rattle.calls.specs.Examples.{onCore, onBus}
 use Rattle.demand3.specs.Demand3.{struck}

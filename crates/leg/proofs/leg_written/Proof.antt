@@ -20,7 +20,9 @@ same-length c = search needs
 
 returns : tie.Need-returns
 unfolding legWritten
-returns c = rw (c .before .before .user-written .ensures, c .before .before .before .before .enum-told .given .1)
+returns c =
+    let written = c .before .before in
+    rw (written .user-written .ensures, written .before .before .enum-told .given .1)
 
 same-length-2 : tie.Need-same-length-2
 same-length-2 c = search needs

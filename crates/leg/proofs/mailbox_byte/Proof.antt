@@ -15,7 +15,9 @@ byte-in-requires c κs = search needs
 
 returns : tie.Need-returns
 unfolding mailboxByte
-returns c = rw (c .byte-in .ensures, ← c .before .before .before .before .mailbox-place .ensures) (search picks depth 20)
+returns c =
+    let inside = c .before in
+    rw (c .byte-in .ensures, ← inside .before .before .before .mailbox-place .ensures) (search picks depth 20)
 
 returns-2 : tie.Need-returns-2
 unfolding mailboxByte

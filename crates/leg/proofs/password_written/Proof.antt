@@ -15,9 +15,7 @@ at-requires-2 c κs = search needs
 
 returns : tie.Need-returns
 unfolding passwordWritten
-returns c =
-    let a = c .before .before .before .before .before .args in
-    rw (length-bytesAt (a .m .now) 768 (a .k)) (search picks depth 20)
+returns c = rw (length-bytesAt _ 768 _) (search picks depth 20)
 
 byte-at-requires : tie.Need-byte-at-requires
 byte-at-requires c κs = search needs

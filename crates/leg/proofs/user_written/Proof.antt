@@ -20,8 +20,7 @@ returns : tie.Need-returns
 unfolding userWritten
 returns c =
     let copy = c .before .before .before in
-    let a = copy .before .before .before .before .before .args in
-    let stored = copy .copy-bytes .ensures ∙ copied-down (a .m .now) (a .f) 768 (a .k) (omega arith) in
+    let stored = copy .copy-bytes .ensures ∙ copied-down _ _ 768 _ (omega arith) in
     rw (c .start-programming .ensures, stored) (search picks depth 20)
 
 page-byte-requires : tie.Need-page-byte-requires
@@ -71,10 +70,10 @@ same-length-4 c = search needs
 returns-4 : tie.Need-returns-4
 unfolding userWritten
 returns-4 c =
-    let copy = c .before .before .before .before in
-    let a = copy .before .before .before .before .before .before .before .args in
-    let stored = copy .copy-bytes2 .ensures ∙ copied-down (a .m .now) 512 768 (a .k) (omega arith) in
-    rw (c .with-core3 .ensures, c .before .host-put .ensures, stored, length-bytesAt (a .m .now) 768 (a .k)) (search picks depth 20)
+    let put = c .before in
+    let copy = put .before .before .before in
+    let stored = copy .copy-bytes2 .ensures ∙ copied-down _ 512 768 _ (omega arith) in
+    rw (c .with-core3 .ensures, put .host-put .ensures, stored, length-bytesAt _ 768 _) (search picks depth 20)
 
 pub user-written-spec : {M : Type 1} → statement M
 user-written-spec =

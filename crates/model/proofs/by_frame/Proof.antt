@@ -1,6 +1,6 @@
 use mathlib.Core.Path.{ap}
-use Rattle.reply.specs.Outcome.{RadioResult}
-use Rattle.model.specs.Step.{stepResult, fromRadio, withRadio, actOf}
+use Rattle.reply.specs.Outcome.{RadioResult, withRadio}
+use Rattle.model.specs.Step.{stepResult, fromRadio, actOf}
 use borrow.Author.Needs.{needs}
 use Rattle.model.proofs.by_frame.Statement.{statement}
 use Rattle.model.proofs.by_frame.Tie as tie

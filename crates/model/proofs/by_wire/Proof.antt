@@ -1,7 +1,8 @@
 use mathlib.Core.Path.{ap}
 use Rattle.signal.specs.Signal.{WireResult}
-use Rattle.model.specs.Step.{freshResult, fromWire, withWire}
+use Rattle.model.specs.Step.{freshResult, fromWire}
 use borrow.Author.Needs.{needs}
+use Rattle.tag.specs.Parts.{withWire}
 use Rattle.model.proofs.by_wire.Statement.{statement}
 use Rattle.model.proofs.by_wire.Tie as tie
 use Rattle.model.proofs.by_wire.Reads as reads

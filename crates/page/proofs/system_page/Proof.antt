@@ -11,7 +11,7 @@ use Rattle.tag.specs.declared.Space.the-variants.{System}
 use Rattle.rule.specs.Rule.{acked}
 use Rattle.page.specs.PageRange.{pageAcked}
 use Rattle.page.proofs.system_page.Statement.{statement}
-use Rattle.page.proofs.Acks.{stays, one-more, none-more}
+use Rattle.page.proofs.Acks.{next-acked, refused-at}
 use Rattle.page.proofs.system_page.Tie as tie
 
 abbrev Inv-loop : tie.InvT-loop
@@ -35,12 +35,8 @@ acked-requires c κs = search needs
 
 returns : tie.Need-returns Inv-loop μ-loop
 returns c =
-    let a = c .before .before .before .before .before .before .args in
-    let l = c .before .before .before .before .loop in
-    let x : c .before .before .byte-in .result ≡ getD (a .m .now) (768 + l .i) 0 = c .before .before .byte-in .ensures in
-    let e : acked System (a .c) (a .session) (a .f) (l .i) (bytesAt (a .m .now) 768 (l .i)) (getD (a .m .now) (768 + l .i) 0) ≡ false = ap (acked System (a .c) (a .session) (a .f) (l .i) (bytesAt (a .m .now) 768 (l .i))) (sym x) ∙ sym (c .before .acked .ensures) ∙ not-true _ (c .if1 .taken) in
-    let n : suc (l .i) + (a .k - suc (l .i)) ≡ a .k = omega arith in
-    sym (ap (pageAcked System (a .c) (a .session) (a .f) (a .m .now)) (sym n) ∙ stays System (a .c) (a .session) (a .f) (a .m .now) (suc (l .i)) (a .k - suc (l .i)) (none-more System (a .c) (a .session) (a .f) (a .m .now) (l .i) e))
+    let read = c .before .before in
+    refused-at _ _ _ _ _ _ _ (omega arith) (rw (read .byte-in .ensures) at (sym (c .before .acked .ensures) ∙ not-true _ (c .if1 .taken)))
 
 add-i : tie.Need-add-i Inv-loop μ-loop
 add-i c = omega arith
@@ -50,11 +46,9 @@ loop-less c = omega arith
 
 loop-again : tie.Need-loop-again Inv-loop μ-loop
 loop-again c =
-    let a = c .before .before .before .before .before .before .args in
-    let l = c .before .before .before .before .loop in
-    let x : c .before .before .byte-in .result ≡ getD (a .m .now) (768 + l .i) 0 = c .before .before .byte-in .ensures in
-    let e : acked System (a .c) (a .session) (a .f) (l .i) (bytesAt (a .m .now) 768 (l .i)) (getD (a .m .now) (768 + l .i) 0) ≡ true = ap (acked System (a .c) (a .session) (a .f) (l .i) (bytesAt (a .m .now) 768 (l .i))) (sym x) ∙ sym (c .before .acked .ensures) ∙ not-false _ (c .if1 .left) in
-    (ap (pageAcked System (a .c) (a .session) (a .f) (a .m .now)) (add-one (l .i)) ∙ one-more System (a .c) (a .session) (a .f) (a .m .now) (l .i) (l .inv .0) e, omega arith)
+    let read = c .before .before in
+    let l = read .before .before .loop in
+    (next-acked _ _ _ _ _ _ (l .inv .0) (rw (read .byte-in .ensures) at (sym (c .before .acked .ensures) ∙ not-false _ (c .if1 .left))), omega arith)
 
 returns-2 : tie.Need-returns-2 Inv-loop μ-loop
 returns-2 c =

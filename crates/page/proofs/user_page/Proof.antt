@@ -19,9 +19,7 @@ returns-2 : tie.Need-returns-2
 returns-2 c = λ m.
     let last = c .before in
     let first = c .before .before in
-    let a = c .before .before .before .before .args in
-    rw (last .user-acked2 .ensures, first .user-acked .ensures)
-    (by-two (a .c) (a .session) (a .f) m (a .k) (c .before .before .before .if1 .left) (c .if2 .taken))
+    rw (last .user-acked2 .ensures, first .user-acked .ensures) (by-two _ _ _ m _ (first .before .if1 .left) (c .if2 .taken))
 
 user-acked-requires-3 : tie.Need-user-acked-requires-3
 user-acked-requires-3 c κs = search needs
@@ -30,9 +28,8 @@ returns-3 : tie.Need-returns-3
 returns-3 c = λ m.
     let last = c .before .before in
     let first = c .before .before .before in
-    let a = c .before .before .before .before .before .args in
     rw (c .user-acked3 .ensures, last .user-acked2 .ensures, first .user-acked .ensures)
-    (by-three (a .c) (a .session) (a .f) m (a .k) (c .before .before .before .before .if1 .left) (c .before .if2 .left))
+    (by-three _ _ _ m _ (first .before .if1 .left) (c .before .if2 .left))
 
 pub user-page-spec : {M : Type 1} → statement M
 user-page-spec =

@@ -41,8 +41,9 @@ loop-again : tie.Need-loop-again Inv-loop μ-loop
 unfolding bytesAt
 loop-again c =
     let w = c in
-    let l = c .before .before .before .loop in
-    let a = c .before .before .before .before .before .args in
+    let again = c .before .before .before in
+    let l = again .loop in
+    let a = again .before .before .args in
     let xs = bytesAt (a .m .now) 768 (l .i) in (
       w .write-at .ensures
           ∙ rw (w .before .byte-in .ensures, l .inv .0, add-one (l .i))

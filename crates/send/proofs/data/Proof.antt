@@ -22,9 +22,10 @@ next-address-requires c κs = search needs
 
 add-count : tie.Need-add-count
 add-count c =
-    let branch = c .before .before .before .before .before in
-    let asked = c .before .before .before .before .before .before in
-    omega (arith, acked-room _ _ _ _ _ _ _ (sym (asked .acked .ensures) ∙ branch .if1 .taken))
+    let stored = c .before .before in
+    let taken = stored .before .before .before in
+    let judged = taken .before in
+    omega (arith, acked-room _ _ _ _ _ _ _ (sym (judged .acked .ensures) ∙ taken .if1 .taken))
 
 with-line-requires : tie.Need-with-line-requires
 with-line-requires c κs = search needs
@@ -37,11 +38,11 @@ unfolding dataOf
 returns c =
     let moved = c .before in
     let put = moved .before .before .before in
-    let branch = moved .before .before .before .before .before in
-    let asked = moved .before .before .before .before .before .before in
-    let a = asked .before .before .before .before .args in
-    pick-true _ _ _ _ (rw (asked .before .before .first-of .ensures) at (sym (asked .acked .ensures) ∙ branch .if1 .taken))
-    (rw (c .with-line .ensures, moved .next-address .ensures, put .put-in .ensures, add-one (a .k)))
+    let branch = put .before .before in
+    let asked = branch .before in
+    let first = asked .before .before in
+    pick-true _ _ _ _ (rw (first .first-of .ensures) at (sym (asked .acked .ensures) ∙ branch .if1 .taken))
+    (rw (c .with-line .ensures, moved .next-address .ensures, put .put-in .ensures, add-one (first .before .before .args .k)))
 
 with-bus-requires : tie.Need-with-bus-requires
 with-bus-requires c κs = search needs

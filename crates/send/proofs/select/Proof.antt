@@ -1,6 +1,4 @@
-use mathlib.Core.Path.{_≡_, sym, _∙_}
-use Rattle.rule.specs.declared.Choice.the-variants.{NotAcked, Reading, Writing}
-use Rattle.rule.specs.Select.{choose}
+use mathlib.Core.Path.{sym, _∙_}
 use Rattle.send.specs.Send.{selectBy}
 use borrow.Author.Needs.{needs}
 use Rattle.send.proofs.select.Statement.{statement}
@@ -30,23 +28,20 @@ with-bus-requires-3 c κs = search needs
 returns : tie.Need-returns
 unfolding selectBy
 returns c =
-    let a = c .before .before .before .before .before .args in
-    let chosen : choose (a .w .host .vcc) (a .w .host .programming) (a .x) ≡ NotAcked = sym (c .before .before .before .choose .ensures) ∙ c .before .enum-told .given .1 in
-    rw (c .with-bus .ensures, chosen)
+    let told = c .before in
+    rw (c .with-bus .ensures, sym (told .before .before .choose .ensures) ∙ told .enum-told .given .1)
 
 returns-2 : tie.Need-returns-2
 unfolding selectBy
 returns-2 c =
-    let a = c .before .before .before .before .before .before .args in
-    let chosen : choose (a .w .host .vcc) (a .w .host .programming) (a .x) ≡ Reading _ = sym (c .before .before .before .before .choose .ensures) ∙ c .before .before .space .given .1 in
-    rw (c .with-bus2 .ensures, chosen)
+    let told = c .before .before in
+    rw (c .with-bus2 .ensures, sym (told .before .before .choose .ensures) ∙ told .space .given .1)
 
 returns-3 : tie.Need-returns-3
 unfolding selectBy
 returns-3 c =
-    let a = c .before .before .before .before .before .before .args in
-    let chosen : choose (a .w .host .vcc) (a .w .host .programming) (a .x) ≡ Writing _ = sym (c .before .before .before .before .choose .ensures) ∙ c .before .before .space2 .given .1 in
-    rw (c .with-bus3 .ensures, chosen)
+    let told = c .before .before in
+    rw (c .with-bus3 .ensures, sym (told .before .before .choose .ensures) ∙ told .space2 .given .1)
 
 pub select-spec : {M : Type 1} → statement M
 select-spec =

@@ -66,7 +66,9 @@ same-length-2 : tie.Need-same-length-2
 same-length-2 c = search needs
 
 returns-6 : tie.Need-returns-6
-returns-6 c = rw (c .before .before .before .before .before .b5 .given .1) (c .before .before .send-data .ensures)
+returns-6 c =
+    let sent = c .before .before in
+    rw (sent .before .before .before .b5 .given .1) (sent .send-data .ensures)
 
 pub send-at-spec : {M : Type 1} → statement M
 send-at-spec =

@@ -17,7 +17,9 @@ same-length c = search needs
 
 returns-2 : tie.Need-returns-2
 unfolding sendAt
-returns-2 c = pick-false _ _ _ _ (c .before .before .before .before .if1 .left) (c .before .before .«data» .ensures)
+returns-2 c =
+    let sent = c .before .before in
+    pick-false _ _ _ _ (sent .before .before .if1 .left) (sent .«data» .ensures)
 
 pub send-data-spec : {M : Type 1} → statement M
 send-data-spec = tie.close (tie.spec returns data-requires same-length returns-2)

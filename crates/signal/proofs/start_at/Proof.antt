@@ -7,11 +7,8 @@ use borrow.Author.Needs.{needs}
 use Rattle.signal.proofs.start_at.Statement.{statement}
 use Rattle.signal.proofs.start_at.Tie as tie
 
-is-open-requires : tie.Need-is-open-requires
-is-open-requires c κs = search needs
-
-with-bus-requires : tie.Need-with-bus-requires
-with-bus-requires c κs = search needs
+started-requires : tie.Need-started-requires
+started-requires c κs = search needs
 
 enum-told : tie.Need-enum-told
 enum-told c = search needs
@@ -36,38 +33,37 @@ enum-known-b-5 c = search needs
 
 returns : tie.Need-returns
 unfolding startAt settle dueOf
-returns c = rw (c .before .before .with-bus .ensures, c .before .before .before .is-open .ensures, c .enum-told .given .1)
+returns c = rw (c .before .before .started .ensures, c .enum-told .given .1)
 
 returns-2 : tie.Need-returns-2
 unfolding startAt settle dueOf
-returns-2 c = rw (c .before .before .before .with-bus .ensures, c .before .before .before .before .is-open .ensures, c .before .b .given .1)
+returns-2 c = rw (c .before .before .before .started .ensures, c .before .b .given .1)
 
 returns-3 : tie.Need-returns-3
 unfolding startAt dueOf
 returns-3 c =
-    let made = c .before .before .before .before in
-    rw (c .end-read .ensures, made .with-bus .ensures, made .before .is-open .ensures, c .before .before .b2 .given .1) (ap (λ (r : LegResult). wireResult Nothing (r .side) (r .memory)) (read-started _ _ _))
+    let told = c .before .before in
+    rw (c .end-read .ensures, told .before .before .started .ensures, told .b2 .given .1) (ap (λ (r : LegResult). wireResult Nothing (r .side) (r .memory)) (read-started _ _ _))
 
 returns-4 : tie.Need-returns-4
 unfolding startAt settle dueOf
-returns-4 c = rw (c .before .before .before .with-bus .ensures, c .before .before .before .before .is-open .ensures, c .before .b3 .given .1)
+returns-4 c = rw (c .before .before .before .started .ensures, c .before .b3 .given .1)
 
 returns-5 : tie.Need-returns-5
 unfolding startAt settle dueOf
-returns-5 c = rw (c .before .before .before .with-bus .ensures, c .before .before .before .before .is-open .ensures, c .before .b4 .given .1)
+returns-5 c = rw (c .before .before .before .started .ensures, c .before .b4 .given .1)
 
 returns-6 : tie.Need-returns-6
 unfolding startAt settle dueOf
 returns-6 c =
     let made = c .before .before .before in
-    rw (made .with-bus .ensures, made .before .is-open .ensures, c .before .b5 .given .1) (ap (λ (r : LegResult). wireResult Nothing (r .side) (r .memory)) (dropped _ _ _ _ refl))
+    rw (made .started .ensures, c .before .b5 .given .1) (ap (λ (r : LegResult). wireResult Nothing (r .side) (r .memory)) (dropped _ _ _ _ refl))
 
 pub start-at-spec : {M : Type 1} → statement M
 start-at-spec =
     tie.close
     (tie.spec
-    is-open-requires
-    with-bus-requires
+    started-requires
     enum-told
     enum-known-b
     enum-known-b-2

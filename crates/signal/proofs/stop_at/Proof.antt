@@ -45,8 +45,8 @@ returns-2 c = rw (c .before .before .before .with-bus .ensures, c .before .b .gi
 returns-3 : tie.Need-returns-3
 unfolding stopAt dueOf
 returns-3 c =
-    let made = c .before .before .before .before in
-    rw (c .end-read .ensures, made .with-bus .ensures, c .before .before .b2 .given .1) (ap (λ (r : LegResult). wireResult Nothing (r .side) (r .memory)) (read-stopped _ _ _))
+    let told = c .before .before in
+    rw (c .end-read .ensures, told .before .before .with-bus .ensures, told .b2 .given .1) (ap (λ (r : LegResult). wireResult Nothing (r .side) (r .memory)) (read-stopped _ _ _))
 
 returns-4 : tie.Need-returns-4
 unfolding stopAt settle dueOf
@@ -63,8 +63,8 @@ returns-6 : tie.Need-returns-6
 unfolding stopAt
 returns-6 c =
     let stopped = c .before .before in
-    let made = stopped .before .before .before .before .before in
-    rw (stopped .before .before .before .b5 .given .1) (rw (made .with-bus .ensures) at (ap (λ (r : LegResult). wireResult Nothing (r .side) (r .memory)) (stopped .stop-write .ensures)))
+    let told = stopped .before .before .before in
+    rw (told .b5 .given .1) (rw (told .before .before .with-bus .ensures) at (ap (λ (r : LegResult). wireResult Nothing (r .side) (r .memory)) (stopped .stop-write .ensures)))
 
 pub stop-at-spec : {M : Type 1} → statement M
 stop-at-spec =

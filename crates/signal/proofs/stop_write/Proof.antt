@@ -1,10 +1,8 @@
 use mathlib.Core.Path.{_∙_}
-use Rattle.rule.specs.Select.{firstOf}
-use Rattle.leg.specs.Effect.{writes, settle}
+use Rattle.leg.specs.Effect.{settle}
 use Rattle.signal.specs.Signal.{dueOf}
 use Rattle.signal.proofs.Settle.{none-due, some-due}
 use borrow.Author.Needs.{needs}
-use Rattle.tag.specs.Layout.{page}
 use Rattle.signal.proofs.stop_write.Statement.{statement}
 use Rattle.signal.proofs.stop_write.Tie as tie
 
@@ -25,8 +23,8 @@ returns-2 : tie.Need-returns-2
 unfolding dueOf settle
 returns-2 c =
     let written = c .before .before in
-    let a = c .before .before .before .before .before .before .before .args in
-    written .leg-written .ensures ∙ rw (written .before .before .first-of .ensures) (some-due _ (writes (a .space) (firstOf (a .w .host .counter) (a .count)) (page (a .count) (a .m .now))) (a .w) (a .m .now) (c .before .before .before .before .before .if1 .left))
+    let first = written .before .before in
+    written .leg-written .ensures ∙ rw (first .first-of .ensures) (some-due _ _ _ _ (first .before .if1 .left))
 
 pub stop-write-spec : {M : Type 1} → statement M
 stop-write-spec =

@@ -25,7 +25,11 @@ with-line-requires c κs = search needs
 
 returns-2 : tie.Need-returns-2
 unfolding fetchAt
-returns-2 c = pick-false _ _ _ _ (c .before .before .before .before .if1 .left) (simp (c .with-line .ensures, c .before .next-address .ensures, c .before .before .is-last .ensures, c .before .before .before .fetched .ensures))
+returns-2 c =
+    let reached = c .before .before in
+    let read = reached .before in
+    pick-false _ _ _ _ (read .before .if1 .left)
+    (simp (c .with-line .ensures, c .before .next-address .ensures, reached .is-last .ensures, read .fetched .ensures))
 
 pub fetch-read-spec : {M : Type 1} → statement M
 fetch-read-spec =

@@ -63,7 +63,9 @@ same-length-2 c = search needs
 
 returns-2 : tie.Need-returns-2
 unfolding signalOf
-returns-2 c = rw (c .before .before .before .before .before .s .given .1) (c .before .before .send-at .ensures)
+returns-2 c =
+    let sent = c .before .before in
+    rw (sent .before .before .before .s .given .1) (sent .send-at .ensures)
 
 same-length-3 : tie.Need-same-length-3
 same-length-3 c = search needs
@@ -77,7 +79,9 @@ same-length-4 c = search needs
 
 returns-4 : tie.Need-returns-4
 unfolding signalOf
-returns-4 c = rw (c .nothing2 .ensures, c .before .before .before .before .before .enum-told2 .given .1) (c .before .before .before .stop-at .ensures)
+returns-4 c =
+    let stopped = c .before .before .before in
+    rw (c .nothing2 .ensures, stopped .before .before .enum-told2 .given .1) (stopped .stop-at .ensures)
 
 returns-5 : tie.Need-returns-5
 unfolding signalOf

@@ -11,8 +11,7 @@ use lib.Seq.{sets, sets-eq, take-at}
 use Rattle.parts.specs.Pick.{pick}
 use Rattle.parts.proofs.Picks.{pick-case}
 use Rattle.parts.proofs.Bools.{and-left}
-use Rattle.crc.specs.Crc.{closed, crcBytes, closedAt}
-use Rattle.crc.proofs.Frames.{closed-at}
+use Rattle.crc.specs.Crc.{closed, crcBytes}
 use Rattle.model.specs.Signals.{signalInRange, topValue}
 use Rattle.model.specs.Step.{StepResult, stepOf}
 use Rattle.script.specs.declared.Bench.{Bench}
@@ -91,12 +90,10 @@ unfolding isFrame
 framed s f e = in-line s (ap isFrame e)
 
 -- ---- the frame's bytes with their CRC
-pub frame-closed : (p o : List ℕ) (n : ℕ) → length p ≡ n → n + 2 ≤ length o
-    → take (n + 2) (closedAt (sets o 0 p) n) ≡ closed p
-frame-closed p o n l h =
+pub frame-stored : (p o : List ℕ) (n : ℕ) → length p ≡ n → n + 2 ≤ length o → take (n + 2) (sets o 0 (closed p)) ≡ closed p
+frame-stored p o n l h =
     let k : length (closed p) ≡ n + 2 = simp length-append (omega arith) in
-    ap (λ (x : List ℕ). take (n + 2) x)
-    (closed-at p o n l h ∙ sets-eq (closed p) o 0 (omega arith))
+    ap (λ (x : List ℕ). take (n + 2) x) (sets-eq (closed p) o 0 (omega arith))
     ∙ take-at (closed p) (drop (0 + length (closed p)) o) (n + 2) k
 
 -- ---- a bad line: code 0 is refused

@@ -45,6 +45,12 @@ lineResult badLine b m o = prints b (b .tag) m o badText
 lineResult (signalLine code value) b m o = benchCall b m o code value []
 lineResult (frameLine s) b m o = benchCall b m o 8 0 (closed s)
 
+-- the frame that a line hands over, with its CRC; any other line has none
+unfoldable pub closedFrame : ScriptLine → List ℕ
+closedFrame badLine = []
+closedFrame (signalLine code value) = []
+closedFrame (frameLine s) = closed s
+
 -- the line s
 unfoldable pub benchOf : Bench → List ℕ → List ℕ → List ℕ → LineResult
 benchOf b m o s = lineResult (lineOf s) b m o

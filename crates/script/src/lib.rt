@@ -6,11 +6,13 @@ ghost use mathlib.Core.Path.{_≡_};
 ghost use mathlib.Core.List.{List};
 ghost use Prim.Native.Nat.{ℕ, _≤_};
 ghost use lib.ListN.{length, take};
+ghost use lib.Seq.{sets};
 ghost use Rattle.crc.specs.Crc.{closed};
 ghost use Rattle.text.specs.Hex.{hexBytes};
 ghost use Rattle.script.specs.declared.Bench.{Bench};
+ghost use Rattle.script.specs.Line.{lineOf};
 ghost use Rattle.script.specs.Text.{badText};
-ghost use Rattle.script.specs.Bench.{benchStart, benchStartOf, nextLine, longestText, prints, lineBuffers, putLine, benchCall, benchOf};
+ghost use Rattle.script.specs.Bench.{benchStart, benchStartOf, nextLine, longestText, prints, lineBuffers, putLine, benchCall, closedFrame, benchOf};
 use model::Answer;
 use model::Refusal;
 use reading::Reading;
@@ -79,6 +81,7 @@ fn put_frame(s: &[u8], frame: &mut [u8; 602]) -> usize
     requires { ⌜ length (now s) ≤ 1198 ⌝ }
     ensures { λ r. ⌜ take r (now (frame .exit)) ≡ closed (hexBytes (now (s .entry))) ⌝ }
     ensures { λ r. ⌜ r ≤ length (now (frame .exit)) ⌝ }
+    ensures { λ _. ⌜ now (frame .exit) ≡ sets (now (frame .entry)) 0 (closed (hexBytes (now (s .entry)))) ⌝ }
 {
     let n = text::decode(s, frame);
     crc::close(frame, n);
@@ -96,6 +99,7 @@ struct Arguments {
 fn arguments_of(s: &[u8], frame: &mut [u8; 602]) -> Arguments
     ensures { λ r. ⌜ ((b : Bench) (m o : List ℕ) → benchCall b m o (r .code) (r .value) (take (r .length) (now (frame .exit))) ≡ benchOf b m o (now (s .entry))) ⌝ }
     ensures { λ r. ⌜ r .length ≤ length (now (frame .exit)) ⌝ }
+    ensures { λ _. ⌜ now (frame .exit) ≡ sets (now (frame .entry)) 0 (closedFrame (lineOf (now (s .entry)))) ⌝ }
 {
     match reading::read(s) {
         Reading::Bad => Arguments {
@@ -130,16 +134,25 @@ fn bad_line(b: Bench, reply: &[u8; 643], text: &mut [u8]) -> LineOutcome
     }
 }
 
-// A line without its line feed. Its text stands in `text` from place 0 on.
-pub fn line(b: Bench, m: &mut [u8], reply: &mut [u8; 643], s: &[u8], text: &mut [u8]) -> LineOutcome
+// A line without its line feed. Its text stands in `text` from place 0 on, and its frame in `frame`. The caller lends
+// room for a frame: an array of its own would be cleared for each line, and few lines have one.
+pub fn line(
+    b: Bench,
+    m: &mut [u8],
+    reply: &mut [u8; 643],
+    frame: &mut [u8; 602],
+    s: &[u8],
+    text: &mut [u8],
+) -> LineOutcome
     ensures { λ r. ⌜ lineBuffers (r .bench) (r .length) (now (m .exit)) (now (reply .exit)) (now (text .exit)) ≡ putLine (benchOf b (now (m .entry)) (now (reply .entry)) (now (s .entry))) (now (text .entry)) ⌝ }
     ensures { λ r. ⌜ r .length ≤ longestText ⌝ }
+    ensures { λ _. ⌜ now (frame .exit) ≡ sets (now (frame .entry)) 0 (closedFrame (lineOf (now (s .entry)))) ⌝ }
 {
-    let mut frame = [0u8; 602];
-    let c = arguments_of(s, &mut frame);
+    let c = arguments_of(s, frame);
     if c.code == 0 {
         return bad_line(b, reply, text);
     }
     let length = c.length;
-    call(b, m, reply, c.code, c.value, &frame[0..length], text)
+    let whole = &frame[..];
+    call(b, m, reply, c.code, c.value, &whole[0..length], text)
 }

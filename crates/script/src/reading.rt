@@ -41,8 +41,10 @@ fn level(code: u8, s: &[u8]) -> Reading
 fn byte_sent(s: &[u8]) -> Reading
     ensures { λ r. ⌜ lineBy r (now (s .entry)) ≡ byteSent (now (s .entry)) ⌝ }
 {
-    let hex = text::all_hex(s);
-    if (s.len() == 2) & hex {
+    if s.len() != 2 {
+        return Reading::Bad;
+    }
+    if text::all_hex(s) {
         let x = text::hex_byte(parts::byte_at(s, 0), parts::byte_at(s, 1));
         return Reading::Signal {
             code: 4,

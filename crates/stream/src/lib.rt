@@ -79,6 +79,7 @@ fn end_line(
     reply: &mut [u8; 643],
     kept: &mut [u8; 1201],
     have: usize,
+    frame: &mut [u8; 602],
     s: &[u8],
     text: &mut [u8],
 ) -> LineOutcome
@@ -87,7 +88,7 @@ fn end_line(
     ensures { λ r. ⌜ r .length ≤ textRoom ⌝ }
 {
     let n = join(kept, have, s);
-    script::line(b, m, reply, line_from(kept, n, s), text)
+    script::line(b, m, reply, frame, line_from(kept, n, s), text)
 }
 
 // A piece of the input, after an unfinished line: the first `have` bytes of `kept` (all, where it has fewer). What stands
@@ -106,13 +107,23 @@ pub fn step(
     ensures { λ r. ⌜ streamBuffers (r .bench) (now (m .exit)) (now (reply .exit)) (take (r .have) (now (kept .exit))) (r .used) (r .wrote) (now (out .exit)) ≡ puts (pieceBy (length (now (out .entry))) (benchState b (now (m .entry)) (now (reply .entry))) (take have (now (kept .entry))) (now (s .entry))) (now (out .entry)) ⌝ }
     ensures { λ r. ⌜ (r .used ≤ length (now (s .entry))) × (r .wrote ≤ length (now (out .entry))) ⌝ }
 {
+    let mut frame = [0u8; 602];
     let mut bench = b;
     let mut n = kept_count(kept, have);
     let mut from = 0;
     let mut at = 0;
     let mut end = text::line_end(s, 0);
     while (end < s.len()) & (1304 <= out.len() - at) {
-        let o = end_line(bench, m, reply, kept, n, &s[from..end], &mut out[at..]);
+        let o = end_line(
+            bench,
+            m,
+            reply,
+            kept,
+            n,
+            &mut frame,
+            &s[from..end],
+            &mut out[at..],
+        );
         bench = o.bench;
         at += o.length;
         n = 0;

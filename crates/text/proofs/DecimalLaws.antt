@@ -2,9 +2,10 @@
 use mathlib.Core.Path.{_≡_, refl, sym, ap, _∙_}
 use mathlib.Core.Bool.{Bool, true, false}
 use mathlib.Core.List.{List, [], _∷_, _++_}
-use Prim.Native.Nat.{ℕ, zero, suc, _+_, _/_, _%_, _≤_, _<_}
+use Prim.Native.Nat.{ℕ, zero, suc, _+_, _*_, _/_, _%_, _≤_, _<_}
 use native.Mathlib.Omega.{arith}
 use native.Mathlib.Nat.{add-zero}
+use native.Mathlib.Numerals.{add-one}
 use lib.Dec.{ltb}
 use borrow.Author.Tests.{ltb-true, ltb-false}
 use lib.ListN.{length, set, length-append}
@@ -22,22 +23,13 @@ digits-more : (k n : ℕ) → 10 ≤ n → digitsOf k (n / 10) ++ (0x30 + n % 10
 unfolding digitsOf
 digits-more k n h = pick-not-lt ((0x30 + n) ∷ []) _ _ n 10 h refl
 
-pub count-last : (k n : ℕ) → n < 10 → length (digitsOf (suc k) n) ≡ 1
+count-last : (k n : ℕ) → n < 10 → length (digitsOf (suc k) n) ≡ 1
 count-last k n h = ap length (sym (digits-last k n h))
 
-pub count-more : (k n : ℕ) → 10 ≤ n → length (digitsOf (suc k) n) ≡ suc (length (digitsOf k (n / 10)))
+count-more : (k n : ℕ) → 10 ≤ n → length (digitsOf (suc k) n) ≡ suc (length (digitsOf k (n / 10)))
 count-more k n h =
     ap length (sym (digits-more k n h))
     ∙ (length-append (digitsOf k (n / 10)) ((0x30 + n % 10) ∷ []) ∙ omega arith)
-
--- the last digit left
-count-one-at : (n : ℕ) (b : Bool) → ltb n 10 ≡ b → length (digitsOf 1 n) ≡ 1
-unfolding digitsOf
-count-one-at n true h = count-last 0 n (ltb-true n 10 h)
-count-one-at n false h = count-more 0 n (ltb-false n 10 h)
-
-pub count-one : (n : ℕ) → length (digitsOf 1 n) ≡ 1
-count-one n = count-one-at n (ltb n 10) refl
 
 -- as many digits as the number has are all of them
 enough-at : (k n : ℕ) → digitsOf (length (digitsOf k (n / 10))) (n / 10) ≡ digitsOf k (n / 10)
@@ -103,3 +95,60 @@ digits-most (suc k) n =
     pick-case (λ (l : List ℕ). length l ≤ suc k) (ltb n 10) _ _
     (λ _. omega arith)
     (λ _. omega (arith, length-append (digitsOf k (n / 10)) ((0x30 + n % 10) ∷ []), digits-most k (n / 10)))
+
+-- ---- the number of digits, by powers of ten
+unfoldable pub tens : ℕ → ℕ
+tens zero = 1
+tens (suc k) = 10 * tens k
+
+pub tens-one : tens 1 ≡ 10
+unfolding tens
+tens-one = refl
+
+pub tens-next : (k : ℕ) → tens (k + 1) ≡ 10 * tens k
+unfolding tens
+tens-next k = ap tens (add-one k)
+
+tens-some : (k : ℕ) → 1 ≤ tens k
+unfolding tens
+tens-some zero = omega arith
+tens-some (suc k) = omega (arith, tens-some k)
+
+tens-le : (j k : ℕ) → j ≤ k → tens j ≤ tens k
+unfolding tens
+tens-le zero k h = tens-some k
+tens-le (suc j) zero h = absurd (omega arith)
+tens-le (suc j) (suc k) h = omega (arith, tens-le j k (omega arith))
+
+-- ten times that fits in 64 bits
+pub tens-most : (k : ℕ) → k ≤ 18 → tens k ≤ 1000000000000000000
+unfolding tens
+tens-most k h = tens-le k 18 h
+
+-- a number below the power k has k digits at most, and one from it on has more
+below-at : (j k n : ℕ) → (1 ≤ k → n / 10 < tens k → length (digitsOf j (n / 10)) ≤ k) → n < 10 * tens k
+    → (b : Bool) → ltb n 10 ≡ b → length (digitsOf (suc j) n) ≤ suc k
+unfolding tens
+below-at j k n ih l true h = omega (arith, count-last j n (ltb-true n 10 h))
+below-at j zero n ih l false h = absurd (omega (arith, ltb-false n 10 h))
+below-at j (suc k) n ih l false h = omega (arith, count-more j n (ltb-false n 10 h), ih (omega arith) (omega arith))
+
+pub digits-below : (j k n : ℕ) → 1 ≤ k → n < tens k → length (digitsOf j n) ≤ k
+unfolding digitsOf tens
+digits-below zero k n p l = omega arith
+digits-below (suc j) zero n p l = absurd (omega arith)
+digits-below (suc j) (suc k) n p l = below-at j k n (digits-below j k (n / 10)) l (ltb n 10) refl
+
+some-at : (j n : ℕ) (b : Bool) → ltb n 10 ≡ b → 1 ≤ length (digitsOf (suc j) n)
+some-at j n true h = omega (arith, count-last j n (ltb-true n 10 h))
+some-at j n false h = omega (arith, count-more j n (ltb-false n 10 h))
+
+pub digits-some : (j n : ℕ) → 1 ≤ length (digitsOf (suc j) n)
+digits-some j n = some-at j n (ltb n 10) refl
+
+pub digits-from : (j k n : ℕ) → tens k ≤ n → k < j → k < length (digitsOf j n)
+unfolding tens
+digits-from zero k n l h = absurd (omega arith)
+digits-from (suc j) zero n l h = digits-some j n
+digits-from (suc j) (suc k) n l h =
+    omega (arith, count-more j n (omega (arith, tens-some k)), digits-from j k (n / 10) (omega arith) (omega arith))

@@ -7,16 +7,27 @@ use native.Mathlib.Omega.{arith}
 use native.Mathlib.Numerals.{add-one}
 use lib.Dec.{leb}
 use borrow.Author.Tests.{leb-true, leb-false}
-use lib.ListN.{length, take, drop, getD}
-use lib.Seq.{drop-cons, take-suc, take-all}
+use lib.ListN.{length, take, drop, getD, set, length-take, drop-of-length-le}
+use lib.Seq.{sets, drop-cons, take-suc, take-all}
 use Rattle.parts.proofs.Picks.{pick-case}
 use Rattle.parts.proofs.Bools.{and-right}
+use Rattle.parts.proofs.Lists.{sets-append}
 use Rattle.text.specs.Hex.{isHex, hexValue, allHex, hexByte, hexBytes, hexDigit, hexText}
 
 -- ---- digits read
-pub all-hex-step : (s : List ℕ) (i : ℕ) → i < length s → allHex (drop i s) ≡ (isHex (getD s i 0) && allHex (drop (i + 1) s))
+all-hex-step : (s : List ℕ) (i : ℕ) → i < length s → allHex (drop i s) ≡ (isHex (getD s i 0) && allHex (drop (i + 1) s))
 unfolding allHex
 all-hex-step s i h = rw (drop-cons s i 0 h, add-one i)
+
+-- a character more, after those that were tested
+pub all-hex-more : (b : Bool) (s : List ℕ) (i : ℕ) → i < length s → (b && isHex (getD s i 0) && allHex (drop (i + 1) s)) ≡ (b && allHex (drop i s))
+all-hex-more true s i h = sym (all-hex-step s i h)
+all-hex-more false s i h = refl
+
+pub all-hex-end : (b : Bool) (s : List ℕ) (i : ℕ) → length s ≤ i → (b && allHex (drop i s)) ≡ b
+unfolding allHex
+all-hex-end true s i h = ap allHex (drop-of-length-le s h)
+all-hex-end false s i h = refl
 
 -- a digit's value is below 16
 pub value-small : (x : ℕ) → hexValue x < 16
@@ -64,6 +75,18 @@ pub hex-text-more : (s : List ℕ) (i : ℕ) → i < length s → hexText (take 
 hex-text-more s i h =
     sym (hex-text-append (take i s) (getD s i 0 ∷ []))
     ∙ ap hexText (sym (take-suc s i 0 h) ∙ ap (λ (n : ℕ). take n s) (sym (add-one i)))
+
+pub hex-text-stored : (o s : List ℕ) (at i : ℕ) → i < length s
+    → set (set (sets o at (hexText (take i s))) (at + 2 * i) (hexDigit (getD s i 0 / 16))) (at + 2 * i + 1) (hexDigit (getD s i 0 % 16)) ≡ sets o at (hexText (take (i + 1) s))
+unfolding hexText
+hex-text-stored o s at i h =
+    let p = hexText (take i s) in
+    let b = sets o at p in
+    let e : at + 2 * i ≡ at + length p = omega (arith, length-hex-text (take i s), length-take i s) in
+    ap (λ (k : ℕ). set (set b (at + 2 * i) (hexDigit (getD s i 0 / 16))) k (hexDigit (getD s i 0 % 16))) (add-one (at + 2 * i))
+    ∙ ap (λ (k : ℕ). sets b k (hexText (getD s i 0 ∷ []))) e
+    ∙ sym (sets-append p (hexText (getD s i 0 ∷ [])) o at)
+    ∙ ap (λ (t : List ℕ). sets o at t) (hex-text-more s i h)
 
 -- a list has no more bytes than its length
 clip : (n : ℕ) (l : List ℕ) (b : Bool) → leb n (length l) ≡ b → take (min n (length l)) l ≡ take n l

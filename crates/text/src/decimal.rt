@@ -6,21 +6,24 @@ ghost use Rattle.text.specs.Decimal.{decimal};
 ghost use Rattle.text.specs.Place.{stored, textAt};
 use crate::place;
 
-// How many decimal digits a number has.
+// How many decimal digits a number has: k where it is below the power k of ten. Nineteen powers fit in 64 bits.
 fn digit_count(n: u64) -> usize
     ensures { λ r. ⌜ r ≡ length (decimal n) ⌝ }
     ensures { λ r. ⌜ r ≤ 20 ⌝ }
 {
     let mut k = 1;
-    let mut left = n;
-    while k < 20 {
-        if left < 10 {
+    let mut power = 10;
+    while k < 19 {
+        if n < power {
             return k;
         }
-        left /= 10;
+        power *= 10;
         k += 1;
     }
-    k
+    if n < power {
+        return 19;
+    }
+    20
 }
 
 // Stores the decimal digits of a number at a place, the last digit first.

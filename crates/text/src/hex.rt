@@ -1,7 +1,7 @@
 // Hex digits, upper case.
 ghost use mathlib.Core.Path.{_≡_};
 ghost use mathlib.Core.List.{[], _∷_};
-ghost use Prim.Native.Nat.{_/_, _%_, _<_, min};
+ghost use Prim.Native.Nat.{_+_, _*_, _/_, _%_, _≤_, _<_, min};
 ghost use lib.ListN.{length, take};
 ghost use lib.Seq.{sets};
 ghost use Rattle.text.specs.Hex.{isHex, hexValue, allHex, hexByte, hexBytes, hexDigit, hexText};
@@ -15,18 +15,17 @@ fn is_hex(x: u8) -> bool
     ((0x30 <= x) & (x <= 0x39)) | ((0x41 <= x) & (x <= 0x46))
 }
 
-// Whether all of them are.
+// Whether all of them are. It goes to the end even past one that is not, so that the compiler can test many at once.
 pub fn all_hex(s: &[u8]) -> bool
     ensures { λ r. ⌜ r ≡ allHex (now (s .entry)) ⌝ }
 {
+    let mut all = true;
     let mut i = 0;
     while i < s.len() {
-        if !is_hex(s[i]) {
-            return false;
-        }
+        all = all & is_hex(s[i]);
         i += 1;
     }
-    true
+    all
 }
 
 // The value of a digit; any other character counts as 0.
@@ -102,16 +101,45 @@ fn least(a: usize, b: usize) -> usize
     b
 }
 
+// Stores the digits of the first n bytes of s at a place, where there is room for all: no store needs a test, and the
+// compiler can make many at once.
+fn hex_run(text: &mut [u8], at: usize, s: &[u8], n: usize)
+    requires { ⌜ (at + 2 * n ≤ length (now text)) × (n ≤ length (now s)) ⌝ }
+    ensures { λ _. ⌜ now (text .exit) ≡ sets (now (text .entry)) at (hexText (take n (now (s .entry)))) ⌝ }
+{
+    let mut i = 0;
+    while i < n {
+        let x = s[i];
+        text[at + 2 * i] = hex_digit(x / 16);
+        text[at + 2 * i + 1] = hex_digit(x % 16);
+        i += 1;
+    }
+}
+
+// The same whatever room there is, byte by byte.
+fn hex_each(text: &mut [u8], at: usize, s: &[u8], n: usize) -> usize
+    requires { ⌜ n ≤ length (now s) ⌝ }
+    ensures { λ r. ⌜ stored r (now (text .exit)) ≡ textAt (now (text .entry)) at (hexText (take n (now (s .entry)))) ⌝ }
+{
+    let mut to = at;
+    let mut i = 0;
+    while i < n {
+        to = put_byte(text, to, s[i]);
+        i += 1;
+    }
+    to
+}
+
 // Stores the digits of the first n bytes of s at a place.
 pub fn put_hex(text: &mut [u8], at: usize, s: &[u8], n: usize) -> usize
     ensures { λ r. ⌜ stored r (now (text .exit)) ≡ textAt (now (text .entry)) at (hexText (take n (now (s .entry)))) ⌝ }
 {
     let count = least(n, s.len());
-    let mut to = at;
-    let mut i = 0;
-    while i < count {
-        to = put_byte(text, to, s[i]);
-        i += 1;
+    if at <= text.len() {
+        if count <= (text.len() - at) / 2 {
+            hex_run(text, at, s, count);
+            return at + 2 * count;
+        }
     }
-    to
+    hex_each(text, at, s, count)
 }

@@ -3,9 +3,9 @@ use mathlib.Core.Path.{_≡_, refl, sym, ap, _∙_}
 use mathlib.Core.List.{List, []}
 use Prim.Native.Nat.{ℕ, _-_}
 use lib.ListN.{length, take, drop, length-drop}
-use lib.Seq.{take-all}
+use lib.Seq.{sets, take-all}
 use Rattle.crc.specs.Crc.{closed}
-use Rattle.script.specs.Bench.{benchCall, benchOf, lineResult}
+use Rattle.script.specs.Bench.{benchCall, lineResult, closedFrame, benchOf}
 use Rattle.script.specs.Line.{ScriptLine, lineOf, lineBy}
 use Rattle.text.specs.Hex.{hexBytes}
 use Rattle.script.specs.declared.Bench.{Bench}
@@ -54,27 +54,35 @@ put-frame-requires c κs =
     rw e (omega (arith, f, length-drop 2 s))
 
 returns : tie.Need-returns
-unfolding benchOf lineResult lineBy
+unfolding benchOf lineResult lineBy closedFrame
 returns c =
-    let s = c .before .before .before .before .args .s .now in
+    let a = c .before .before .before .before .args in
+    let s = a .s .now in
+    let f = a .frame .now in
     let e = said s _ _ (c .before .before .read .ensures) (c .enum-told .given .1) in
-    (λ b m o. bad-call b m o 0 [] ∙ ap (λ (x : ScriptLine). lineResult x b m o) (sym e), omega arith)
+    (λ b m o. bad-call b m o 0 [] ∙ ap (λ (x : ScriptLine). lineResult x b m o) (sym e), (omega arith, ap (λ (x : ScriptLine). sets f 0 (closedFrame x)) (sym e)))
 
 returns-2 : tie.Need-returns-2
-unfolding benchOf lineResult lineBy
+unfolding benchOf lineResult lineBy closedFrame
 returns-2 c =
-    let s = c .before .before .before .before .before .args .s .now in
+    let a = c .before .before .before .before .before .args in
+    let s = a .s .now in
+    let f = a .frame .now in
     let e = said s _ _ (c .before .before .before .read .ensures) (c .before .code .given .1) in
-    (λ b m o. ap (λ (x : ScriptLine). lineResult x b m o) (sym e), omega arith)
+    (λ b m o. ap (λ (x : ScriptLine). lineResult x b m o) (sym e), (omega arith, ap (λ (x : ScriptLine). sets f 0 (closedFrame x)) (sym e)))
 
 returns-3 : tie.Need-returns-3
-unfolding benchOf lineResult lineBy
+unfolding benchOf lineResult lineBy closedFrame
 returns-3 c =
-    let s = c .before .before .before .before .before .before .before .args .s .now in
+    let a = c .before .before .before .before .before .before .before .args in
+    let s = a .s .now in
     let e = said s _ _ (c .before .before .before .before .before .read .ensures) (c .before .before .before .enum-told2 .given .1) in
     let t : take (length s - 2) (drop 2 s) ≡ drop 2 s = take-all (length s - 2) (drop 2 s) (omega (arith, length-drop 2 s)) in
     let f : take (c .put-frame .result) (c .put-frame .last .1 .0) ≡ closed (hexBytes (drop 2 s)) = rw t at (c .put-frame .ensures .0) in
-    (λ b m o. ap (λ (x : List ℕ). benchCall b m o 8 0 x) f ∙ ap (λ (x : ScriptLine). lineResult x b m o) (sym e), c .put-frame .ensures .1)
+    let g : c .put-frame .last .1 .0 ≡ sets (a .frame .now) 0 (closed (hexBytes (drop 2 s))) = rw t at (c .put-frame .ensures .1 .1) in (
+      λ b m o. ap (λ (x : List ℕ). benchCall b m o 8 0 x) f ∙ ap (λ (x : ScriptLine). lineResult x b m o) (sym e),
+      (c .put-frame .ensures .1 .0, g ∙ ap (λ (x : ScriptLine). sets (a .frame .now) 0 (closedFrame x)) (sym e)),
+    )
 
 pub arguments-of-spec : {M : Type 1} → statement M
 arguments-of-spec =

@@ -38,7 +38,7 @@ returns c =
     ∙ g .ensures .0 (a .b) (a .m .now) (a .reply .now) in
     let e : lineBuffers (o .result .bench) (o .result .length) (a .m .now) (a .reply .now) (o .last .1 .1 .0) ≡ putLine (benchOf (a .b) (a .m .now) (a .reply .now) (a .s .now)) (a .text .now) =
     o .ensures (a .m .now) ∙ ap (λ (x : LineResult). putLine x (a .text .now)) p in
-    (e, omega (arith, ap (λ (x : LineBuffers). x .length) e, text-fits (benchState (a .b) (a .m .now) (a .reply .now)) (a .s .now)))
+    (e, (omega (arith, ap (λ (x : LineBuffers). x .length) e, text-fits (benchState (a .b) (a .m .now) (a .reply .now)) (a .s .now)), g .ensures .1 .1))
 
 sub-call : tie.Need-sub-call
 sub-call c = search needs
@@ -47,7 +47,7 @@ part-call-start : tie.Need-part-call-start
 part-call-start c = search needs
 
 part-call-end : tie.Need-part-call-end
-part-call-end c = c .before .before .before .before .before .arguments-of .ensures .1
+part-call-end c = c .before .before .before .before .before .before .arguments-of .ensures .1 .0
 
 call-requires : tie.Need-call-requires
 call-requires c κs = search needs
@@ -61,16 +61,16 @@ same-length-3 c = search needs
 returns-2 : tie.Need-returns-2
 returns-2 c =
     let o4 = c .before .before .before .before in
-    let g12 = o4 .before .before .before .before .before .before .before .before in
-    let a = g12 .before .before .before .before .before .args in
-    let g = g12 .arguments-of in
+    let g13 = o4 .before .before .before .before .before .before .before .before .before in
+    let a = g13 .before .before .before .before .before .args in
+    let g = g13 .arguments-of in
     let k = g .result in
     let o = o4 .call in
     let e : lineBuffers (o .result .bench) (o .result .length) (o .last .1 .0) (o .last .1 .1 .0) (o .last .1 .1 .1 .1 .1 .1 .0) ≡ putLine (benchOf (a .b) (a .m .now) (a .reply .now) (a .s .now)) (a .text .now) =
     o .ensures
     ∙ ap (λ (n : ℕ). putLine (benchCall (a .b) (a .m .now) (a .reply .now) (k .code) (k .value) (take n (g .last .1 .0))) (a .text .now)) (sub-zero (k .length))
     ∙ ap (λ (p : LineResult). putLine p (a .text .now)) (g .ensures .0 (a .b) (a .m .now) (a .reply .now)) in
-    (e, omega (arith, ap (λ (x : LineBuffers). x .length) e, text-fits (benchState (a .b) (a .m .now) (a .reply .now)) (a .s .now)))
+    (e, (omega (arith, ap (λ (x : LineBuffers). x .length) e, text-fits (benchState (a .b) (a .m .now) (a .reply .now)) (a .s .now)), g .ensures .1 .1))
 
 pub line-spec : {M : Type 1} → statement M
 line-spec =

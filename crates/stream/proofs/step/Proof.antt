@@ -15,11 +15,11 @@ use Rattle.stream.proofs.step.Statement.{statement}
 use Rattle.stream.proofs.step.Tie as tie
 
 abbrev Inv-loop : tie.InvT-loop
-Inv-loop m₀ reply₀ kept₀ have s out₀ bench₀ n₀ from₀ at₀ end₀ m reply kept out bench n from at end =
+Inv-loop m₀ reply₀ kept₀ have s out₀ frame₀ bench₀ n₀ from₀ at₀ end₀ m reply kept out frame bench n from at end =
     Goes (benchState bench₀ m₀ reply₀) (take n₀ kept₀) s out₀ (benchState bench m reply) kept out n from at end
 
 abbrev μ-loop : tie.MeasureT-loop
-μ-loop m₀ reply₀ kept₀ have s out₀ bench₀ n₀ from₀ at₀ end₀ m reply kept out bench n from at end =
+μ-loop m₀ reply₀ kept₀ have s out₀ frame₀ bench₀ n₀ from₀ at₀ end₀ m reply kept out frame bench n from at end =
     length s - end
 
 kept-count-requires : tie.Need-kept-count-requires Inv-loop μ-loop
@@ -51,47 +51,47 @@ sub-loop : tie.Need-sub-loop Inv-loop μ-loop
 sub-loop c = omega (arith, c .loop .inv .fits, c .loop .inv .out-len)
 
 sub-end-line : tie.Need-sub-end-line Inv-loop μ-loop
-sub-end-line c = omega (arith, c .before .before .before .before .loop .inv .next)
+sub-end-line c = omega (arith, c .before .before .before .before .before .loop .inv .next)
 
 part-end-line-start : tie.Need-part-end-line-start Inv-loop μ-loop
-part-end-line-start c = omega (arith, c .before .before .before .before .loop .inv .next)
+part-end-line-start c = omega (arith, c .before .before .before .before .before .loop .inv .next)
 
 part-end-line-end : tie.Need-part-end-line-end Inv-loop μ-loop
-part-end-line-end c = omega (arith, c .before .before .before .before .loop .inv .within)
+part-end-line-end c = omega (arith, c .before .before .before .before .before .loop .inv .within)
 
 sub-end-line-2 : tie.Need-sub-end-line-2 Inv-loop μ-loop
-sub-end-line-2 c = omega (arith, c .before .before .before .before .before .loop .inv .fits, c .before .before .before .before .before .loop .inv .out-len)
+sub-end-line-2 c = omega (arith, c .before .before .before .before .before .before .loop .inv .fits, c .before .before .before .before .before .before .loop .inv .out-len)
 
 part-end-line-start-2 : tie.Need-part-end-line-start-2 Inv-loop μ-loop
-part-end-line-start-2 c = omega (arith, c .before .before .before .before .before .loop .inv .fits, c .before .before .before .before .before .loop .inv .out-len)
+part-end-line-start-2 c = omega (arith, c .before .before .before .before .before .before .loop .inv .fits, c .before .before .before .before .before .before .loop .inv .out-len)
 
 part-end-line-end-2 : tie.Need-part-end-line-end-2 Inv-loop μ-loop
 part-end-line-end-2 c = omega arith
 
 end-line-requires : tie.Need-end-line-requires Inv-loop μ-loop
-end-line-requires c κs = c .before .before .before .before .before .before .loop .inv .few
+end-line-requires c κs = c .before .before .before .before .before .before .before .loop .inv .few
 
 add-at : tie.Need-add-at Inv-loop μ-loop
-add-at c = omega (arith, c .before .before .before .before .end-line .ensures .1, roomy (c .before .before .before .before .before .before .before .before .before .before), c .before .before .before .before .before .before .before .before .before .before .before .loop .inv .out-len, c .before .before .before .before .before .before .before .before .before .before .before .loop .inv .fits, c .before .before .before .before .before .before .before .before .before .before .before .before .before .before .before .before .before .before .good .1 .1 .1 .1 .1 .1 .0 .0)
+add-at c = omega (arith, c .before .before .before .before .end-line .ensures .1, roomy (c .before .before .before .before .before .before .before .before .before .before .before), c .before .before .before .before .before .before .before .before .before .before .before .before .loop .inv .out-len, c .before .before .before .before .before .before .before .before .before .before .before .before .loop .inv .fits, c .before .before .before .before .before .before .before .before .before .before .before .before .before .before .before .before .before .before .before .good .1 .1 .1 .1 .1 .1 .0 .0)
 
 add-from : tie.Need-add-from Inv-loop μ-loop
-add-from c = omega (arith, less (c .before .before .before .before .before .before .before .before .before .before), c .before .before .before .before .before .before .before .before .before .before .before .before .before .before .before .before .before .before .good .1 .1 .1 .1 .1 .0 .0)
+add-from c = omega (arith, less (c .before .before .before .before .before .before .before .before .before .before .before), c .before .before .before .before .before .before .before .before .before .before .before .before .before .before .before .before .before .before .before .good .1 .1 .1 .1 .1 .0 .0)
 
 line-end-requires-2 : tie.Need-line-end-requires-2 Inv-loop μ-loop
 line-end-requires-2 c κs = search needs
 
 loop-less : tie.Need-loop-less Inv-loop μ-loop
-loop-less c = omega (arith, less (c .before .before .before .before .before .before .before .before .before .before .before), c .line-end2 .ensures)
+loop-less c = omega (arith, less (c .before .before .before .before .before .before .before .before .before .before .before .before), c .line-end2 .ensures)
 
 loop-again : tie.Need-loop-again Inv-loop μ-loop
 loop-again c =
-    let a = c .before .before .before .before .before .before .before .before .before .before .before .before .before .before .before .before .before .before .before .args in
-    let n = c .before .before .before .before .before .before .before .before .before .before .before .before .before .before .kept-count in
-    let l = c .before .before .before .before .before .before .before .before .before .before .before .before .loop in
+    let a = c .before .before .before .before .before .before .before .before .before .before .before .before .before .before .before .before .before .before .before .before .args in
+    let n = c .before .before .before .before .before .before .before .before .before .before .before .before .before .before .before .kept-count in
+    let l = c .before .before .before .before .before .before .before .before .before .before .before .before .before .loop in
     let o = c .before .before .before .before .before .end-line in
     turns (benchState (a .b) (a .m .now) (a .reply .now)) (take (n .result) (a .kept .now)) (a .s .now) (a .out .now) (benchState (l .bench) (l .m) (l .reply)) (l .kept) (l .out) (l .n) (l .from) (l .at) (l .end) (l .inv)
-    (o .result .bench) (o .result .length) (o .last .1 .0) (o .last .1 .1 .0) (o .last .1 .1 .1 .0) (o .last .1 .1 .1 .1 .1 .1 .0) (c .line-end2 .result)
-    (less (c .before .before .before .before .before .before .before .before .before .before .before)) (roomy (c .before .before .before .before .before .before .before .before .before .before .before)) (o .ensures .0) (o .ensures .1) (o .kept .1 .1 .1 .1 .1 .1 .0) (c .line-end2 .ensures)
+    (o .result .bench) (o .result .length) (o .last .1 .0) (o .last .1 .1 .0) (o .last .1 .1 .1 .0) (o .last .1 .1 .1 .1 .1 .1 .1 .0) (c .line-end2 .result)
+    (less (c .before .before .before .before .before .before .before .before .before .before .before .before)) (roomy (c .before .before .before .before .before .before .before .before .before .before .before .before)) (o .ensures .0) (o .ensures .1) (o .kept .1 .1 .1 .1 .1 .1 .1 .0) (c .line-end2 .ensures)
 
 sub-hold : tie.Need-sub-hold Inv-loop μ-loop
 sub-hold c = omega (arith, c .before .before .loop .inv .next)

@@ -1,83 +1,74 @@
 use borrow.Author.Needs.{needs}
 use native.Mathlib.Omega.{arith}
 use mathlib.Core.Path.{_≡_, refl, ap, _∙_}
-use mathlib.Core.List.{List, [], _∷_}
-use Prim.Native.Nat.{ℕ, _+_, _-_, _≤_, min}
-use lib.ListN.{length, take, getD}
+use mathlib.Core.List.{List}
+use Prim.Native.Nat.{ℕ, _+_, _*_, _/_, _-_, min}
+use lib.ListN.{length, take, length-take}
+use lib.Seq.{sets}
 use Rattle.text.specs.Hex.{hexText}
 use Rattle.text.specs.Place.{stored, lastPlace, textAt}
-use Rattle.text.proofs.HexLaws.{hex-text-more, take-clip}
-use Rattle.text.proofs.PlaceLaws.{behind, same-room}
+use Rattle.text.proofs.HexLaws.{length-hex-text, take-clip}
 use Rattle.text.proofs.hex.put_hex.Statement.{statement}
 use Rattle.text.proofs.hex.put_hex.Tie as tie
 
-abbrev Inv-loop : tie.InvT-loop
-Inv-loop text₀ at s n count to₀ i₀ text to i = (stored to text ≡ textAt text₀ at (hexText (take i s))) × (i ≤ count)
-
-abbrev μ-loop : tie.MeasureT-loop
-μ-loop text₀ at s n count to₀ i₀ text to i = count - i
-
-least-requires : tie.Need-least-requires Inv-loop μ-loop
+least-requires : tie.Need-least-requires
 least-requires c κs = search needs
 
-loop-holds : tie.Need-loop-holds Inv-loop μ-loop
-unfolding hexText
-loop-holds c =
-    let a = c .before .before .before .args in
-    let e : a .at ≡ min (a .at + 0) lastPlace = omega arith in
-    (ap (λ (n : ℕ). stored n (a .text .now)) e, omega arith)
+sub-if2 : tie.Need-sub-if2
+sub-if2 c = search needs
 
-shared-slice-read-put-byte : tie.Need-shared-slice-read-put-byte Inv-loop μ-loop
-shared-slice-read-put-byte c = omega arith
+hex-run-requires : tie.Need-hex-run-requires
+hex-run-requires c κs = omega (arith, c .before .before .before .least .ensures)
 
-put-byte-requires : tie.Need-put-byte-requires Inv-loop μ-loop
-put-byte-requires c κs = search needs
+mul-result : tie.Need-mul-result
+mul-result c = omega arith
 
-add-i : tie.Need-add-i Inv-loop μ-loop
-add-i c = omega arith
+add-result : tie.Need-add-result
+add-result c = omega arith
 
-loop-less : tie.Need-loop-less Inv-loop μ-loop
-loop-less c = omega arith
+same-length : tie.Need-same-length
+same-length c = search needs
 
-loop-again : tie.Need-loop-again Inv-loop μ-loop
-loop-again c =
-    let p = c .before .before .put-byte in
-    let l = c .before .before .before .before .before .before .loop in
-    let a = c .before .before .before .before .before .before .before .before .before .before .args in
-    let s = a .s .now in (
-      p .ensures
-          ∙ behind (a .text .now) (l .text) (hexText (take (l .i) s)) (hexText (getD s (l .i) 0 ∷ [])) (a .at) (l .to) (omega arith) (l .inv .0)
-          ∙ ap (λ (t : List ℕ). textAt (a .text .now) (a .at) t) (hex-text-more s (l .i) (omega arith)),
-      omega arith,
-    )
+-- as many bytes as s has are all of them
+clipped : (s : List ℕ) (n k : ℕ) → k ≡ min n (length s) → take k s ≡ take n s
+clipped s n k e = ap (λ (i : ℕ). take i s) e ∙ take-clip n (length s) s refl
 
-same-length : tie.Need-same-length Inv-loop μ-loop
-same-length c =
-    let l = c .before .loop in
-    let a = c .before .before .before .before .before .args in
-    same-room (a .text .now) (l .text) (hexText (take (l .i) (a .s .now))) (a .at) (l .to) (l .inv .0)
-
-returns : tie.Need-returns Inv-loop μ-loop
+returns : tie.Need-returns
 returns c =
-    let l = c .before .loop in
-    let a = c .before .before .before .before .before .args in
+    let r = c .before .before .hex-run in
+    let g = c .before .before .before .before .before .before .least in
+    let k = g .result in
+    let a = c .before .before .before .before .before .before .before .before .before .args in
     let s = a .s .now in
-    let k : l .i ≡ min (a .n) (length s) = omega (arith, c .before .before .least .ensures) in
-    let e : take (l .i) s ≡ take (a .n) s = ap (λ (i : ℕ). take i s) k ∙ take-clip (a .n) (length s) s refl in
-    l .inv .0 ∙ ap (λ (t : List ℕ). textAt (a .text .now) (a .at) (hexText t)) e
+    let o = a .text .now in
+    let e : a .at + 2 * k ≡ min (a .at + length (hexText (take k s))) lastPlace = omega (arith, length-hex-text (take k s), length-take k s, g .ensures) in
+    ap (λ (b : List ℕ). stored (a .at + 2 * k) b) (r .ensures)
+    ∙ ap (λ (i : ℕ). stored i (sets o (a .at) (hexText (take k s)))) e
+    ∙ ap (λ (t : List ℕ). textAt o (a .at) (hexText t)) (clipped s (a .n) k (g .ensures))
+
+hex-each-requires : tie.Need-hex-each-requires
+hex-each-requires c κs = omega (arith, c .before .before .least .ensures)
+
+same-length-2 : tie.Need-same-length-2
+same-length-2 c = search needs
+
+returns-2 : tie.Need-returns-2
+returns-2 c =
+    let g = c .before .before .before .before .before .least in
+    let a = c .before .before .before .before .before .before .before .before .args in
+    c .before .before .hex-each .ensures ∙ ap (λ (t : List ℕ). textAt (a .text .now) (a .at) (hexText t)) (clipped (a .s .now) (a .n) (g .result) (g .ensures))
 
 pub put-hex-spec : {M : Type 1} → statement M
 put-hex-spec =
     tie.close
     (tie.spec
-    Inv-loop
-    μ-loop
     least-requires
-    loop-holds
-    shared-slice-read-put-byte
-    put-byte-requires
-    add-i
-    loop-less
-    loop-again
+    sub-if2
+    hex-run-requires
+    mul-result
+    add-result
     same-length
-    returns)
+    returns
+    hex-each-requires
+    same-length-2
+    returns-2)

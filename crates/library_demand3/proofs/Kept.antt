@@ -14,6 +14,7 @@ use Rattle.parts.proofs.Picks.{pick-case}
 use Rattle.tag.specs.declared.Tag.{Tag}
 use Rattle.tag.specs.Layout.{memoryBytes, replyBytes}
 use Rattle.tag.specs.Parts.{wireSide}
+use Rattle.reply.specs.Outcome.{radioSide}
 use Rattle.model.specs.declared.Signal.{Signal}
 use Rattle.model.specs.declared.Signal.the-variants.{Wire, Field, Frame}
 use Rattle.model.specs.Signals.{signalInRange, signalBy}
@@ -25,7 +26,6 @@ use Rattle.state.specs.Claims.{Fits}
 use Rattle.wire_claims.specs.Claims.{sentByte}
 use Rattle.wire_claims.proofs.Line.{keeps-counter}
 use Rattle.wire_claims.proofs.Bytes.{keeps-bytes}
-use Rattle.reply.specs.Outcome.{radioSide}
 use Rattle.library_demand3.specs.Kept.{KeepsFits}
 use Rattle.library_demand3.proofs.WireKept.{highByteOf, wire-sound}
 use Rattle.library_demand3.proofs.RadioKept.{radio-sound}

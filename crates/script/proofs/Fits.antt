@@ -11,10 +11,14 @@ use lib.Seq.{take-all}
 use Rattle.parts.proofs.Bools.{and-left, and-right}
 use Rattle.parts.proofs.Picks.{pick-case, pick-true}
 use Rattle.tag.specs.declared.Tag.{Tag}
+use Rattle.tag.specs.Parts.{wireSide}
 use Rattle.ranges.specs.Ranges.{registersInRange, airInRange, mailboxInRange, suppliedInRange, hostInRange, coreInRange, wireInRange, inRange}
+use Rattle.page.specs.PageRange.{busInRange}
 use Rattle.signal.specs.declared.WireAnswer.{WireAnswer}
 use Rattle.signal.specs.declared.WireAnswer.the-variants.{Nothing as WireNothing, Ack as WireAck, NoAck as WireNoAck, Byte as WireByte}
+use Rattle.wire.specs.Wire.{signalOf}
 use Rattle.reply.specs.Reply.{ReplyBody, nothing, body, answerOf}
+use Rattle.reply.specs.Outcome.{radioSide}
 use Rattle.radio.specs.Claims.{replySize}
 use Rattle.radio.specs.Radio.{radioOf}
 use Rattle.radio.proofs.Room.{replies-fit}
@@ -28,10 +32,6 @@ use Rattle.text.specs.Hex.{hexText}
 use Rattle.text.specs.Decimal.{decimal}
 use Rattle.text.proofs.HexLaws.{length-hex-text}
 use Rattle.text.proofs.DecimalLaws.{digits-most}
-use Rattle.tag.specs.Parts.{wireSide}
-use Rattle.page.specs.PageRange.{busInRange}
-use Rattle.wire.specs.Wire.{signalOf}
-use Rattle.reply.specs.Outcome.{radioSide}
 use Rattle.script.specs.declared.Bench.{Bench}
 use Rattle.script.specs.Line.{ScriptLine, badLine, signalLine, frameLine, longest, lineOf}
 use Rattle.script.specs.Text.{badText, answerText, lineText}

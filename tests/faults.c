@@ -29,24 +29,23 @@ static size_t allowed(size_t count, size_t most, size_t call, size_t failing)
     return most && most < count ? most : count;
 }
 
+/* Lowers the count of a call on the descriptor `faulty`, and says whether the call fails. Other calls are left alone. */
+static int fails(int fd, int faulty, size_t *count, size_t *calls, const char *most, const char *failing)
+{
+    if (fd != faulty || *count == 0)
+        return 0;
+    *count = allowed(*count, setting(most), ++*calls, setting(failing));
+    return *count == 0;
+}
+
 ssize_t read(int fd, void *bytes, size_t count)
 {
     static size_t calls;
-    if (fd == 0 && count > 0) {
-        count = allowed(count, setting("SHORT_READS"), ++calls, setting("FAILING_READ"));
-        if (count == 0)
-            return -1;
-    }
-    return syscall(SYS_read, fd, bytes, count);
+    return fails(fd, 0, &count, &calls, "SHORT_READS", "FAILING_READ") ? -1 : syscall(SYS_read, fd, bytes, count);
 }
 
 ssize_t write(int fd, const void *bytes, size_t count)
 {
     static size_t calls;
-    if (fd == 1 && count > 0) {
-        count = allowed(count, setting("SHORT_WRITES"), ++calls, setting("FAILING_WRITE"));
-        if (count == 0)
-            return -1;
-    }
-    return syscall(SYS_write, fd, bytes, count);
+    return fails(fd, 1, &count, &calls, "SHORT_WRITES", "FAILING_WRITE") ? -1 : syscall(SYS_write, fd, bytes, count);
 }

@@ -158,6 +158,24 @@ static void start(void)
     step("Start", ST25DV_START, 0, ST25DV_NONE);
 }
 
+/* A read leg up to its select. */
+static void select_for_reading(uint8_t select, uint32_t space)
+{
+    start();
+    set(ST25DV_AT_TRANSFER_OPEN, 0);
+    set(ST25DV_AT_BUS, ST25DV_BUS_READ_LEG);
+    set(ST25DV_AT_SPACE, space);
+    step("select for reading", ST25DV_SEND, select, ST25DV_ACK);
+}
+
+/* A read leg of user space in the transfer that is open. */
+static void read_on(void)
+{
+    set(ST25DV_AT_SPACE, 0);
+    set(ST25DV_AT_TRANSFER_OPEN, 1);
+    select_for_reading(0xA7, ST25DV_SPACE_USER);
+}
+
 /* A write leg up to its address. */
 static void address(uint8_t select, uint32_t space, uint32_t at)
 {
@@ -242,23 +260,14 @@ static void write_register(uint32_t at, size_t place, uint8_t value)
 static void reads(void)
 {
     powered();
-    start();
-    set(ST25DV_AT_BUS, ST25DV_BUS_READ_LEG);
-    set(ST25DV_AT_SPACE, ST25DV_SPACE_SYSTEM);
-    step("select for reading", ST25DV_SEND, 0xAF, ST25DV_ACK);
+    select_for_reading(0xAF, ST25DV_SPACE_SYSTEM);
     set_word(ST25DV_AT_COUNTER, 1);
     step("fetch with Ack", ST25DV_FETCH, 1, ST25DV_BYTE + 0xFF);
     set(ST25DV_AT_HOST_NOACKED, 1);
     set_word(ST25DV_AT_COUNTER, 2);
     step("fetch with NoAck", ST25DV_FETCH, 0, ST25DV_BYTE + 0xFF);
     set(ST25DV_AT_HOST_NOACKED, 0);
-    set(ST25DV_AT_SPACE, 0);
-    set(ST25DV_AT_TRANSFER_OPEN, 1);
-    start();
-    set(ST25DV_AT_TRANSFER_OPEN, 0);
-    set(ST25DV_AT_BUS, ST25DV_BUS_READ_LEG);
-    set(ST25DV_AT_SPACE, ST25DV_SPACE_USER);
-    step("select for reading", ST25DV_SEND, 0xA7, ST25DV_ACK);
+    read_on();
     set_word(ST25DV_AT_COUNTER, 3);
     step("fetch with Ack", ST25DV_FETCH, 1, ST25DV_BYTE);
     stop("Stop of a read leg");
@@ -363,13 +372,7 @@ static void till_message(void)
     set_word(ST25DV_AT_MESSAGE_LENGTH, 3);
     ask("Write Message", put, sizeof put, ST25DV_REPLY + 3, 0x00);
     user(0x200A);
-    set(ST25DV_AT_SPACE, 0);
-    set(ST25DV_AT_TRANSFER_OPEN, 1);
-    start();
-    set(ST25DV_AT_TRANSFER_OPEN, 0);
-    set(ST25DV_AT_BUS, ST25DV_BUS_READ_LEG);
-    set(ST25DV_AT_SPACE, ST25DV_SPACE_USER);
-    step("select for reading", ST25DV_SEND, 0xA7, ST25DV_ACK);
+    read_on();
     set(ST25DV_AT_LAST_FETCHED, 1);
     set_word(ST25DV_AT_COUNTER, 0x200B);
     step("last byte of the message", ST25DV_FETCH, 1, ST25DV_BYTE + 0xC3);
@@ -475,26 +478,35 @@ static void refused_signals(void)
     }
 }
 
+/* The answer to a set of faults, bit k the k-th in the order in which they are judged; ST25DV_NONE if it has none. */
+static uint32_t first_fault(unsigned faults, const uint32_t *order, size_t n)
+{
+    size_t k;
+    for (k = 0; k < n; k++)
+        if (faults >> k & 1)
+            return order[k];
+    return ST25DV_NONE;
+}
+
 /* Every set of faults, bit k the k-th in the order in which they are judged: the first is the answer. */
 static void refused_steps(void)
 {
     static const uint32_t order[] = {
         ST25DV_REFUSED_MEMORY_LENGTH, ST25DV_REFUSED_REPLY_SHORT, ST25DV_REFUSED_SIGNAL_UNKNOWN, ST25DV_REFUSED_STATE_LENGTH, ST25DV_REFUSED_OUT_OF_RANGE,
     };
-    unsigned faults, k;
+    unsigned faults;
     for (faults = 1; faults < 64; faults++) {
         size_t more = faults >> 5; /* a length too long or too short */
+        uint32_t first = first_fault(faults, order, COUNT(order));
         powered();
         if (faults & 16)
             now.state[ST25DV_AT_BUS] = due.state[ST25DV_AT_BUS] = ST25DV_BUS_DATA_LEG + 1;
-        for (k = 0; k < COUNT(order) && !(faults >> k & 1); k++)
-            ;
-        if (k == COUNT(order))
+        if (first == ST25DV_NONE)
             continue;
         agree("step with faults", call(faults & 8 ? ST25DV_STATE_BYTES - 1 + 2 * more : ST25DV_STATE_BYTES,
                                        faults & 1 ? ST25DV_MEMORY_BYTES - 1 + 2 * more : ST25DV_MEMORY_BYTES,
                                        faults & 2 ? ST25DV_REPLY_BYTES - 1 : ST25DV_REPLY_BYTES + more,
-                                       ST25DV_FETCH, faults & 4 ? 2 : 1, NULL, 0), order[k]);
+                                       ST25DV_FETCH, faults & 4 ? 2 : 1, NULL, 0), first);
         compare("step with faults");
     }
 }
@@ -502,17 +514,16 @@ static void refused_steps(void)
 static void refused_fresh(void)
 {
     static const uint32_t order[] = {ST25DV_REFUSED_MEMORY_LENGTH, ST25DV_REFUSED_STATE_LENGTH, ST25DV_REFUSED_UID_LENGTH};
-    unsigned faults, k;
+    unsigned faults;
     powered();
     for (faults = 1; faults < 16; faults++) {
         size_t more = faults >> 3;
-        for (k = 0; k < COUNT(order) && !(faults >> k & 1); k++)
-            ;
-        if (k == COUNT(order))
+        uint32_t first = first_fault(faults, order, COUNT(order));
+        if (first == ST25DV_NONE)
             continue;
         agree("fresh with faults", st25dv_fresh(uid, faults & 4 ? ST25DV_UID_BYTES - 1 + 2 * more : ST25DV_UID_BYTES,
                                                 now.memory, faults & 1 ? ST25DV_MEMORY_BYTES - 1 + 2 * more : ST25DV_MEMORY_BYTES,
-                                                now.state, faults & 2 ? ST25DV_STATE_BYTES - 1 + 2 * more : ST25DV_STATE_BYTES), order[k]);
+                                                now.state, faults & 2 ? ST25DV_STATE_BYTES - 1 + 2 * more : ST25DV_STATE_BYTES), first);
         compare("fresh with faults");
     }
 }

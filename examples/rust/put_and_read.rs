@@ -1,39 +1,9 @@
 // A host board puts a day's rate into the mailbox over the wire, and a till reads it by radio.
 use std::process::exit;
 
-// As include/st25dv.h has them.
-const STATE_BYTES: usize = 83;
-const MEMORY_BYTES: usize = 1024;
-const REPLY_BYTES: usize = 643;
-const VCC: u32 = 1;
-const FIELD: u32 = 2;
-const START: u32 = 3;
-const SEND: u32 = 4;
-const STOP: u32 = 6;
-const PROGRAMMING_END: u32 = 7;
-const FRAME: u32 = 8;
-const NONE: u32 = 0x100;
-const ACK: u32 = 0x101;
-const REPLY: u32 = 0x1000;
-const AT_HOST_PUT: usize = 29;
-
-#[link(name = "capi", kind = "static")]
-extern "C" {
-    fn st25dv_fresh(uid: *const u8, uid_bytes: usize, memory: *mut u8, memory_bytes: usize, state: *mut u8, state_bytes: usize) -> u32;
-    fn st25dv_step(
-        state: *mut u8,
-        state_bytes: usize,
-        memory: *mut u8,
-        memory_bytes: usize,
-        reply: *mut u8,
-        reply_bytes: usize,
-        code: u32,
-        value: u32,
-        frame: *const u8,
-        frame_bytes: usize,
-    ) -> u32;
-    fn st25dv_crc(bytes: *const u8, count: usize) -> u16;
-}
+#[path = "../../include/st25dv.rs"]
+mod st25dv;
+use st25dv::*;
 
 struct Tag {
     state: [u8; STATE_BYTES],

@@ -168,16 +168,25 @@ impl Bench {
     }
 }
 
-/// The whole program: signals in, answers out.
-pub fn run(input: impl Read, output: impl Write) -> Result<()> {
+/// Writes what `answer` writes for each line, behind the line's number.
+pub fn answer_lines<const N: usize, W: Write>(
+    input: impl Read,
+    output: W,
+    mut answer: impl FnMut(Option<&[u8]>, &mut BufWriter<W>) -> Result<()>,
+) -> Result<()> {
     let mut output = BufWriter::new(output);
-    let mut bench = Bench::fresh();
     let mut number: u64 = 0;
-    each_line::<LONGEST_LINE>(input, |line| {
+    each_line::<N>(input, |line| {
         number += 1;
         write!(output, "{number}\t")?;
-        bench.answer(line, &mut output)?;
+        answer(line, &mut output)?;
         output.write_all(b"\n")
     })?;
     output.flush()
+}
+
+/// The whole program: signals in, answers out.
+pub fn run<W: Write>(input: impl Read, output: W) -> Result<()> {
+    let mut bench = Bench::fresh();
+    answer_lines::<LONGEST_LINE, W>(input, output, |line, output| bench.answer(line, output))
 }

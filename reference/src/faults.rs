@@ -2,7 +2,7 @@
 
 use crate::dice::Dice;
 use crate::model::{self, Refusal};
-use crate::state::{REFUSED_STATE_LENGTH, REFUSED_UID_LENGTH, STATE_SIZE};
+use crate::state::{at, REFUSED_STATE_LENGTH, REFUSED_UID_LENGTH, STATE_SIZE};
 use crate::tag::{MEMORY_SIZE, PAGE_PLACE, REPLY_SIZE};
 
 /// What a call is lent and may change.
@@ -117,18 +117,18 @@ fn unknown_code(dice: &mut Dice) -> u32 {
 /// Bytes that are no state, or one that breaks a range whatever else it holds.
 fn break_state(dice: &mut Dice, state: &mut [u8]) {
     let (place, least) = dice.pick(&[
-        (0, 2),     // field
-        (1, 3),     // radio state
-        (2, 5),     // radio session
-        (3, 2),     // VCC
-        (8, 6),     // bus
-        (9, 2),     // space
-        (11, 2),    // last byte fetched
-        (17, 0x10), // RFA1SS
-        (22, 0x10), // ENDA3
-        (27, 2),    // LOCK_CFG
-        (28, 2),    // MB_EN
-        (34, 2),    // message length, high byte
+        (at::FIELD, 2),
+        (at::RADIO_STATE, 3),
+        (at::RADIO_SESSION, 5),
+        (at::VCC, 2),
+        (at::BUS, 6),
+        (at::SPACE, 2),
+        (at::LAST_FETCHED, 2),
+        (at::RFA1SS, 0x10),
+        (at::ENDA1 + 4, 0x10), // ENDA3
+        (at::LOCK_CFG, 2),
+        (at::MB_EN, 2),
+        (at::MESSAGE_LENGTH + 1, 2), // its high byte
     ]);
     let over = dice.below(256 - least as usize) as u8;
     if let Some(byte) = state.get_mut(place) {

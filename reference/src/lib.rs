@@ -5,6 +5,7 @@ pub mod bench;
 pub mod crc;
 pub mod cut;
 pub mod dice;
+pub mod examples;
 pub mod faults;
 pub mod feed;
 #[cfg(feature = "library")]

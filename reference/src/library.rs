@@ -1,31 +1,7 @@
-//! The proved library, as include/st25dv.h declares it.
+//! The proved library, over slices.
 
-mod linked {
-    #[link(name = "capi", kind = "static")]
-    extern "C" {
-        pub fn st25dv_fresh(
-            uid: *const u8,
-            uid_bytes: usize,
-            memory: *mut u8,
-            memory_bytes: usize,
-            state: *mut u8,
-            state_bytes: usize,
-        ) -> u32;
-        pub fn st25dv_step(
-            state: *mut u8,
-            state_bytes: usize,
-            memory: *mut u8,
-            memory_bytes: usize,
-            reply: *mut u8,
-            reply_bytes: usize,
-            code: u32,
-            value: u32,
-            frame: *const u8,
-            frame_bytes: usize,
-        ) -> u32;
-        pub fn st25dv_crc(bytes: *const u8, count: usize) -> u16;
-    }
-}
+#[path = "../../include/st25dv.rs"]
+mod linked;
 
 // In each call the slices are there for the call, never null, and do not overlap.
 

@@ -9,6 +9,36 @@ pub const STATE_SIZE: usize = 83;
 pub const REFUSED_STATE_LENGTH: u32 = 13;
 pub const REFUSED_UID_LENGTH: u32 = 14;
 
+/// The places of the state's bytes. A number of two bytes has its low byte first.
+pub mod at {
+    pub const FIELD: usize = 0;
+    pub const RADIO_STATE: usize = 1;
+    pub const RADIO_SESSION: usize = 2;
+    pub const VCC: usize = 3;
+    pub const I2C_SESSION: usize = 4;
+    pub const PROGRAMMING: usize = 5;
+    pub const COUNTER: usize = 6;
+    pub const BUS: usize = 8;
+    pub const SPACE: usize = 9;
+    pub const LAST_FETCHED: usize = 11;
+    pub const RF_MNGT: usize = 15;
+    pub const RF_MNGT_DYN: usize = 16;
+    /// RFAiSS and ENDAi take turns.
+    pub const RFA1SS: usize = 17;
+    pub const ENDA1: usize = 18;
+    pub const I2CSS: usize = 24;
+    pub const LOCK_CCFILE: usize = 25;
+    pub const MB_MODE: usize = 26;
+    pub const LOCK_CFG: usize = 27;
+    /// The five flags of MB_CTRL_Dyn, from MB_EN on.
+    pub const MB_EN: usize = 28;
+    pub const MESSAGE_LENGTH: usize = 33;
+    pub const I2C_PASSWORD: usize = 35;
+    /// Passwords 0 to 3, eight bytes each.
+    pub const PASSWORD_0: usize = 43;
+    pub const UID: usize = 75;
+}
+
 // Numbers of the bus.
 const IDLE: u8 = 0;
 const STARTED: u8 = 1;
@@ -17,7 +47,7 @@ const ADDRESS_HIGH: u8 = 3;
 const ADDRESS_LOW: u8 = 4;
 const DATA: u8 = 5;
 
-/// Places 8 to 14: the bus, its space, two flags, the high address byte, the page bytes.
+/// From the place of the bus on: its number, its space, two flags, the high address byte, the page bytes.
 type BusBytes = [u8; 7];
 
 fn space_byte(space: Space) -> u8 {
@@ -87,102 +117,99 @@ fn decode_bus(bytes: BusBytes) -> Option<Bus> {
     (encode_bus(bus) == bytes).then_some(bus)
 }
 
-/// The bits of MB_CTRL_Dyn in the order of places 28 to 32.
+/// The bytes of a value that starts at a place.
+fn run<const N: usize>(bytes: &[u8; STATE_SIZE], place: usize) -> [u8; N] {
+    let mut taken = [0; N];
+    taken.copy_from_slice(&bytes[place..place + N]);
+    taken
+}
+
+/// The bits of MB_CTRL_Dyn in the order of their places.
 const CONTROL_BITS: [u8; 5] = [MB_EN, HOST_PUT, RF_PUT, HOST_CURRENT, RF_CURRENT];
 
 /// The state's bytes, place by place.
 pub fn encode(tag: &Tag) -> [u8; STATE_SIZE] {
     let mut bytes = [0; STATE_SIZE];
-    bytes[0] = tag.field.into();
-    bytes[1] = match tag.radio_state {
+    let mut put = |place: usize, value: &[u8]| {
+        bytes[place..place + value.len()].copy_from_slice(value);
+    };
+    put(at::FIELD, &[tag.field.into()]);
+    let radio_state = match tag.radio_state {
         RadioState::Ready => 0,
         RadioState::Quiet => 1,
         RadioState::Selected => 2,
     };
-    bytes[2] = tag.radio_session;
-    bytes[3] = tag.vcc.into();
-    bytes[4] = tag.i2c_session.into();
-    bytes[5] = tag.programming.into();
-    bytes[6..8].copy_from_slice(&tag.counter.to_le_bytes());
-    bytes[8..15].copy_from_slice(&encode_bus(tag.bus));
+    put(at::RADIO_STATE, &[radio_state]);
+    put(at::RADIO_SESSION, &[tag.radio_session]);
+    put(at::VCC, &[tag.vcc.into()]);
+    put(at::I2C_SESSION, &[tag.i2c_session.into()]);
+    put(at::PROGRAMMING, &[tag.programming.into()]);
+    put(at::COUNTER, &tag.counter.to_le_bytes());
+    put(at::BUS, &encode_bus(tag.bus));
     let r = &tag.registers;
-    bytes[15] = r.rf_mngt;
-    bytes[16] = tag.rf_mngt_dyn;
-    for area in 0..4 {
-        bytes[17 + 2 * area] = r.rfass[area];
+    put(at::RF_MNGT, &[r.rf_mngt]);
+    put(at::RF_MNGT_DYN, &[tag.rf_mngt_dyn]);
+    for (area, &rfass) in r.rfass.iter().enumerate() {
+        put(at::RFA1SS + 2 * area, &[rfass]);
     }
-    for end in 0..3 {
-        bytes[18 + 2 * end] = r.enda[end];
+    for (end, &enda) in r.enda.iter().enumerate() {
+        put(at::ENDA1 + 2 * end, &[enda]);
     }
-    bytes[24] = r.i2css;
-    bytes[25] = r.lock_ccfile;
-    bytes[26] = r.mb_mode;
-    bytes[27] = r.lock_cfg;
-    for (place, bit) in CONTROL_BITS.iter().enumerate() {
-        bytes[28 + place] = u8::from(tag.mailbox.control & bit != 0);
-    }
-    bytes[33..35].copy_from_slice(&tag.mailbox.length.to_le_bytes());
-    bytes[35..43].copy_from_slice(&tag.i2c_password);
-    for (n, password) in tag.radio_passwords.iter().enumerate() {
-        bytes[43 + 8 * n..51 + 8 * n].copy_from_slice(password);
-    }
-    bytes[75..83].copy_from_slice(&tag.uid);
+    put(at::I2CSS, &[r.i2css]);
+    put(at::LOCK_CCFILE, &[r.lock_ccfile]);
+    put(at::MB_MODE, &[r.mb_mode]);
+    put(at::LOCK_CFG, &[r.lock_cfg]);
+    let set = |bit| u8::from(tag.mailbox.control & bit != 0);
+    put(at::MB_EN, &CONTROL_BITS.map(set));
+    put(at::MESSAGE_LENGTH, &tag.mailbox.length.to_le_bytes());
+    put(at::I2C_PASSWORD, &tag.i2c_password);
+    put(at::PASSWORD_0, tag.radio_passwords.as_flattened());
+    put(at::UID, &tag.uid);
     bytes
-}
-
-fn eight(bytes: &[u8; STATE_SIZE], place: usize) -> [u8; 8] {
-    let mut taken = [0; 8];
-    taken.copy_from_slice(&bytes[place..place + 8]);
-    taken
 }
 
 /// The tag that bytes stand for, if they stand for one.
 pub fn decode(bytes: &[u8; STATE_SIZE]) -> Option<Tag> {
+    let byte = |place: usize| bytes[place];
+    let flag_at = |place: usize| flag(bytes[place]);
     let word = |place: usize| u16::from_le_bytes([bytes[place], bytes[place + 1]]);
     let mut control = 0;
     for (place, bit) in CONTROL_BITS.iter().enumerate() {
-        if flag(bytes[28 + place])? {
+        if flag_at(at::MB_EN + place)? {
             control |= bit;
         }
     }
-    let mut bus = [0; 7];
-    bus.copy_from_slice(&bytes[8..15]);
     Some(Tag {
-        uid: eight(bytes, 75),
-        vcc: flag(bytes[3])?,
-        field: flag(bytes[0])?,
+        uid: run(bytes, at::UID),
+        vcc: flag_at(at::VCC)?,
+        field: flag_at(at::FIELD)?,
         registers: Registers {
-            rf_mngt: bytes[15],
-            rfass: [bytes[17], bytes[19], bytes[21], bytes[23]],
-            enda: [bytes[18], bytes[20], bytes[22]],
-            i2css: bytes[24],
-            lock_ccfile: bytes[25],
-            mb_mode: bytes[26],
-            lock_cfg: bytes[27],
+            rf_mngt: byte(at::RF_MNGT),
+            rfass: [0, 1, 2, 3].map(|area| byte(at::RFA1SS + 2 * area)),
+            enda: [0, 1, 2].map(|end| byte(at::ENDA1 + 2 * end)),
+            i2css: byte(at::I2CSS),
+            lock_ccfile: byte(at::LOCK_CCFILE),
+            mb_mode: byte(at::MB_MODE),
+            lock_cfg: byte(at::LOCK_CFG),
         },
-        rf_mngt_dyn: bytes[16],
+        rf_mngt_dyn: byte(at::RF_MNGT_DYN),
         mailbox: Mailbox {
             control,
-            length: word(33),
+            length: word(at::MESSAGE_LENGTH),
         },
-        i2c_password: eight(bytes, 35),
-        i2c_session: flag(bytes[4])?,
-        programming: flag(bytes[5])?,
-        counter: word(6),
-        bus: decode_bus(bus)?,
-        radio_state: match bytes[1] {
+        i2c_password: run(bytes, at::I2C_PASSWORD),
+        i2c_session: flag_at(at::I2C_SESSION)?,
+        programming: flag_at(at::PROGRAMMING)?,
+        counter: word(at::COUNTER),
+        bus: decode_bus(run(bytes, at::BUS))?,
+        radio_state: match byte(at::RADIO_STATE) {
             0 => RadioState::Ready,
             1 => RadioState::Quiet,
             2 => RadioState::Selected,
             _ => return None,
         },
-        radio_session: bytes[2],
-        radio_passwords: [
-            eight(bytes, 43),
-            eight(bytes, 51),
-            eight(bytes, 59),
-            eight(bytes, 67),
-        ],
+        radio_session: byte(at::RADIO_SESSION),
+        radio_passwords: [0, 1, 2, 3].map(|n| run(bytes, at::PASSWORD_0 + 8 * n)),
     })
 }
 

@@ -3,7 +3,7 @@
 use reference::bench::{self, UID};
 use reference::crc::crc;
 use reference::model::{self, Answer, Refusal, Signal};
-use reference::state::{self, STATE_SIZE};
+use reference::state::{self, at, STATE_SIZE};
 use reference::tag::*;
 
 /// Runs lines of (input, wanted answer) on the bench program; spaces stand for tabs.
@@ -479,8 +479,15 @@ fn ranges_are_kept() {
 #[test]
 fn state_bytes() {
     let mut bytes = state::encode(&model::fresh(UID));
-    assert_eq!(bytes[18..24], [0x0F, 0, 0x0F, 0, 0x0F, 0]);
-    assert_eq!(bytes[75..], UID);
+    assert_eq!(bytes[at::ENDA1..at::I2CSS], [0x0F, 0, 0x0F, 0, 0x0F, 0]);
+    assert_eq!(bytes[at::UID..], UID);
+    let judged = [
+        at::FIELD,
+        at::RADIO_STATE,
+        at::VCC,
+        at::I2C_SESSION,
+        at::PROGRAMMING,
+    ];
     for place in 0..STATE_SIZE {
         for value in 0..=255 {
             let before = std::mem::replace(&mut bytes[place], value);
@@ -488,14 +495,14 @@ fn state_bytes() {
                 assert_eq!(state::encode(&tag), bytes);
             } else {
                 assert!(
-                    [0, 1, 3, 4, 5].contains(&place)
-                        || (8..15).contains(&place)
-                        || (28..33).contains(&place)
+                    judged.contains(&place)
+                        || (at::BUS..at::RF_MNGT).contains(&place)
+                        || (at::MB_EN..at::MESSAGE_LENGTH).contains(&place)
                 );
             }
             bytes[place] = before;
         }
     }
-    bytes[14] = 1; // a page byte count with the bus idle
+    bytes[at::RF_MNGT - 1] = 1; // a page byte count with the bus idle
     assert_eq!(state::decode(&bytes), None);
 }

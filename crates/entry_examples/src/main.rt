@@ -1,15 +1,11 @@
 // Calls of the entry points, on any state, from a script on standard input; the file stdout has what document 01 gives.
 // A line is a letter, and for some a tab and upper-case hex:
 // C: a call, its code, its value (two bytes) and the frame; J, O: the length of the memory and of the reply buffer that calls hand in;
-// M: memory from a place on (two bytes, then bytes); A, U, K, X: a part of the tag (see state);
-// and, alone, N: the fresh tag; Z: the tag; E: the CRC of all memory bytes and that of all reply bytes.
-mod show;
-mod state;
-
+// M, T: memory and state from a place on (two bytes, then bytes);
+// and, alone, N: the fresh tag; Z: the state; E: the CRC of all memory bytes and that of all reply bytes.
 use model::Answer;
 use model::Refusal;
 use tag::Tag;
-use tag::Uid;
 
 struct Run {
     tag: Tag,
@@ -18,6 +14,8 @@ struct Run {
     reply: usize,
     // Lines before this one.
     number: u64,
+    // Whether all lines could be written.
+    written: bool,
 }
 
 // More than a call needs of each, so that a call can hand in too much.
@@ -28,14 +26,11 @@ const REPLY: usize = 700;
 // A line's bytes: a place and the whole memory.
 const LINE: usize = 1102;
 
-// More bytes than the script has.
-const SCRIPT: usize = 262144;
-
-// What a line prints: that it is none of these, a call's answer, the tag, or the two CRCs.
+// What a line prints: that it is none of these, a call's answer, the state, or the two CRCs.
 enum Said {
     Bad,
     Answer(Answer),
-    Tag,
+    State,
     Crcs,
 }
 
@@ -45,18 +40,13 @@ struct Outcome {
     said: Said,
 }
 
-fn uid() -> Uid {
-    Uid {
-        bytes: [0x01, 0x02, 0x03, 0x04, 0x05, 0x24, 0x02, 0xE0],
-    }
-}
-
 fn begin() -> Run {
     Run {
-        tag: Tag::fresh(uid()),
+        tag: Tag::fresh(example_lines::uid()),
         memory: tag::MEMORY_BYTES,
         reply: tag::REPLY_BYTES,
         number: 0,
+        written: true,
     }
 }
 
@@ -85,7 +75,7 @@ fn fresh(r: Run, m: &mut [u8]) -> Outcome {
     if m.len() < size {
         return bad(r);
     }
-    let o = model::fresh(uid(), &mut m[0..size]);
+    let o = model::fresh(example_lines::uid(), &mut m[0..size]);
     let a = o.answer;
     match a {
         Answer::Refused(why) => says(r, Said::Answer(Answer::Refused(why))),
@@ -97,11 +87,8 @@ fn fresh(r: Run, m: &mut [u8]) -> Outcome {
 }
 
 // A call and its answer.
-fn call(r: Run, m: &mut [u8], out: &mut [u8], bytes: &[u8], n: usize) -> Outcome {
-    if n < 3 {
-        return bad(r);
-    }
-    if bytes.len() < n {
+fn call(r: Run, m: &mut [u8], out: &mut [u8], bytes: &[u8]) -> Outcome {
+    if bytes.len() < 3 {
         return bad(r);
     }
     let memory = r.memory;
@@ -113,7 +100,7 @@ fn call(r: Run, m: &mut [u8], out: &mut [u8], bytes: &[u8], n: usize) -> Outcome
         return bad(r);
     }
     let code = parts::byte_at(bytes, 0);
-    let value = state::word_at(bytes, 1);
+    let value = example_lines::word_at(bytes, 1);
     let t = r.tag;
     let o = model::step(
         t,
@@ -121,7 +108,7 @@ fn call(r: Run, m: &mut [u8], out: &mut [u8], bytes: &[u8], n: usize) -> Outcome
         &mut out[0..reply],
         code,
         value,
-        &bytes[3..n],
+        &bytes[3..],
     );
     let a = o.answer;
     let after = o.tag;
@@ -129,9 +116,9 @@ fn call(r: Run, m: &mut [u8], out: &mut [u8], bytes: &[u8], n: usize) -> Outcome
 }
 
 // How much of a buffer of `most` bytes calls hand in from here on.
-fn lent(r: Run, kind: u8, bytes: &[u8], n: usize, most: usize) -> Outcome {
-    let size = state::word_at(bytes, 0) as usize;
-    if n != 2 {
+fn lent(r: Run, kind: u8, bytes: &[u8], most: usize) -> Outcome {
+    let size = example_lines::word_at(bytes, 0) as usize;
+    if bytes.len() != 2 {
         return bad(r);
     }
     if most < size {
@@ -146,43 +133,31 @@ fn lent(r: Run, kind: u8, bytes: &[u8], n: usize, most: usize) -> Outcome {
     nothing(next)
 }
 
-// Bytes that fit the memory from a place on.
-fn memory(r: Run, m: &mut [u8], bytes: &[u8], n: usize) -> Outcome {
-    if n < 2 {
-        return bad(r);
+fn memory(r: Run, m: &mut [u8], bytes: &[u8]) -> Outcome {
+    if example_lines::store(m, bytes) {
+        return nothing(r);
     }
-    let at = state::word_at(bytes, 0) as usize;
-    let count = n - 2;
-    if MEMORY < at {
-        return bad(r);
-    }
-    if MEMORY - at < count {
-        return bad(r);
-    }
-    parts::put_bytes(m, at, bytes, 2, count);
-    nothing(r)
+    bad(r)
 }
 
-// A part of the tag.
-fn part(r: Run, kind: u8, bytes: &[u8], n: usize) -> Outcome {
-    if !state::is_part(kind, bytes, n) {
+fn patch(r: Run, bytes: &[u8]) -> Outcome {
+    let p = example_lines::patch(r.tag, bytes);
+    if !p.fits {
         return bad(r);
     }
-    let t = r.tag;
-    nothing(with_tag(r, state::with_part(t, kind, bytes)))
+    let t = p.tag;
+    nothing(with_tag(r, t))
 }
 
 // A letter with bytes.
-fn given(r: Run, kind: u8, m: &mut [u8], out: &mut [u8], bytes: &[u8], n: usize) -> Outcome {
-    if LINE < n {
-        return bad(r);
-    }
+fn given(r: Run, kind: u8, m: &mut [u8], out: &mut [u8], bytes: &[u8]) -> Outcome {
     match kind {
-        b'C' => call(r, m, out, bytes, n),
-        b'J' => lent(r, kind, bytes, n, MEMORY),
-        b'O' => lent(r, kind, bytes, n, REPLY),
-        b'M' => memory(r, m, bytes, n),
-        _ => part(r, kind, bytes, n),
+        b'C' => call(r, m, out, bytes),
+        b'J' => lent(r, kind, bytes, MEMORY),
+        b'O' => lent(r, kind, bytes, REPLY),
+        b'M' => memory(r, m, bytes),
+        b'T' => patch(r, bytes),
+        _ => bad(r),
     }
 }
 
@@ -190,7 +165,7 @@ fn given(r: Run, kind: u8, m: &mut [u8], out: &mut [u8], bytes: &[u8], n: usize)
 fn alone(r: Run, kind: u8, m: &mut [u8]) -> Outcome {
     match kind {
         b'N' => fresh(r, m),
-        b'Z' => says(r, Said::Tag),
+        b'Z' => says(r, Said::State),
         b'E' => says(r, Said::Crcs),
         _ => bad(r),
     }
@@ -204,7 +179,10 @@ fn act(r: Run, s: &[u8], m: &mut [u8], out: &mut [u8], bytes: &mut [u8]) -> Outc
     }
     if text::has_bytes(s) {
         let n = text::line_bytes(s, bytes);
-        return given(r, kind, m, out, bytes, n);
+        if bytes.len() < n {
+            return bad(r);
+        }
+        return given(r, kind, m, out, &bytes[0..n]);
     }
     bad(r)
 }
@@ -235,21 +213,17 @@ fn put_said(text: &mut [u8], at: usize, said: Said, t: Tag, m: &[u8], out: &[u8]
     match said {
         Said::Bad => text::put_mark(text, at, b'?'),
         Said::Answer(a) => put_answer(text, at, a, out),
-        Said::Tag => show::put_tag(text, at, t),
+        Said::State => example_lines::put_state(text, at, t),
         Said::Crcs => put_crcs(text, at, m, out),
     }
 }
 
-// A line: its number, a tab, its answer.
-fn print(number: u64, said: Said, t: Tag, m: &[u8], out: &[u8]) {
-    let mut text = [0u8; 1500];
-    let tab = text::put_decimal(&mut text, 0, number);
-    let answer = text::put_mark(&mut text, tab, b'\t');
+// A line: its number, a tab, its answer. Says whether it could be written.
+fn print(number: u64, said: Said, t: Tag, m: &[u8], out: &[u8]) -> bool {
+    let mut text = [0u8; example_lines::ANSWER];
+    let answer = example_lines::put_number(&mut text, number);
     let feed = put_said(&mut text, answer, said, t, m, out);
-    let end = text::put_mark(&mut text, feed, b'\n');
-    if end <= 1500 {
-        io::write_all(1, &text[0..end]);
-    }
+    example_lines::write_line(&mut text, feed)
 }
 
 fn line(r: Run, s: &[u8], m: &mut [u8], out: &mut [u8], bytes: &mut [u8]) -> Run {
@@ -258,38 +232,23 @@ fn line(r: Run, s: &[u8], m: &mut [u8], out: &mut [u8], bytes: &mut [u8]) -> Run
     let said = o.said;
     let mut n = o.run;
     let t = n.tag;
-    print(number, said, t, m, out);
     n.number = number;
+    n.written = print(number, said, t, m, out);
     n
 }
 
 fn lines(s: &[u8], m: &mut [u8], out: &mut [u8], bytes: &mut [u8]) {
     let mut r = begin();
-    let mut i = 0;
-    while i < s.len() {
-        let e = text::line_end(s, i);
-        if s.len() < e {
-            return;
-        }
-        if e < i {
-            return;
-        }
-        r = line(r, &s[i..e], m, out, bytes);
-        if s.len() <= e {
-            return;
-        }
-        i = e + 1;
+    let mut at = 0;
+    while (at < s.len()) & r.written {
+        r = line(r, example_lines::line_at(s, at), m, out, bytes);
+        at = example_lines::next_at(s, at);
     }
 }
 
 fn main() {
-    let mut input = [0u8; SCRIPT];
-    let n = io::read_full(0, &mut input);
-    if n == SCRIPT {
-        // What lies behind these bytes would not be run.
-        io::write_all(2, b"the script has 262,144 bytes or more\n");
-        return;
-    }
+    let mut input = [0u8; example_lines::SCRIPT];
+    let n = example_lines::read_script(&mut input);
     let mut m = [0u8; MEMORY];
     let mut out = [0u8; REPLY];
     let mut bytes = [0u8; LINE];

@@ -5,7 +5,6 @@
 use reply::RadioAnswer;
 use reply::RadioSide;
 use tag::Tag;
-use tag::Uid;
 
 struct Run {
     side: RadioSide,
@@ -14,6 +13,8 @@ struct Run {
     programming: bool,
     // Lines before this one.
     number: u64,
+    // Whether all lines could be written.
+    written: bool,
 }
 
 // What a line prints: none, a reply of this length, a CRC, or that the line is none of these.
@@ -33,15 +34,9 @@ struct Outcome {
 // A frame of this length at most fits the buffer with its CRC.
 const FRAME: usize = 698;
 
-fn uid() -> Uid {
-    Uid {
-        bytes: [0x01, 0x02, 0x03, 0x04, 0x05, 0x24, 0x02, 0xE0],
-    }
-}
-
 // The fresh tag, out of the field and without supply.
 fn fresh(number: u64) -> Run {
-    let t = Tag::fresh(uid());
+    let t = Tag::fresh(example_lines::uid());
     let air = t.air;
     let core = t.core;
     Run {
@@ -50,6 +45,7 @@ fn fresh(number: u64) -> Run {
         transfer: false,
         programming: false,
         number,
+        written: true,
     }
 }
 
@@ -84,8 +80,7 @@ fn level(r: Run, kind: u8, on: bool) -> Run {
 }
 
 fn start_again(r: Run, m: &mut [u8]) -> Run {
-    let zeros = [0u8; 1024];
-    parts::put_bytes(m, 0, &zeros, 0, 1024);
+    example_lines::clear(m);
     fresh(r.number)
 }
 
@@ -139,7 +134,7 @@ fn ask(r: Run, s: &[u8], m: &mut [u8], frame: &mut [u8], out: &mut [u8], close: 
     let side = r.side;
     let o = radio::radio(
         side,
-        uid(),
+        example_lines::uid(),
         r.vcc,
         r.transfer,
         r.programming,
@@ -188,55 +183,36 @@ fn put_said(text: &mut [u8], at: usize, said: Said, out: &[u8]) -> usize {
     }
 }
 
-// A line: its number, a tab, its answer.
-fn print(number: u64, said: Said, out: &[u8]) {
-    let mut text = [0u8; 1400];
-    let tab = text::put_decimal(&mut text, 0, number);
-    let answer = text::put_mark(&mut text, tab, b'\t');
+// A line: its number, a tab, its answer. Says whether it could be written.
+fn print(number: u64, said: Said, out: &[u8]) -> bool {
+    let mut text = [0u8; example_lines::ANSWER];
+    let answer = example_lines::put_number(&mut text, number);
     let feed = put_said(&mut text, answer, said, out);
-    let end = text::put_mark(&mut text, feed, b'\n');
-    if end <= 1400 {
-        io::write_all(1, &text[0..end]);
-    }
+    example_lines::write_line(&mut text, feed)
 }
 
 fn line(r: Run, s: &[u8], m: &mut [u8], frame: &mut [u8], out: &mut [u8]) -> Run {
     let number = std::num::wrapping_add_u64(r.number, 1);
     let o = signal(r, s, m, frame, out);
     let said = o.said;
-    print(number, said, out);
     let mut n = o.run;
     n.number = number;
+    n.written = print(number, said, out);
     n
 }
 
 fn lines(s: &[u8], m: &mut [u8], frame: &mut [u8], out: &mut [u8]) {
     let mut r = fresh(0);
-    let mut i = 0;
-    while i < s.len() {
-        let e = text::line_end(s, i);
-        if s.len() < e {
-            return;
-        }
-        if e < i {
-            return;
-        }
-        r = line(r, &s[i..e], m, frame, out);
-        if s.len() <= e {
-            return;
-        }
-        i = e + 1;
+    let mut at = 0;
+    while (at < s.len()) & r.written {
+        r = line(r, example_lines::line_at(s, at), m, frame, out);
+        at = example_lines::next_at(s, at);
     }
 }
 
 fn main() {
-    let mut input = io::large_buffer();
-    let n = io::read_full(0, &mut input);
-    if n == 65536 {
-        // What lies behind these bytes would not be run.
-        io::write_all(2, b"the script has 65,536 bytes or more\n");
-        return;
-    }
+    let mut input = [0u8; example_lines::SCRIPT];
+    let n = example_lines::read_script(&mut input);
     let mut m = [0u8; 1024];
     let mut frame = [0u8; 700];
     let mut out = [0u8; 643];

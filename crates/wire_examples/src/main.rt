@@ -1,29 +1,28 @@
 // Bus signals and what stands about them, from a script on standard input; the file stdout has what document 01 gives.
 // A line is a letter, and for some a tab and 0, 1 or upper-case hex:
 // V, S, B, G, P, D: VCC, Start, a byte sent, a byte fetched (1: the host Acks), Stop, programming end;
-// A: a message that the till puts; M: memory from a place on (two bytes, then bytes); U: the host side (see state);
-// and, alone, N: the fresh tag again; I: whether the wire side is in range; E: the CRC of the memory; Z: the wire side.
-mod state;
-
+// A: a message that the till puts; M, T: memory and state from a place on (two bytes, then bytes);
+// and, alone, N: the fresh tag again; I: whether the wire side is in range; E: the CRC of the memory; Z: the state.
 use signal::WireAnswer;
 use signal::WireSignal;
 use tag::Tag;
-use tag::Uid;
 use tag::WireSide;
 
 struct Run {
-    side: WireSide,
+    tag: Tag,
     // Lines before this one.
     number: u64,
+    // Whether all lines could be written.
+    written: bool,
 }
 
-// What a line prints: that it is none of these, a signal's answer, a flag, a CRC, or the wire side.
+// What a line prints: that it is none of these, a signal's answer, a flag, a CRC, or the state.
 enum Said {
     Bad,
     WireAnswer(WireAnswer),
     Flag(bool),
     Crc(u16),
-    Side,
+    State,
 }
 
 // What a line leaves.
@@ -32,27 +31,33 @@ struct Outcome {
     said: Said,
 }
 
-fn uid() -> Uid {
-    Uid {
-        bytes: [0x01, 0x02, 0x03, 0x04, 0x05, 0x24, 0x02, 0xE0],
+fn fresh(number: u64) -> Run {
+    Run {
+        tag: Tag::fresh(example_lines::uid()),
+        number,
+        written: true,
     }
 }
 
-// The fresh tag, without supply.
-fn fresh(number: u64) -> Run {
-    let t = Tag::fresh(uid());
+fn with_tag(r: Run, t: Tag) -> Run {
+    let mut n = r;
+    n.tag = t;
+    n
+}
+
+fn side(t: Tag) -> WireSide {
     let host = t.host;
     let core = t.core;
-    Run {
-        side: WireSide { host, core },
-        number,
-    }
+    WireSide { host, core }
 }
 
-fn with_side(r: Run, side: WireSide) -> Run {
-    let mut n = r;
-    n.side = side;
-    n
+fn with_side(r: Run, w: WireSide) -> Run {
+    let host = w.host;
+    let core = w.core;
+    let mut t = r.tag;
+    t.host = host;
+    t.core = core;
+    with_tag(r, t)
 }
 
 fn says(run: Run, said: Said) -> Outcome {
@@ -70,22 +75,25 @@ fn nothing(r: Run) -> Outcome {
 
 // A signal and its answer.
 fn step(r: Run, m: &mut [u8], s: WireSignal) -> Outcome {
-    let side = r.side;
-    let o = wire::step(side, uid(), m, s);
+    let t = r.tag;
+    let o = wire::step(side(t), example_lines::uid(), m, s);
     let a = o.answer;
     let after = o.side;
     says(with_side(r, after), Said::WireAnswer(a))
 }
 
 fn start_again(r: Run, m: &mut [u8]) -> Outcome {
-    let zeros = [0u8; 1024];
-    parts::put_bytes(m, 0, &zeros, 0, 1024);
+    example_lines::clear(m);
     nothing(fresh(r.number))
 }
 
 fn range(r: Run, m: &[u8]) -> Outcome {
-    let side = r.side;
-    says(r, Said::Flag(state::in_range(side, m)))
+    let t = r.tag;
+    let w = side(t);
+    let host = w.host;
+    let bus = host.bus;
+    let page = page::bus_in_range(bus, w.host.counter, w.core, w.host.session, m);
+    says(r, Said::Flag(ranges::wire_in_range(w) & page))
 }
 
 fn memory_crc(r: Run, m: &[u8]) -> Outcome {
@@ -101,7 +109,7 @@ fn alone(r: Run, kind: u8, m: &mut [u8]) -> Outcome {
         b'N' => start_again(r, m),
         b'I' => range(r, m),
         b'E' => memory_crc(r, m),
-        b'Z' => says(r, Said::Side),
+        b'Z' => says(r, Said::State),
         _ => bad(r),
     }
 }
@@ -115,57 +123,51 @@ fn level(r: Run, kind: u8, on: bool, m: &mut [u8]) -> Outcome {
     }
 }
 
-fn send(r: Run, m: &mut [u8], bytes: &[u8], n: usize) -> Outcome {
-    if n != 1 {
+fn send(r: Run, m: &mut [u8], bytes: &[u8]) -> Outcome {
+    if bytes.len() != 1 {
         return bad(r);
     }
     step(r, m, WireSignal::Send(parts::byte_at(bytes, 0)))
 }
 
 // The till puts a message, as an accepted Write Message would.
-fn till_message(r: Run, m: &mut [u8], bytes: &[u8], n: usize) -> Outcome {
+fn till_message(r: Run, m: &mut [u8], bytes: &[u8]) -> Outcome {
+    let n = bytes.len();
     if 256 < n {
         return bad(r);
     }
     parts::put_bytes(m, tag::MAILBOX_AT, bytes, 0, n);
-    let side = r.side;
-    nothing(with_side(r, state::with_message(side, n as u16)))
+    let mailbox = r.tag.core.mailbox.radio_put(n as u16);
+    let mut core = r.tag.core;
+    core.mailbox = mailbox;
+    let mut t = r.tag;
+    t.core = core;
+    nothing(with_tag(r, t))
 }
 
-// Bytes that fit the memory from a place on.
-fn memory(r: Run, m: &mut [u8], bytes: &[u8], n: usize) -> Outcome {
-    if n < 2 {
-        return bad(r);
+fn memory(r: Run, m: &mut [u8], bytes: &[u8]) -> Outcome {
+    if example_lines::store(m, bytes) {
+        return nothing(r);
     }
-    let at = state::word_at(bytes, 0) as usize;
-    if 1024 < at {
-        return bad(r);
-    }
-    if 1024 - at < n - 2 {
-        return bad(r);
-    }
-    parts::put_bytes(m, at, bytes, 2, n - 2);
-    nothing(r)
+    bad(r)
 }
 
-fn host(r: Run, bytes: &[u8], n: usize) -> Outcome {
-    if n != 9 {
+fn patch(r: Run, bytes: &[u8]) -> Outcome {
+    let p = example_lines::patch(r.tag, bytes);
+    if !p.fits {
         return bad(r);
     }
-    if !state::is_host(bytes) {
-        return bad(r);
-    }
-    let side = r.side;
-    nothing(with_side(r, state::with_host(side, bytes)))
+    let t = p.tag;
+    nothing(with_tag(r, t))
 }
 
 // A letter with bytes.
-fn given(r: Run, kind: u8, m: &mut [u8], bytes: &[u8], n: usize) -> Outcome {
+fn given(r: Run, kind: u8, m: &mut [u8], bytes: &[u8]) -> Outcome {
     match kind {
-        b'B' => send(r, m, bytes, n),
-        b'A' => till_message(r, m, bytes, n),
-        b'M' => memory(r, m, bytes, n),
-        b'U' => host(r, bytes, n),
+        b'B' => send(r, m, bytes),
+        b'A' => till_message(r, m, bytes),
+        b'M' => memory(r, m, bytes),
+        b'T' => patch(r, bytes),
         _ => bad(r),
     }
 }
@@ -181,7 +183,10 @@ fn signal(r: Run, s: &[u8], m: &mut [u8], bytes: &mut [u8]) -> Outcome {
     }
     if text::has_bytes(s) {
         let n = text::line_bytes(s, bytes);
-        return given(r, kind, m, bytes, n);
+        if bytes.len() < n {
+            return bad(r);
+        }
+        return given(r, kind, m, &bytes[0..n]);
     }
     bad(r)
 }
@@ -202,26 +207,22 @@ fn flag_mark(b: bool) -> u8 {
     b'0'
 }
 
-fn put_said(text: &mut [u8], at: usize, said: Said, side: WireSide) -> usize {
+fn put_said(text: &mut [u8], at: usize, said: Said, t: Tag) -> usize {
     match said {
         Said::Bad => text::put_mark(text, at, b'?'),
         Said::WireAnswer(a) => put_answer(text, at, a),
         Said::Flag(b) => text::put_mark(text, at, flag_mark(b)),
         Said::Crc(w) => text::put_word(text, at, w),
-        Said::Side => state::put_side(text, at, side),
+        Said::State => example_lines::put_state(text, at, t),
     }
 }
 
-// A line: its number, a tab, its answer.
-fn print(number: u64, said: Said, side: WireSide) {
-    let mut text = [0u8; 200];
-    let tab = text::put_decimal(&mut text, 0, number);
-    let answer = text::put_mark(&mut text, tab, b'\t');
-    let feed = put_said(&mut text, answer, said, side);
-    let end = text::put_mark(&mut text, feed, b'\n');
-    if end <= 200 {
-        io::write_all(1, &text[0..end]);
-    }
+// A line: its number, a tab, its answer. Says whether it could be written.
+fn print(number: u64, said: Said, t: Tag) -> bool {
+    let mut text = [0u8; example_lines::ANSWER];
+    let answer = example_lines::put_number(&mut text, number);
+    let feed = put_said(&mut text, answer, said, t);
+    example_lines::write_line(&mut text, feed)
 }
 
 fn line(r: Run, s: &[u8], m: &mut [u8], bytes: &mut [u8]) -> Run {
@@ -229,39 +230,24 @@ fn line(r: Run, s: &[u8], m: &mut [u8], bytes: &mut [u8]) -> Run {
     let o = signal(r, s, m, bytes);
     let said = o.said;
     let mut n = o.run;
-    let side = n.side;
-    print(number, said, side);
+    let t = n.tag;
     n.number = number;
+    n.written = print(number, said, t);
     n
 }
 
 fn lines(s: &[u8], m: &mut [u8], bytes: &mut [u8]) {
     let mut r = fresh(0);
-    let mut i = 0;
-    while i < s.len() {
-        let e = text::line_end(s, i);
-        if s.len() < e {
-            return;
-        }
-        if e < i {
-            return;
-        }
-        r = line(r, &s[i..e], m, bytes);
-        if s.len() <= e {
-            return;
-        }
-        i = e + 1;
+    let mut at = 0;
+    while (at < s.len()) & r.written {
+        r = line(r, example_lines::line_at(s, at), m, bytes);
+        at = example_lines::next_at(s, at);
     }
 }
 
 fn main() {
-    let mut input = io::large_buffer();
-    let n = io::read_full(0, &mut input);
-    if n == 65536 {
-        // What lies behind these bytes would not be run.
-        io::write_all(2, b"the script has 65,536 bytes or more\n");
-        return;
-    }
+    let mut input = [0u8; example_lines::SCRIPT];
+    let n = example_lines::read_script(&mut input);
     let mut m = [0u8; 1024];
     // A line's bytes: a place and the whole memory at most.
     let mut bytes = [0u8; 1026];

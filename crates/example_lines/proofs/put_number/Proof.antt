@@ -1,0 +1,31 @@
+use native.Mathlib.Omega.{arith}
+use mathlib.Core.Path.{_≡_, _∙_}
+use mathlib.Core.List.{[], _∷_}
+use Prim.Native.Nat.{_≤_}
+use lib.ListN.{length}
+use Rattle.text.specs.Decimal.{decimal}
+use Rattle.text.specs.Place.{lastPlace}
+use Rattle.text.proofs.PlaceLaws.{behind}
+use borrow.Author.Needs.{needs}
+use Rattle.example_lines.proofs.put_number.Statement.{statement}
+use Rattle.example_lines.proofs.put_number.Tie as tie
+
+put-decimal-requires : tie.Need-put-decimal-requires
+put-decimal-requires c κs = search needs
+
+put-mark-requires : tie.Need-put-mark-requires
+put-mark-requires c κs = search needs
+
+same-length : tie.Need-same-length
+same-length c = search needs
+
+returns : tie.Need-returns
+returns c =
+    let a = c .before .before .before .before .before .before .before .before .before .args in
+    let n = c .before .before .before .before .before .before .put-decimal in
+    let o = a .text .now in
+    let room : length o ≤ lastPlace = omega arith in
+    c .before .before .put-mark .ensures ∙ behind o (n .last .0) (decimal (a .number)) (9 ∷ []) 0 (n .result) room (n .ensures)
+
+pub put-number-spec : {M : Type 1} → statement M
+put-number-spec = tie.close (tie.spec put-decimal-requires put-mark-requires same-length returns)

@@ -1,0 +1,115 @@
+// Made from st25dv.h by tools/rust_header. docs/LIBRARY.md says what a caller owes.
+#![allow(dead_code)]
+#![cfg_attr(rustfmt, rustfmt_skip)]
+
+pub const STATE_BYTES: usize = 83;
+pub const UID_BYTES: usize = 8;
+pub const MEMORY_BYTES: usize = 1024;
+pub const REPLY_BYTES: usize = 643;
+pub const MEMORY_AT_USER: usize = 0;
+pub const MEMORY_AT_MAILBOX: usize = 512;
+pub const MEMORY_AT_PAGE: usize = 768;
+pub const VCC: u32 = 1;
+pub const FIELD: u32 = 2;
+pub const START: u32 = 3;
+pub const SEND: u32 = 4;
+pub const FETCH: u32 = 5;
+pub const STOP: u32 = 6;
+pub const PROGRAMMING_END: u32 = 7;
+pub const FRAME: u32 = 8;
+pub const REFUSED_MEMORY_LENGTH: u32 = 1;
+pub const REFUSED_REPLY_SHORT: u32 = 2;
+pub const REFUSED_SIGNAL_UNKNOWN: u32 = 3;
+pub const REFUSED_STATE_LENGTH: u32 = 13;
+pub const REFUSED_OUT_OF_RANGE: u32 = 4;
+pub const REFUSED_UID_LENGTH: u32 = 14;
+pub const NONE: u32 = 0x100;
+pub const ACK: u32 = 0x101;
+pub const NOACK: u32 = 0x102;
+pub const SILENCE: u32 = 0x103;
+pub const BYTE: u32 = 0x200;
+pub const REPLY: u32 = 0x1000;
+pub const AT_FIELD: usize = 0;
+pub const AT_RADIO_STATE: usize = 1;
+pub const AT_RADIO_SESSION: usize = 2;
+pub const AT_VCC: usize = 3;
+pub const AT_I2C_SESSION: usize = 4;
+pub const AT_PROGRAMMING: usize = 5;
+pub const AT_COUNTER: usize = 6;
+pub const AT_BUS: usize = 8;
+pub const AT_SPACE: usize = 9;
+pub const AT_TRANSFER_OPEN: usize = 10;
+pub const AT_HOST_NOACKED: usize = 10;
+pub const AT_SPOILED: usize = 10;
+pub const AT_LAST_FETCHED: usize = 11;
+pub const AT_HIGH_ADDRESS: usize = 12;
+pub const AT_PAGE_COUNT: usize = 13;
+pub const AT_RF_MNGT: usize = 15;
+pub const AT_RF_MNGT_DYN: usize = 16;
+pub const AT_RFA1SS: usize = 17;
+pub const AT_ENDA1: usize = 18;
+pub const AT_RFA2SS: usize = 19;
+pub const AT_ENDA2: usize = 20;
+pub const AT_RFA3SS: usize = 21;
+pub const AT_ENDA3: usize = 22;
+pub const AT_RFA4SS: usize = 23;
+pub const AT_I2CSS: usize = 24;
+pub const AT_LOCK_CCFILE: usize = 25;
+pub const AT_MB_MODE: usize = 26;
+pub const AT_LOCK_CFG: usize = 27;
+pub const AT_MB_EN: usize = 28;
+pub const AT_HOST_PUT: usize = 29;
+pub const AT_RF_PUT: usize = 30;
+pub const AT_HOST_CURRENT: usize = 31;
+pub const AT_RF_CURRENT: usize = 32;
+pub const AT_MESSAGE_LENGTH: usize = 33;
+pub const AT_I2C_PASSWORD: usize = 35;
+pub const AT_PASSWORD_0: usize = 43;
+pub const AT_PASSWORD_1: usize = 51;
+pub const AT_PASSWORD_2: usize = 59;
+pub const AT_PASSWORD_3: usize = 67;
+pub const AT_UID: usize = 75;
+pub const READY: u32 = 0;
+pub const QUIET: u32 = 1;
+pub const SELECTED: u32 = 2;
+pub const SESSION_NONE: u32 = 0;
+pub const SESSION_PASSWORD_0: u32 = 1;
+pub const SESSION_PASSWORD_1: u32 = 2;
+pub const SESSION_PASSWORD_2: u32 = 3;
+pub const SESSION_PASSWORD_3: u32 = 4;
+pub const BUS_IDLE: u32 = 0;
+pub const BUS_STARTED: u32 = 1;
+pub const BUS_READ_LEG: u32 = 2;
+pub const BUS_WRITE_LEG: u32 = 3;
+pub const BUS_LOW_ADDRESS: u32 = 4;
+pub const BUS_DATA_LEG: u32 = 5;
+pub const SPACE_USER: u32 = 0;
+pub const SPACE_SYSTEM: u32 = 1;
+
+#[link(name = "capi", kind = "static")]
+extern "C" {
+    pub fn st25dv_fresh(
+        uid: *const u8,
+        uid_bytes: usize,
+        memory: *mut u8,
+        memory_bytes: usize,
+        state: *mut u8,
+        state_bytes: usize,
+    ) -> u32;
+    pub fn st25dv_step(
+        state: *mut u8,
+        state_bytes: usize,
+        memory: *mut u8,
+        memory_bytes: usize,
+        reply: *mut u8,
+        reply_bytes: usize,
+        code: u32,
+        value: u32,
+        frame: *const u8,
+        frame_bytes: usize,
+    ) -> u32;
+    pub fn st25dv_crc(
+        bytes: *const u8,
+        count: usize,
+    ) -> u16;
+}

@@ -7,7 +7,7 @@ use model::Answer;
 use model::Refusal;
 use tag::Tag;
 
-struct Run {
+struct EntryRun {
     tag: Tag,
     // How much of each buffer a call hands in.
     memory: usize,
@@ -27,7 +27,7 @@ const REPLY: usize = 700;
 const LINE: usize = 1102;
 
 // What a line prints: that it is none of these, a call's answer, the state, or the two CRCs.
-enum Said {
+enum EntryPrint {
     Bad,
     Answer(Answer),
     State,
@@ -35,13 +35,13 @@ enum Said {
 }
 
 // What a line leaves.
-struct Outcome {
-    run: Run,
-    said: Said,
+struct EntryLineOutcome {
+    run: EntryRun,
+    said: EntryPrint,
 }
 
-fn begin() -> Run {
-    Run {
+fn begin() -> EntryRun {
+    EntryRun {
         tag: Tag::fresh(example_lines::uid()),
         memory: tag::MEMORY_BYTES,
         reply: tag::REPLY_BYTES,
@@ -50,27 +50,27 @@ fn begin() -> Run {
     }
 }
 
-fn with_tag(r: Run, t: Tag) -> Run {
+fn with_tag(r: EntryRun, t: Tag) -> EntryRun {
     let mut n = r;
     n.tag = t;
     n
 }
 
-fn says(run: Run, said: Said) -> Outcome {
-    Outcome { run, said }
+fn says(run: EntryRun, said: EntryPrint) -> EntryLineOutcome {
+    EntryLineOutcome { run, said }
 }
 
 // A line that is none of these.
-fn bad(r: Run) -> Outcome {
-    says(r, Said::Bad)
+fn bad(r: EntryRun) -> EntryLineOutcome {
+    says(r, EntryPrint::Bad)
 }
 
-fn nothing(r: Run) -> Outcome {
-    says(r, Said::Answer(Answer::Nothing))
+fn nothing(r: EntryRun) -> EntryLineOutcome {
+    says(r, EntryPrint::Answer(Answer::Nothing))
 }
 
 // The fresh tag; a refusal leaves the tag that there was.
-fn fresh(r: Run, m: &mut [u8]) -> Outcome {
+fn fresh(r: EntryRun, m: &mut [u8]) -> EntryLineOutcome {
     let size = r.memory;
     if m.len() < size {
         return bad(r);
@@ -78,7 +78,7 @@ fn fresh(r: Run, m: &mut [u8]) -> Outcome {
     let o = model::fresh(example_lines::uid(), &mut m[0..size]);
     let a = o.answer;
     match a {
-        Answer::Refused(why) => says(r, Said::Answer(Answer::Refused(why))),
+        Answer::Refused(why) => says(r, EntryPrint::Answer(Answer::Refused(why))),
         _ => {
             let t = o.tag;
             nothing(with_tag(r, t))
@@ -87,7 +87,7 @@ fn fresh(r: Run, m: &mut [u8]) -> Outcome {
 }
 
 // A call and its answer.
-fn call(r: Run, m: &mut [u8], out: &mut [u8], bytes: &[u8]) -> Outcome {
+fn call(r: EntryRun, m: &mut [u8], out: &mut [u8], bytes: &[u8]) -> EntryLineOutcome {
     if bytes.len() < 3 {
         return bad(r);
     }
@@ -112,11 +112,11 @@ fn call(r: Run, m: &mut [u8], out: &mut [u8], bytes: &[u8]) -> Outcome {
     );
     let a = o.answer;
     let after = o.tag;
-    says(with_tag(r, after), Said::Answer(a))
+    says(with_tag(r, after), EntryPrint::Answer(a))
 }
 
 // How much of a buffer of `most` bytes calls hand in from here on.
-fn lent(r: Run, kind: u8, bytes: &[u8], most: usize) -> Outcome {
+fn lent(r: EntryRun, kind: u8, bytes: &[u8], most: usize) -> EntryLineOutcome {
     let size = example_lines::word_at(bytes, 0) as usize;
     if bytes.len() != 2 {
         return bad(r);
@@ -133,14 +133,14 @@ fn lent(r: Run, kind: u8, bytes: &[u8], most: usize) -> Outcome {
     nothing(next)
 }
 
-fn memory(r: Run, m: &mut [u8], bytes: &[u8]) -> Outcome {
+fn memory(r: EntryRun, m: &mut [u8], bytes: &[u8]) -> EntryLineOutcome {
     if example_lines::store(m, bytes) {
         return nothing(r);
     }
     bad(r)
 }
 
-fn patch(r: Run, bytes: &[u8]) -> Outcome {
+fn patch(r: EntryRun, bytes: &[u8]) -> EntryLineOutcome {
     let p = example_lines::patch(r.tag, bytes);
     if !p.fits {
         return bad(r);
@@ -150,7 +150,7 @@ fn patch(r: Run, bytes: &[u8]) -> Outcome {
 }
 
 // A letter with bytes.
-fn given(r: Run, kind: u8, m: &mut [u8], out: &mut [u8], bytes: &[u8]) -> Outcome {
+fn given(r: EntryRun, kind: u8, m: &mut [u8], out: &mut [u8], bytes: &[u8]) -> EntryLineOutcome {
     match kind {
         b'C' => call(r, m, out, bytes),
         b'J' => lent(r, kind, bytes, MEMORY),
@@ -162,17 +162,17 @@ fn given(r: Run, kind: u8, m: &mut [u8], out: &mut [u8], bytes: &[u8]) -> Outcom
 }
 
 // A letter alone.
-fn alone(r: Run, kind: u8, m: &mut [u8]) -> Outcome {
+fn alone(r: EntryRun, kind: u8, m: &mut [u8]) -> EntryLineOutcome {
     match kind {
         b'N' => fresh(r, m),
-        b'Z' => says(r, Said::State),
-        b'E' => says(r, Said::Crcs),
+        b'Z' => says(r, EntryPrint::State),
+        b'E' => says(r, EntryPrint::Crcs),
         _ => bad(r),
     }
 }
 
 // What a line does, and what it prints.
-fn act(r: Run, s: &[u8], m: &mut [u8], out: &mut [u8], bytes: &mut [u8]) -> Outcome {
+fn act(r: EntryRun, s: &[u8], m: &mut [u8], out: &mut [u8], bytes: &mut [u8]) -> EntryLineOutcome {
     let kind = parts::byte_at(s, 0);
     if s.len() == 1 {
         return alone(r, kind, m);
@@ -209,24 +209,24 @@ fn put_crcs(text: &mut [u8], at: usize, m: &[u8], out: &[u8]) -> usize {
     text::put_word(text, second, crc::crc(out))
 }
 
-fn put_said(text: &mut [u8], at: usize, said: Said, t: Tag, m: &[u8], out: &[u8]) -> usize {
+fn put_said(text: &mut [u8], at: usize, said: EntryPrint, t: Tag, m: &[u8], out: &[u8]) -> usize {
     match said {
-        Said::Bad => text::put_mark(text, at, b'?'),
-        Said::Answer(a) => put_answer(text, at, a, out),
-        Said::State => example_lines::put_state(text, at, t),
-        Said::Crcs => put_crcs(text, at, m, out),
+        EntryPrint::Bad => text::put_mark(text, at, b'?'),
+        EntryPrint::Answer(a) => put_answer(text, at, a, out),
+        EntryPrint::State => example_lines::put_state(text, at, t),
+        EntryPrint::Crcs => put_crcs(text, at, m, out),
     }
 }
 
 // A line: its number, a tab, its answer. Says whether it could be written.
-fn print(number: u64, said: Said, t: Tag, m: &[u8], out: &[u8]) -> bool {
+fn print(number: u64, said: EntryPrint, t: Tag, m: &[u8], out: &[u8]) -> bool {
     let mut text = [0u8; example_lines::ANSWER];
     let answer = example_lines::put_number(&mut text, number);
     let feed = put_said(&mut text, answer, said, t, m, out);
     example_lines::write_line(&mut text, feed)
 }
 
-fn line(r: Run, s: &[u8], m: &mut [u8], out: &mut [u8], bytes: &mut [u8]) -> Run {
+fn line(r: EntryRun, s: &[u8], m: &mut [u8], out: &mut [u8], bytes: &mut [u8]) -> EntryRun {
     let number = std::num::wrapping_add_u64(r.number, 1);
     let o = act(r, s, m, out, bytes);
     let said = o.said;

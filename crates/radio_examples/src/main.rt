@@ -6,7 +6,7 @@ use reply::RadioAnswer;
 use reply::RadioSide;
 use tag::Tag;
 
-struct Run {
+struct RadioRun {
     side: RadioSide,
     vcc: bool,
     transfer: bool,
@@ -18,7 +18,7 @@ struct Run {
 }
 
 // What a line prints: none, a reply of this length, a CRC, or that the line is none of these.
-enum Said {
+enum RadioPrint {
     Nothing,
     Reply(usize),
     Crc(u16),
@@ -26,20 +26,20 @@ enum Said {
 }
 
 // What a line leaves.
-struct Outcome {
-    run: Run,
-    said: Said,
+struct RadioLineOutcome {
+    run: RadioRun,
+    said: RadioPrint,
 }
 
 // A frame of this length at most fits the buffer with its CRC.
 const FRAME: usize = 698;
 
 // The fresh tag, out of the field and without supply.
-fn fresh(number: u64) -> Run {
+fn fresh(number: u64) -> RadioRun {
     let t = Tag::fresh(example_lines::uid());
     let air = t.air;
     let core = t.core;
-    Run {
+    RadioRun {
         side: RadioSide { air, core },
         vcc: false,
         transfer: false,
@@ -49,14 +49,14 @@ fn fresh(number: u64) -> Run {
     }
 }
 
-fn with_side(r: Run, side: RadioSide) -> Run {
+fn with_side(r: RadioRun, side: RadioSide) -> RadioRun {
     let mut n = r;
     n.side = side;
     n
 }
 
 // A line that sets a level or a flag.
-fn level(r: Run, kind: u8, on: bool) -> Run {
+fn level(r: RadioRun, kind: u8, on: bool) -> RadioRun {
     let mut n = r;
     match kind {
         b'V' => {
@@ -79,27 +79,27 @@ fn level(r: Run, kind: u8, on: bool) -> Run {
     }
 }
 
-fn start_again(r: Run, m: &mut [u8]) -> Run {
+fn start_again(r: RadioRun, m: &mut [u8]) -> RadioRun {
     example_lines::clear(m);
     fresh(r.number)
 }
 
-fn nothing(run: Run) -> Outcome {
-    Outcome {
+fn nothing(run: RadioRun) -> RadioLineOutcome {
+    RadioLineOutcome {
         run,
-        said: Said::Nothing,
+        said: RadioPrint::Nothing,
     }
 }
 
-fn bad(run: Run) -> Outcome {
-    Outcome {
+fn bad(run: RadioRun) -> RadioLineOutcome {
+    RadioLineOutcome {
         run,
-        said: Said::Bad,
+        said: RadioPrint::Bad,
     }
 }
 
 // The host puts a message, as a transfer would.
-fn host_message(r: Run, s: &[u8], m: &mut [u8], frame: &mut [u8]) -> Outcome {
+fn host_message(r: RadioRun, s: &[u8], m: &mut [u8], frame: &mut [u8]) -> RadioLineOutcome {
     let n = text::line_bytes(s, frame);
     if FRAME < n {
         return bad(r);
@@ -122,7 +122,14 @@ fn close_frame(frame: &mut [u8], n: usize, close: bool) -> usize {
 }
 
 // A frame and its answer.
-fn ask(r: Run, s: &[u8], m: &mut [u8], frame: &mut [u8], out: &mut [u8], close: bool) -> Outcome {
+fn ask(
+    r: RadioRun,
+    s: &[u8],
+    m: &mut [u8],
+    frame: &mut [u8],
+    out: &mut [u8],
+    close: bool,
+) -> RadioLineOutcome {
     let sent = text::line_bytes(s, frame);
     if FRAME < sent {
         return bad(r);
@@ -147,22 +154,28 @@ fn ask(r: Run, s: &[u8], m: &mut [u8], frame: &mut [u8], out: &mut [u8], close: 
     let run = with_side(r, after);
     match a {
         RadioAnswer::Silence => nothing(run),
-        RadioAnswer::Reply(k) => Outcome {
+        RadioAnswer::Reply(k) => RadioLineOutcome {
             run,
-            said: Said::Reply(k),
+            said: RadioPrint::Reply(k),
         },
     }
 }
 
-fn memory_crc(run: Run, m: &[u8]) -> Outcome {
-    Outcome {
+fn memory_crc(run: RadioRun, m: &[u8]) -> RadioLineOutcome {
+    RadioLineOutcome {
         run,
-        said: Said::Crc(crc::crc(m)),
+        said: RadioPrint::Crc(crc::crc(m)),
     }
 }
 
 // What a line does, and what it prints.
-fn signal(r: Run, s: &[u8], m: &mut [u8], frame: &mut [u8], out: &mut [u8]) -> Outcome {
+fn signal(
+    r: RadioRun,
+    s: &[u8],
+    m: &mut [u8],
+    frame: &mut [u8],
+    out: &mut [u8],
+) -> RadioLineOutcome {
     let kind = parts::byte_at(s, 0);
     match kind {
         b'N' => nothing(start_again(r, m)),
@@ -174,24 +187,24 @@ fn signal(r: Run, s: &[u8], m: &mut [u8], frame: &mut [u8], out: &mut [u8]) -> O
     }
 }
 
-fn put_said(text: &mut [u8], at: usize, said: Said, out: &[u8]) -> usize {
+fn put_said(text: &mut [u8], at: usize, said: RadioPrint, out: &[u8]) -> usize {
     match said {
-        Said::Nothing => text::put_mark(text, at, b'-'),
-        Said::Reply(n) => text::put_hex(text, at, out, n),
-        Said::Crc(w) => text::put_word(text, at, w),
-        Said::Bad => text::put_mark(text, at, b'?'),
+        RadioPrint::Nothing => text::put_mark(text, at, b'-'),
+        RadioPrint::Reply(n) => text::put_hex(text, at, out, n),
+        RadioPrint::Crc(w) => text::put_word(text, at, w),
+        RadioPrint::Bad => text::put_mark(text, at, b'?'),
     }
 }
 
 // A line: its number, a tab, its answer. Says whether it could be written.
-fn print(number: u64, said: Said, out: &[u8]) -> bool {
+fn print(number: u64, said: RadioPrint, out: &[u8]) -> bool {
     let mut text = [0u8; example_lines::ANSWER];
     let answer = example_lines::put_number(&mut text, number);
     let feed = put_said(&mut text, answer, said, out);
     example_lines::write_line(&mut text, feed)
 }
 
-fn line(r: Run, s: &[u8], m: &mut [u8], frame: &mut [u8], out: &mut [u8]) -> Run {
+fn line(r: RadioRun, s: &[u8], m: &mut [u8], frame: &mut [u8], out: &mut [u8]) -> RadioRun {
     let number = std::num::wrapping_add_u64(r.number, 1);
     let o = signal(r, s, m, frame, out);
     let said = o.said;

@@ -8,7 +8,7 @@ use signal::WireSignal;
 use tag::Tag;
 use tag::WireSide;
 
-struct Run {
+struct WireRun {
     tag: Tag,
     // Lines before this one.
     number: u64,
@@ -17,29 +17,29 @@ struct Run {
 }
 
 // What a line prints: that it is none of these, a signal's answer, a flag, a CRC, or the state.
-enum Said {
+enum WirePrint {
     Bad,
-    WireAnswer(WireAnswer),
+    Answer(WireAnswer),
     Flag(bool),
     Crc(u16),
     State,
 }
 
 // What a line leaves.
-struct Outcome {
-    run: Run,
-    said: Said,
+struct WireLineOutcome {
+    run: WireRun,
+    said: WirePrint,
 }
 
-fn fresh(number: u64) -> Run {
-    Run {
+fn fresh(number: u64) -> WireRun {
+    WireRun {
         tag: Tag::fresh(example_lines::uid()),
         number,
         written: true,
     }
 }
 
-fn with_tag(r: Run, t: Tag) -> Run {
+fn with_tag(r: WireRun, t: Tag) -> WireRun {
     let mut n = r;
     n.tag = t;
     n
@@ -51,7 +51,7 @@ fn side(t: Tag) -> WireSide {
     WireSide { host, core }
 }
 
-fn with_side(r: Run, w: WireSide) -> Run {
+fn with_side(r: WireRun, w: WireSide) -> WireRun {
     let host = w.host;
     let core = w.core;
     let mut t = r.tag;
@@ -60,48 +60,48 @@ fn with_side(r: Run, w: WireSide) -> Run {
     with_tag(r, t)
 }
 
-fn says(run: Run, said: Said) -> Outcome {
-    Outcome { run, said }
+fn says(run: WireRun, said: WirePrint) -> WireLineOutcome {
+    WireLineOutcome { run, said }
 }
 
 // A line that is none of these.
-fn bad(r: Run) -> Outcome {
-    says(r, Said::Bad)
+fn bad(r: WireRun) -> WireLineOutcome {
+    says(r, WirePrint::Bad)
 }
 
-fn nothing(r: Run) -> Outcome {
-    says(r, Said::WireAnswer(WireAnswer::Nothing))
+fn nothing(r: WireRun) -> WireLineOutcome {
+    says(r, WirePrint::Answer(WireAnswer::Nothing))
 }
 
 // A signal and its answer.
-fn step(r: Run, m: &mut [u8], s: WireSignal) -> Outcome {
+fn step(r: WireRun, m: &mut [u8], s: WireSignal) -> WireLineOutcome {
     let t = r.tag;
     let o = wire::step(side(t), example_lines::uid(), m, s);
     let a = o.answer;
     let after = o.side;
-    says(with_side(r, after), Said::WireAnswer(a))
+    says(with_side(r, after), WirePrint::Answer(a))
 }
 
-fn start_again(r: Run, m: &mut [u8]) -> Outcome {
+fn start_again(r: WireRun, m: &mut [u8]) -> WireLineOutcome {
     example_lines::clear(m);
     nothing(fresh(r.number))
 }
 
-fn range(r: Run, m: &[u8]) -> Outcome {
+fn range(r: WireRun, m: &[u8]) -> WireLineOutcome {
     let t = r.tag;
     let w = side(t);
     let host = w.host;
     let bus = host.bus;
     let page = page::bus_in_range(bus, w.host.counter, w.core, w.host.session, m);
-    says(r, Said::Flag(ranges::wire_in_range(w) & page))
+    says(r, WirePrint::Flag(ranges::wire_in_range(w) & page))
 }
 
-fn memory_crc(r: Run, m: &[u8]) -> Outcome {
-    says(r, Said::Crc(crc::crc(m)))
+fn memory_crc(r: WireRun, m: &[u8]) -> WireLineOutcome {
+    says(r, WirePrint::Crc(crc::crc(m)))
 }
 
 // A letter alone.
-fn alone(r: Run, kind: u8, m: &mut [u8]) -> Outcome {
+fn alone(r: WireRun, kind: u8, m: &mut [u8]) -> WireLineOutcome {
     match kind {
         b'S' => step(r, m, WireSignal::Start),
         b'P' => step(r, m, WireSignal::Stop),
@@ -109,13 +109,13 @@ fn alone(r: Run, kind: u8, m: &mut [u8]) -> Outcome {
         b'N' => start_again(r, m),
         b'I' => range(r, m),
         b'E' => memory_crc(r, m),
-        b'Z' => says(r, Said::State),
+        b'Z' => says(r, WirePrint::State),
         _ => bad(r),
     }
 }
 
 // A letter with 0 or 1.
-fn level(r: Run, kind: u8, on: bool, m: &mut [u8]) -> Outcome {
+fn level(r: WireRun, kind: u8, on: bool, m: &mut [u8]) -> WireLineOutcome {
     match kind {
         b'V' => step(r, m, WireSignal::Vcc(on)),
         b'G' => step(r, m, WireSignal::Fetch(on)),
@@ -123,7 +123,7 @@ fn level(r: Run, kind: u8, on: bool, m: &mut [u8]) -> Outcome {
     }
 }
 
-fn send(r: Run, m: &mut [u8], bytes: &[u8]) -> Outcome {
+fn send(r: WireRun, m: &mut [u8], bytes: &[u8]) -> WireLineOutcome {
     if bytes.len() != 1 {
         return bad(r);
     }
@@ -131,7 +131,7 @@ fn send(r: Run, m: &mut [u8], bytes: &[u8]) -> Outcome {
 }
 
 // The till puts a message, as an accepted Write Message would.
-fn till_message(r: Run, m: &mut [u8], bytes: &[u8]) -> Outcome {
+fn till_message(r: WireRun, m: &mut [u8], bytes: &[u8]) -> WireLineOutcome {
     let n = bytes.len();
     if 256 < n {
         return bad(r);
@@ -145,14 +145,14 @@ fn till_message(r: Run, m: &mut [u8], bytes: &[u8]) -> Outcome {
     nothing(with_tag(r, t))
 }
 
-fn memory(r: Run, m: &mut [u8], bytes: &[u8]) -> Outcome {
+fn memory(r: WireRun, m: &mut [u8], bytes: &[u8]) -> WireLineOutcome {
     if example_lines::store(m, bytes) {
         return nothing(r);
     }
     bad(r)
 }
 
-fn patch(r: Run, bytes: &[u8]) -> Outcome {
+fn patch(r: WireRun, bytes: &[u8]) -> WireLineOutcome {
     let p = example_lines::patch(r.tag, bytes);
     if !p.fits {
         return bad(r);
@@ -162,7 +162,7 @@ fn patch(r: Run, bytes: &[u8]) -> Outcome {
 }
 
 // A letter with bytes.
-fn given(r: Run, kind: u8, m: &mut [u8], bytes: &[u8]) -> Outcome {
+fn given(r: WireRun, kind: u8, m: &mut [u8], bytes: &[u8]) -> WireLineOutcome {
     match kind {
         b'B' => send(r, m, bytes),
         b'A' => till_message(r, m, bytes),
@@ -173,7 +173,7 @@ fn given(r: Run, kind: u8, m: &mut [u8], bytes: &[u8]) -> Outcome {
 }
 
 // What a line does, and what it prints.
-fn signal(r: Run, s: &[u8], m: &mut [u8], bytes: &mut [u8]) -> Outcome {
+fn signal(r: WireRun, s: &[u8], m: &mut [u8], bytes: &mut [u8]) -> WireLineOutcome {
     let kind = parts::byte_at(s, 0);
     if s.len() == 1 {
         return alone(r, kind, m);
@@ -207,25 +207,25 @@ fn flag_mark(b: bool) -> u8 {
     b'0'
 }
 
-fn put_said(text: &mut [u8], at: usize, said: Said, t: Tag) -> usize {
+fn put_said(text: &mut [u8], at: usize, said: WirePrint, t: Tag) -> usize {
     match said {
-        Said::Bad => text::put_mark(text, at, b'?'),
-        Said::WireAnswer(a) => put_answer(text, at, a),
-        Said::Flag(b) => text::put_mark(text, at, flag_mark(b)),
-        Said::Crc(w) => text::put_word(text, at, w),
-        Said::State => example_lines::put_state(text, at, t),
+        WirePrint::Bad => text::put_mark(text, at, b'?'),
+        WirePrint::Answer(a) => put_answer(text, at, a),
+        WirePrint::Flag(b) => text::put_mark(text, at, flag_mark(b)),
+        WirePrint::Crc(w) => text::put_word(text, at, w),
+        WirePrint::State => example_lines::put_state(text, at, t),
     }
 }
 
 // A line: its number, a tab, its answer. Says whether it could be written.
-fn print(number: u64, said: Said, t: Tag) -> bool {
+fn print(number: u64, said: WirePrint, t: Tag) -> bool {
     let mut text = [0u8; example_lines::ANSWER];
     let answer = example_lines::put_number(&mut text, number);
     let feed = put_said(&mut text, answer, said, t);
     example_lines::write_line(&mut text, feed)
 }
 
-fn line(r: Run, s: &[u8], m: &mut [u8], bytes: &mut [u8]) -> Run {
+fn line(r: WireRun, s: &[u8], m: &mut [u8], bytes: &mut [u8]) -> WireRun {
     let number = std::num::wrapping_add_u64(r.number, 1);
     let o = signal(r, s, m, bytes);
     let said = o.said;

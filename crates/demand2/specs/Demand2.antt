@@ -14,7 +14,8 @@ use Rattle.transfer.specs.Legs.{Noted, NotedStart, NotedSend, NotedFetch, Noted
 use Rattle.transfer.specs.Whole.{transferOf}
 use Rattle.reply.specs.Reply.{bufferOf, answerOf}
 use Rattle.radio.specs.Radio.{radioOf}
-use Rattle.model.specs.Step.{stepResult, fromWire, fromRadio, wireSide, withWire, radioSide, withRadio, transferOpen, tagInRange, stepOf}
+use Rattle.model.specs.Step.{stepResult, fromWire, fromRadio, wireSide, withWire, radioSide, withRadio, transferOpen, stepOf}
+use Rattle.refusals.specs.Refusals.{tagInRange}
 use Rattle.model.specs.Claims.{Fit}
 use Rattle.calls.specs.Calls.{Call, CallAnswer, callAnswer, Device, device, runResult, entry, runBy}
 

@@ -7,7 +7,7 @@ mod show;
 mod state;
 
 use model::Answer;
-use model::Refusal;
+use refusals::Refusal;
 use tag::Tag;
 use tag::Uid;
 

@@ -12,8 +12,8 @@ ghost use Rattle.script.specs.declared.Bench.{Bench};
 ghost use Rattle.script.specs.Text.{badText};
 ghost use Rattle.script.specs.Bench.{benchStart, benchStartOf, nextLine, longestText, prints, lineBuffers, putLine, benchCall, benchOf};
 use model::Answer;
-use model::Refusal;
 use reading::Reading;
+use refusals::Refusal;
 use tag::Tag;
 use tag::Uid;
 

@@ -1,28 +1,21 @@
 -- A refusal leaves every lent byte. Assumes nothing.
 use mathlib.Core.Path.{_≡_, refl, sym, _∙_}
-use mathlib.Core.Bool.{true, false, false≢true}
+use mathlib.Core.Bool.{true, false≢true}
 use mathlib.Core.List.{List}
 use Prim.Native.Nat.{ℕ, _<_}
 use native.Mathlib.Omega.{arith}
 use Rattle.parts.specs.Pick.{pick}
-use Rattle.parts.proofs.Picks.{pick-case}
 use Rattle.tag.specs.declared.Tag.{Tag}
 use Rattle.tag.specs.declared.Uid.{Uid}
 use Rattle.tag.specs.Keys.{uidAt}
-use Rattle.tag.specs.Parts.{wireSide}
 use Rattle.state.specs.Layout.{tagOf}
-use Rattle.signal.specs.declared.WireAnswer.{WireAnswer}
-use Rattle.signal.specs.declared.WireAnswer.the-variants.{Nothing as WireNothing, Ack as WireAck, NoAck as WireNoAck, Byte as WireByte}
-use Rattle.wire.specs.Wire.{signalOf}
-use Rattle.reply.specs.Reply.{ReplyBody, nothing, body, answerOf}
-use Rattle.reply.specs.Outcome.{radioSide}
-use Rattle.radio.specs.Radio.{radioOf}
+use Rattle.reply.specs.Reply.{nothing}
+use Rattle.refusals.proofs.Laws.{judged-case}
+use Rattle.model.proofs.Served.{act-served}
 use Rattle.model.specs.declared.Answer.{Answer}
 use Rattle.model.specs.declared.Answer.the-variants.{Refused, Nothing, Ack, NoAck, Byte, Silence, Reply}
-use Rattle.model.specs.declared.Signal.{Signal}
-use Rattle.model.specs.declared.Signal.the-variants.{Wire, Field, Frame}
 use Rattle.model.specs.Signals.{signalBy}
-use Rattle.model.specs.Step.{StepResult, FreshResult, fromWire, fromRadio, transferOpen, actOf, stepOf, freshOf, isRefused}
+use Rattle.model.specs.Step.{StepResult, FreshResult, stepOf, freshOf, isRefused}
 use Rattle.capi.specs.Interface.{answerNumber, stateAfter, CallResult, callResult, stepCall, FreshCallResult, freshCallResult, freshCall}
 use Rattle.capi.specs.Claims.{RefusedStepKeeps, RefusedFreshKeeps}
 
@@ -37,25 +30,6 @@ number-refused (Byte x) h = absurd (omega arith)
 number-refused Silence h = absurd (omega arith)
 number-refused (Reply n) h = absurd (omega arith)
 
--- ---- what is served is not refused
-wire-served : (a : WireAnswer) → isRefused (fromWire a) ≡ false
-unfolding isRefused fromWire
-wire-served WireNothing = refl
-wire-served WireAck = refl
-wire-served WireNoAck = refl
-wire-served (WireByte x) = refl
-
-radio-served : (r : ReplyBody) → isRefused (fromRadio (answerOf r)) ≡ false
-unfolding isRefused fromRadio answerOf
-radio-served nothing = refl
-radio-served (body b) = refl
-
-pub act-served : (x : Signal) (t : Tag) (m o f : List ℕ) → isRefused (actOf x t m o f .answer) ≡ false
-unfolding actOf isRefused
-act-served (Wire x) t m o f = wire-served (signalOf (wireSide t) (t .uid) m x .answer)
-act-served (Field on) t m o f = refl
-act-served Frame t m o f = radio-served (radioOf (radioSide t) (t .uid) (t .host .vcc) (transferOpen t) (t .host .programming) m f .reply)
-
 -- ---- one call
 abbrev Keeps : List ℕ → List ℕ → StepResult → Type 0
 Keeps m o e = isRefused (e .answer) ≡ true → (e .memory ≡ m) × (e .reply ≡ o)
@@ -63,11 +37,7 @@ Keeps m o e = isRefused (e .answer) ≡ true → (e .memory ≡ m) × (e .reply 
 step-keeps : (t : Tag) (m o : List ℕ) (code value : ℕ) (f : List ℕ) → Keeps m o (stepOf t m o code value f)
 unfolding stepOf
 step-keeps t m o code value f =
-    pick-case (Keeps m o) _ _ _ (λ _ _. (refl, refl))
-    (λ _. pick-case (Keeps m o) _ _ _ (λ _ _. (refl, refl))
-    (λ _. pick-case (Keeps m o) _ _ _ (λ _ _. (refl, refl))
-    (λ _. pick-case (Keeps m o) _ _ _ (λ _ _. (refl, refl))
-    (λ _ r. absurd (false≢true (sym (act-served (signalBy code value) t m o f) ∙ r))))))
+    judged-case (Keeps m o) _ _ _ (λ _ _ _. (refl, refl)) (λ _ r. absurd (false≢true (sym (act-served (signalBy code value) t m o f) ∙ r)))
 
 abbrev Still : List ℕ → List ℕ → List ℕ → CallResult → Type 0
 Still s m o c = c .number < 0x100 → c ≡ callResult (c .number) s m o
@@ -82,12 +52,7 @@ stepped s m o e k h =
 pub refused-step-keeps : RefusedStepKeeps
 unfolding stepCall
 refused-step-keeps s m o code value f =
-    pick-case (Still s m o) _ _ _ (λ _ _. refl)
-    (λ _. pick-case (Still s m o) _ _ _ (λ _ _. refl)
-    (λ _. pick-case (Still s m o) _ _ _ (λ _ _. refl)
-    (λ _. pick-case (Still s m o) _ _ _ (λ _ _. refl)
-    (λ _. pick-case (Still s m o) _ _ _ (λ _ _. refl)
-    (λ _. stepped s m o (stepOf (tagOf s) m o code value f) (step-keeps (tagOf s) m o code value f))))))
+    judged-case (Still s m o) _ _ _ (λ _ _ _. refl) (λ _. stepped s m o (stepOf (tagOf s) m o code value f) (step-keeps (tagOf s) m o code value f))
 
 -- ---- the fresh tag
 abbrev KeepsMemory : List ℕ → FreshResult → Type 0
@@ -95,7 +60,7 @@ KeepsMemory m e = isRefused (e .answer) ≡ true → e .memory ≡ m
 
 fresh-keeps : (u : Uid) (m : List ℕ) → KeepsMemory m (freshOf u m)
 unfolding freshOf isRefused
-fresh-keeps u m = pick-case (KeepsMemory m) _ _ _ (λ _ _. refl) (λ _ r. absurd (false≢true r))
+fresh-keeps u m = judged-case (KeepsMemory m) _ _ _ (λ _ _ _. refl) (λ _ r. absurd (false≢true r))
 
 abbrev StillMade : List ℕ → List ℕ → FreshCallResult → Type 0
 StillMade s m c = c .number < 0x100 → c ≡ freshCallResult (c .number) s m
@@ -110,6 +75,4 @@ freshly s m e k h =
 pub refused-fresh-keeps : RefusedFreshKeeps
 unfolding freshCall
 refused-fresh-keeps u m s =
-    pick-case (StillMade s m) _ _ _ (λ _ _. refl)
-    (λ _. pick-case (StillMade s m) _ _ _ (λ _ _. refl)
-    (λ _. pick-case (StillMade s m) _ _ _ (λ _ _. refl) (λ _. freshly s m (freshOf (uidAt u 0) m) (fresh-keeps (uidAt u 0) m))))
+    judged-case (StillMade s m) _ _ _ (λ _ _ _. refl) (λ _. freshly s m (freshOf (uidAt u 0) m) (fresh-keeps (uidAt u 0) m))

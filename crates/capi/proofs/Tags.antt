@@ -1,18 +1,23 @@
 -- A call over a tag's bytes is the model's call of that tag. Assumes nothing.
-use mathlib.Core.Path.{_≡_, refl, ap, _∙_}
-use mathlib.Core.Bool.{Bool, true, false, not, _&&_}
-use mathlib.Core.List.{List}
+use mathlib.Core.Path.{_≡_, refl, sym, ap, subst, _∙_}
+use mathlib.Core.Bool.{true, not, _&&_}
+use mathlib.Core.List.{List, [], _∷_}
 use Prim.Native.Nat.{ℕ}
-use lib.Dec.{ltb, eqb}
+use lib.Dec.{eqb}
 use lib.ListN.{length}
 use Rattle.parts.specs.Pick.{pick}
 use Rattle.parts.proofs.Bools.{and-left}
 use Rattle.tag.specs.declared.Tag.{Tag}
 use Rattle.state.specs.Layout.{airDecodes, hostDecodes, mailboxDecodes, bytesOf, decodes, tagOf}
 use Rattle.state.proofs.There.{decodes-encoded}
-use Rattle.model.specs.Signals.{signalInRange}
-use Rattle.model.specs.Step.{StepResult, stepOf, isRefused}
-use Rattle.capi.specs.Interface.{answerNumber, stateAfter, CallResult, callResult, stepCall}
+use Rattle.refusals.specs.declared.Refusal.{Refusal}
+use Rattle.refusals.specs.declared.Judgement.{Judgement}
+use Rattle.refusals.specs.declared.Judgement.the-variants.{NoRefusal, RefusedBy}
+use Rattle.refusals.specs.Refusals.{rangeRule, callRules, judgement, unlessRefused}
+use Rattle.refusals.proofs.Laws.{judgement-append, append-idle, NoneApplies}
+use Rattle.model.specs.Signals.{signalBy}
+use Rattle.model.specs.Step.{StepResult, isRefused, refused, actOf, stepOf}
+use Rattle.capi.specs.Interface.{answerNumber, stateAfter, CallResult, callResult, stateRule, decodesRule, stepCall}
 use Rattle.capi.specs.Claims.{StepsTheTag}
 
 -- bytes that decode have their length
@@ -22,23 +27,29 @@ decodes-length s h =
     let n = eqb (length s) 83 in
     and-left n (airDecodes s 0) (and-left (n && airDecodes s 0) (hostDecodes s 3) (and-left (n && airDecodes s 0 && hostDecodes s 3) (mailboxDecodes s 28) h))
 
--- tests whose answers a function of the choice gives, judged once more inside it
-again : {A B : Type 0} (f : A → B) (b c d : Bool) (x y z r : A)
-    → pick b (f x) (pick c (f y) (pick d (f z) (f (pick b x (pick c y (pick d z r)))))) ≡ f (pick b x (pick c y (pick d z r)))
-unfolding pick
-again f true c d x y z r = refl
-again f false true d x y z r = refl
-again f false false true x y z r = refl
-again f false false false x y z r = refl
-
 -- what a call leaves of the model's outcome
 abbrev calledBy : List ℕ → StepResult → CallResult
 calledBy s e = callResult (answerNumber (e .answer)) (stateAfter s (e .answer) (e .tag)) (e .memory) (e .reply)
 
+-- refusals that a function of the outcome gives, judged once more inside it
+twice : {A B : Type 0} (f : A → B) (j q : Judgement) (refuses : Refusal → A) (serves : A)
+    → unlessRefused j (λ r. f (refuses r)) (f (unlessRefused (unlessRefused j RefusedBy q) refuses serves)) ≡ f (unlessRefused (unlessRefused j RefusedBy q) refuses serves)
+unfolding unlessRefused
+twice f NoRefusal q refuses serves = refl
+twice f (RefusedBy r) q refuses serves = refl
+
 decoded : (s m o : List ℕ) (code value : ℕ) (f : List ℕ) → eqb (length s) 83 ≡ true → decodes s ≡ true
     → stepCall s m o code value f ≡ calledBy s (stepOf (tagOf s) m o code value f)
-unfolding stepCall stepOf answerNumber isRefused stateAfter pick
-decoded s m o code value f l d = rw (l, d) (again (calledBy s) (not (eqb (length m) 1024)) (ltb (length o) 643) (not (signalInRange code value)) _ _ _ _)
+unfolding stepCall stepOf answerNumber isRefused stateAfter pick NoneApplies
+decoded s m o code value f l d =
+    let rules = callRules m o code value in
+    let range = rangeRule (tagOf s) m ∷ [] in
+    let refuses : Refusal → StepResult = λ r. refused r (tagOf s) m o in
+    let serves = actOf (signalBy code value) (tagOf s) m o f in
+    ap (λ (k : Judgement). unlessRefused k (λ (r : Refusal). calledBy s (refuses r)) (calledBy s (stepOf (tagOf s) m o code value f)))
+    (append-idle rules (stateRule s ∷ decodesRule s ∷ []) (ap not l, (ap not d, tt)))
+    ∙ subst (λ (k : Judgement). unlessRefused (judgement rules) (λ (r : Refusal). calledBy s (refuses r)) (calledBy s (unlessRefused k refuses serves)) ≡ calledBy s (unlessRefused k refuses serves))
+    (sym (judgement-append rules range)) (twice (calledBy s) (judgement rules) (judgement range) refuses serves)
 
 pub steps-the-tag : StepsTheTag
 steps-the-tag t m o code value f fits =

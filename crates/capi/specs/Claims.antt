@@ -1,13 +1,12 @@
 -- What is proved of the exported functions, beside their contracts.
 use mathlib.Core.Path.{_≡_}
-use mathlib.Core.Bool.{true}
 use mathlib.Core.List.{List}
 use Prim.Native.Nat.{ℕ, _<_}
 use Rattle.tag.specs.declared.Tag.{Tag}
 use Rattle.state.specs.Layout.{bytesOf}
 use Rattle.state.specs.Claims.{Fits}
 use Rattle.model.specs.Step.{stepOf}
-use Rattle.capi.specs.Interface.{answerNumber, replyFits, stateAfter, callResult, stepCall, freshCallResult, freshCall}
+use Rattle.capi.specs.Interface.{answerNumber, stateAfter, callResult, stepCall, freshCallResult, freshCall}
 
 -- a number below 0x100 is a refusal: every byte of every lent buffer is as before
 abbrev pub RefusedStepKeeps : Type 0
@@ -17,10 +16,6 @@ RefusedStepKeeps = (s m o : List ℕ) (code value : ℕ) (f : List ℕ) → let 
 abbrev pub RefusedFreshKeeps : Type 0
 RefusedFreshKeeps = (u m s : List ℕ) → let c = freshCall u m s in
     c .number < 0x100 → c ≡ freshCallResult (c .number) s m
-
--- every answer's reply fits the 643 bytes, so that its number is below 0x1000 + 644
-abbrev pub StepRepliesFit : Type 0
-StepRepliesFit = (t : Tag) (m o : List ℕ) (code value : ℕ) (f : List ℕ) → replyFits (stepOf t m o code value f .answer) ≡ true
 
 -- a call over a tag's bytes is the model's call of that tag
 abbrev pub StepsTheTag : Type 0

@@ -4,53 +4,14 @@ ghost use mathlib.Core.Bool.{true};
 ghost use lib.ListN.{length};
 ghost use Rattle.crc.specs.Crc.{crcOf};
 ghost use Rattle.state.specs.Layout.{stateBytes};
-ghost use Rattle.model.specs.Signals.{topValue, signalInRange};
-ghost use Rattle.capi.specs.Interface.{refusalNumber, answerNumber, replyFits, stateAfter, callResult, stepCall, freshCallResult, freshCall};
-ghost use Rattle.model.specs.Step.{isRefused};
+ghost use Rattle.refusals.specs.Refusals.{judgement};
+ghost use Rattle.model.specs.Step.{isRefused, replyFits};
+ghost use Rattle.capi.specs.Interface.{answerNumber, stateAfter, callResult, stepRules, stepCall, freshCallResult, freshCallRules, freshCall};
 use model::Answer;
 use model::Outcome;
-use model::Refusal;
+use refusals::Judgement;
+use refusals::Refusal;
 use tag::Uid;
-
-// The refusals of the exported functions: the model's, and two of their own.
-pub enum LibraryRefusal {
-    Model(Refusal),
-    // The state buffer has not its 83 bytes.
-    StateLength,
-    // The UID has not its 8 bytes.
-    UidLength,
-}
-
-impl LibraryRefusal {
-    pub fn number(self) -> u32
-        ensures { λ r. ⌜ r ≡ refusalNumber self ⌝ }
-    {
-        match self {
-            LibraryRefusal::Model(r) => r.number() as u32,
-            LibraryRefusal::StateLength => 13,
-            LibraryRefusal::UidLength => 14,
-        }
-    }
-}
-
-// ---- the signal's code and value, 32 bits wide
-fn top_value(code: u32) -> u32
-    ensures { λ r. ⌜ r ≡ topValue code ⌝ }
-{
-    if code == 4 {
-        return 255;
-    }
-    if (code == 1) | (code == 2) | (code == 5) {
-        return 1;
-    }
-    0
-}
-
-fn signal_in_range(code: u32, value: u32) -> bool
-    ensures { λ r. ⌜ r ≡ signalInRange code value ⌝ }
-{
-    (1 <= code) & (code <= 8) & (value <= top_value(code))
-}
 
 // ---- the answers
 fn is_refused(a: Answer) -> bool
@@ -72,7 +33,7 @@ fn answer_number(a: Answer) -> u32
     ensures { λ r. ⌜ r ≡ answerNumber a ⌝ }
 {
     match a {
-        Answer::Refused(r) => LibraryRefusal::Model(r).number(),
+        Answer::Refused(r) => r.number() as u32,
         Answer::Nothing => 0x100,
         Answer::Ack => 0x101,
         Answer::NoAck => 0x102,
@@ -97,6 +58,45 @@ fn keep(o: Outcome, s: &mut [u8])
     }
 }
 
+// ---- the refusals
+// Of a call: 1, 2, 3, 13, 4.
+fn step_refusal(s: &[u8], m: &[u8], out: &[u8], code: u32, value: u32) -> Judgement
+    ensures { λ r. ⌜ r ≡ judgement (stepRules (now (s .entry)) (now (m .entry)) (now (out .entry)) code value) ⌝ }
+{
+    let first = refusals::call_refusal(m, out, code, value);
+    match first {
+        Judgement::RefusedBy(why) => Judgement::RefusedBy(why),
+        Judgement::NoRefusal => {
+            if s.len() != state::STATE_BYTES {
+                return Judgement::RefusedBy(Refusal::StateLength);
+            }
+            if !state::decodes(s) {
+                return Judgement::RefusedBy(Refusal::OutOfRange);
+            }
+            Judgement::NoRefusal
+        }
+    }
+}
+
+// Of a fresh tag: 1, 13, 14.
+fn fresh_refusal(uid: &[u8], m: &[u8], s: &[u8]) -> Judgement
+    ensures { λ r. ⌜ r ≡ judgement (freshCallRules (now (uid .entry)) (now (m .entry)) (now (s .entry))) ⌝ }
+{
+    let first = refusals::fresh_refusal(m);
+    match first {
+        Judgement::RefusedBy(why) => Judgement::RefusedBy(why),
+        Judgement::NoRefusal => {
+            if s.len() != state::STATE_BYTES {
+                return Judgement::RefusedBy(Refusal::StateLength);
+            }
+            if uid.len() != 8 {
+                return Judgement::RefusedBy(Refusal::UidLength);
+            }
+            Judgement::NoRefusal
+        }
+    }
+}
+
 // ---- the exported functions
 // One call: the state's 83 bytes, the memory, the reply buffer, a signal's code and value, and a frame.
 #[no_mangle]
@@ -110,26 +110,17 @@ pub extern "C" fn st25dv_step(
 ) -> u32
     ensures { λ r. ⌜ callResult r (now (s .exit)) (now (m .exit)) (now (out .exit)) ≡ stepCall (now (s .entry)) (now (m .entry)) (now (out .entry)) code value (now (frame .entry)) ⌝ }
 {
-    if m.len() != tag::MEMORY_BYTES {
-        return LibraryRefusal::Model(Refusal::MemoryLength).number();
+    let judged = step_refusal(s, m, out, code, value);
+    match judged {
+        Judgement::RefusedBy(why) => why.number() as u32,
+        Judgement::NoRefusal => {
+            let t = state::decode(s);
+            let o = model::step(t, m, out, code as u8, value as u16, frame);
+            keep(o, s);
+            let answer = o.answer;
+            answer_number(answer)
+        }
     }
-    if out.len() < tag::REPLY_BYTES {
-        return LibraryRefusal::Model(Refusal::ReplyShort).number();
-    }
-    if !signal_in_range(code, value) {
-        return LibraryRefusal::Model(Refusal::SignalUnknown).number();
-    }
-    if s.len() != state::STATE_BYTES {
-        return LibraryRefusal::StateLength.number();
-    }
-    if !state::decodes(s) {
-        return LibraryRefusal::Model(Refusal::OutOfRange).number();
-    }
-    let t = state::decode(s);
-    let o = model::step(t, m, out, code as u8, value as u16, frame);
-    keep(o, s);
-    let answer = o.answer;
-    answer_number(answer)
 }
 
 // The fresh tag with a UID; the memory is cleared.
@@ -137,19 +128,16 @@ pub extern "C" fn st25dv_step(
 pub extern "C" fn st25dv_fresh(uid: &[u8], m: &mut [u8], s: &mut [u8]) -> u32
     ensures { λ r. ⌜ freshCallResult r (now (s .exit)) (now (m .exit)) ≡ freshCall (now (uid .entry)) (now (m .entry)) (now (s .entry)) ⌝ }
 {
-    if m.len() != tag::MEMORY_BYTES {
-        return LibraryRefusal::Model(Refusal::MemoryLength).number();
+    let judged = fresh_refusal(uid, m, s);
+    match judged {
+        Judgement::RefusedBy(why) => why.number() as u32,
+        Judgement::NoRefusal => {
+            let o = model::fresh(Uid::at(uid, 0), m);
+            keep(o, s);
+            let answer = o.answer;
+            answer_number(answer)
+        }
     }
-    if s.len() != state::STATE_BYTES {
-        return LibraryRefusal::StateLength.number();
-    }
-    if uid.len() != 8 {
-        return LibraryRefusal::UidLength.number();
-    }
-    let o = model::fresh(Uid::at(uid, 0), m);
-    keep(o, s);
-    let answer = o.answer;
-    answer_number(answer)
 }
 
 // The CRC of a list of bytes, for a program that forms frames.

@@ -1,36 +1,30 @@
 -- Demand 2, host direction, at the entry. Assumes nothing.
 use mathlib.Core.Path.{_≡_, refl, sym, ap, _∙_}
-use mathlib.Core.Bool.{true, false, not, _&&_}
+use mathlib.Core.Bool.{true, false, _&&_}
 use mathlib.Core.List.{List, [], _∷_}
-use Prim.Native.Nat.{ℕ}
-use lib.Dec.{leb, ltb, eqb}
+use lib.Dec.{leb}
 use lib.ListN.{length}
-use borrow.Author.Tests.{eq-eqb, le-ltb, leb-true}
+use borrow.Author.Tests.{leb-true}
 use Rattle.parts.specs.Pick.{pick}
-use Rattle.parts.proofs.Picks.{pick-false}
-use Rattle.parts.proofs.Bools.{and-left, and-right, and-both}
+use Rattle.parts.proofs.Bools.{and-left, and-right}
 use Rattle.tag.specs.declared.Bus.{Bus}
 use Rattle.tag.specs.declared.Bus.the-variants.{Started}
 use Rattle.tag.specs.declared.WireSide.{WireSide}
-use Rattle.tag.specs.declared.Tag.{Tag}
-use Rattle.tag.specs.Layout.{memoryBytes, replyBytes}
+use Rattle.tag.specs.Layout.{replyBytes}
 use Rattle.tag.specs.Parts.{wireSide, withWire}
-use Rattle.ranges.specs.Ranges.{airInRange, wireInRange, inRange}
-use Rattle.page.specs.PageRange.{busInRange}
-use Rattle.signal.specs.declared.WireSignal.{WireSignal}
 use Rattle.signal.specs.Signal.{sideBus}
-use Rattle.wire.specs.Wire.{signalOf}
-use Rattle.wire_claims.specs.Claims.{InRange}
-use Rattle.wire_claims.proofs.Kept.{keeps}
 use Rattle.transfer.specs.Legs.{Noted, NotedStart, NotedSend, NotedFetch, NotedStop, NotedVccOff, wireSignal}
 use Rattle.transfer.specs.Whole.{TransferResult}
 use Rattle.transfer.specs.Claim.{runOf}
 use Rattle.transfer.proofs.Transfer.{transfer-by-signals}
 use Rattle.model.specs.declared.Signal.{Signal}
 use Rattle.model.specs.declared.Signal.the-variants.{Wire}
-use Rattle.model.specs.Signals.{topValue, signalInRange, signalBy}
-use Rattle.model.specs.Step.{tagInRange, actOf, stepOf}
+use Rattle.model.specs.Signals.{signalBy}
+use Rattle.refusals.specs.Signals.{topValue, signalInRange}
+use Rattle.model.specs.Step.{actOf}
 use Rattle.model.specs.Claims.{Fit}
+use Rattle.model.proofs.Acts.{fit-acts}
+use Rattle.model.proofs.Kept.{wire-fit}
 use Rattle.calls.specs.Calls.{Call, Device, device, DeviceResult, deviceResultOf, RunResult, runResult, entry, runBy}
 use Rattle.demand2.specs.Demand2.{WireCall, callBy, wireCalls, signals, sendsByte, allServed, answersOf, TransferServed}
 
@@ -38,14 +32,11 @@ use Rattle.demand2.specs.Demand2.{WireCall, callBy, wireCalls, signals, 
 entry-acts : (d : Device) (c : Call) (x : Signal) → Fit (d .tag) (d .memory) → leb replyBytes (length (c .buffer)) ≡ true
     → signalInRange (c .code) (c .value) ≡ true → signalBy (c .code) (c .value) ≡ x
     → entry d c ≡ deviceResultOf (actOf x (d .tag) (d .memory) (c .buffer) (c .frame))
-unfolding entry stepOf
+unfolding entry
 entry-acts d c x f o r q =
     ap deviceResultOf
-    (sym (pick-false _ _ _ (not (eqb (length (d .memory)) memoryBytes)) (ap not (eq-eqb (length (d .memory)) memoryBytes (f .size)))
-    (pick-false _ _ _ (ltb (length (c .buffer)) replyBytes) (le-ltb (length (c .buffer)) replyBytes (leb-true replyBytes (length (c .buffer)) o))
-    (pick-false _ _ _ (not (signalInRange (c .code) (c .value))) (ap not r)
-    (pick-false _ _ _ (not (tagInRange (d .tag) (d .memory))) (ap not (f .range))
-    (ap (λ (x : Signal). actOf x (d .tag) (d .memory) (c .buffer) (c .frame)) (sym q)))))))
+    (fit-acts (d .tag) (d .memory) (c .buffer) (c .code) (c .value) (c .frame) f (leb-true replyBytes (length (c .buffer)) o) r
+    ∙ ap (λ (x : Signal). actOf x (d .tag) (d .memory) (c .buffer) (c .frame)) q)
 
 abbrev noted : Device → Noted → WireCall → DeviceResult
 noted d n w = deviceResultOf (actOf (Wire (wireSignal n)) (d .tag) (d .memory) (w .buffer) (w .frame))
@@ -60,20 +51,6 @@ entry-notes d (NotedFetch true) w f o h = entry-acts d (callBy (NotedFetch true)
 entry-notes d (NotedFetch false) w f o h = entry-acts d (callBy (NotedFetch false) w) (Wire (wireSignal (NotedFetch false))) f o refl refl
 entry-notes d NotedStop w f o h = entry-acts d (callBy NotedStop w) (Wire (wireSignal NotedStop)) f o refl refl
 entry-notes d NotedVccOff w f o h = entry-acts d (callBy NotedVccOff w) (Wire (wireSignal NotedVccOff)) f o refl refl
-
--- ---- it leaves the tag in range
-wire-fit : (t : Tag) (m : List ℕ) (x : WireSignal) → Fit t m
-    → Fit (withWire (signalOf (wireSide t) (t .uid) m x .side) t) (signalOf (wireSide t) (t .uid) m x .memory)
-unfolding tagInRange inRange
-wire-fit t m x f =
-    let a = and-left (inRange t) (busInRange (t .host .bus) (t .host .counter) (t .core) (t .host .session) m) (f .range) in
-    let b = and-right (inRange t) (busInRange (t .host .bus) (t .host .counter) (t .core) (t .host .session) m) (f .range) in
-    let r : InRange (wireSide t) m = record { side = and-right (airInRange (t .air)) (wireInRange (wireSide t)) a; bus = b; size = f .size } in
-    let k = keeps (wireSide t) (t .uid) m x r in
-    record {
-      range = and-both _ _ (and-both _ _ (and-left (airInRange (t .air)) (wireInRange (wireSide t)) a) (k .side)) (k .bus);
-      size = k .size;
-    }
 
 -- ---- a run of such calls is the run of their signals
 abbrev left : Device → TransferResult → List WireCall → RunResult
@@ -93,7 +70,7 @@ run-notes (w ∷ ws) d f h =
     let x = wireSignal (w .signal) in
     ap (λ (e : DeviceResult). then e (runBy entry (e .device) (wireCalls ws))) n
     ∙ ap (then (noted d (w .signal) w))
-    (run-notes ws (noted d (w .signal) w .device) (wire-fit (d .tag) (d .memory) x f) (and-right (leb replyBytes (length (w .buffer)) && sendsByte (w .signal)) (allServed ws) h))
+    (run-notes ws (noted d (w .signal) w .device) (wire-fit x (d .tag) (d .memory) (w .buffer) (w .frame) f) (and-right (leb replyBytes (length (w .buffer)) && sendsByte (w .signal)) (allServed ws) h))
 
 -- ---- the claim
 started : (w : WireSide) (b : Bus) → w .host .bus ≡ b → sideBus b w ≡ w

@@ -1,6 +1,6 @@
 -- Demand 2, in both directions, at the entry.
 use mathlib.Core.Path.{_≡_}
-use mathlib.Core.Bool.{Bool, true, false, not, _&&_}
+use mathlib.Core.Bool.{Bool, true, false, _&&_}
 use mathlib.Core.List.{List, [], _∷_}
 use Prim.Native.Nat.{ℕ, _≤_}
 use lib.Dec.{leb}
@@ -15,7 +15,8 @@ use Rattle.transfer.specs.Legs.{Noted, NotedStart, NotedSend, NotedFetch, Noted
 use Rattle.transfer.specs.Whole.{transferOf}
 use Rattle.reply.specs.Reply.{bufferOf, answerOf}
 use Rattle.radio.specs.Radio.{radioOf}
-use Rattle.model.specs.Step.{stepResult, fromWire, fromRadio, transferOpen, tagInRange, stepOf}
+use Rattle.model.specs.Step.{stepResult, fromWire, fromRadio, transferOpen, stepOf}
+use Rattle.refusals.specs.Refusals.{tagInRange}
 use Rattle.reply.specs.Outcome.{radioSide, withRadio}
 use Rattle.model.specs.Claims.{Fit}
 use Rattle.calls.specs.Calls.{Call, CallAnswer, callAnswer, Device, device, runResult, entry, runBy}

@@ -1,21 +1,25 @@
 -- What one call of the entry point does to a tag in range: struck frames, what stays, and that refusals 1 and 4 do not come. Assumes nothing.
-use mathlib.Core.Path.{_≡_, refl, ap, _∙_}
-use mathlib.Core.Bool.{true, false, not, _&&_, false≢true}
+use mathlib.Core.Path.{_≡_, refl, sym, ap, _∙_}
+use mathlib.Core.Bool.{Bool, true, false, not, _&&_, false≢true}
 use Rattle.parts.proofs.Bools.{and-left, and-right}
-use Rattle.signal.specs.declared.WireAnswer.{WireAnswer}
-use Rattle.signal.specs.declared.WireAnswer.the-variants.{Nothing as WireNothing, Ack as WireAck, NoAck as WireNoAck, Byte as WireByte}
 use Rattle.wire_claims.proofs.Line.{registers-stay}
-use Rattle.reply.specs.declared.RadioAnswer.{RadioAnswer}
-use Rattle.reply.specs.declared.RadioAnswer.the-variants.{Silence as RadioSilence, Reply as RadioReply}
+use Rattle.parts.proofs.Picks.{pick-case}
+use Rattle.rule_list.specs.RuleList.{firstSays}
+use Rattle.refusals.specs.declared.Refusal.{Refusal}
+use Rattle.refusals.specs.declared.Judgement.{Judgement}
+use Rattle.refusals.specs.declared.Judgement.the-variants.{NoRefusal, RefusedBy}
+use Rattle.refusals.specs.Refusals.{judgement}
+use Rattle.model.proofs.Served.{act-served}
 use Rattle.model.specs.declared.Answer.{Answer}
+use Rattle.model.specs.declared.Answer.the-variants.{Refused, Nothing, Ack, NoAck, Byte, Silence, Reply as ReplyOf}
 use Rattle.model.specs.declared.Signal.{Signal}
 use Rattle.model.specs.declared.Signal.the-variants.{Wire, Field, Frame}
 use Rattle.model.specs.Signals.{signalBy}
-use Rattle.model.specs.Step.{fromWire, fromRadio, transferOpen, actOf, isRefused}
+use Rattle.model.specs.Step.{transferOpen, actOf, isRefused}
 use Rattle.tag.specs.Parts.{wireSide}
 use Rattle.calls.specs.Calls.{Call, Device, DeviceResult, deviceResult, entry, callReply}
 use Rattle.demand3.specs.Demand3.{refusedByState, isFrame, struck, shutReply}
-use Rattle.calls.proofs.Laws.{Fits, actedBy, call-case, supplied}
+use Rattle.calls.proofs.Laws.{Fits, actedBy, found, call-case, supplied}
 use Rattle.waiting.proofs.Frames.{frame-shut}
 
 -- ---- a struck call
@@ -33,7 +37,7 @@ struck-is d c f h =
     let frame = isFrame (signalBy (c .code) (c .value)) in
     let both = and-left (opened && frame) (not (isRefused (entry d c .says .answer))) h in
     call-case (λ (e : DeviceResult). not (isRefused (e .says .answer)) ≡ true → e ≡ deviceResult (callReply (shutReply (d .tag) (d .tag .air) (c .frame)) (c .buffer)) d) d c f
-    (λ n. absurd (false≢true n)) (λ n. absurd (false≢true n))
+    (λ r found n. absurd (false≢true n))
     (λ n. ap (λ (x : Signal). actedBy x d c) (of-frame _ (and-right opened frame both)) ∙ frame-shut d c (and-left opened frame both))
     (and-right (opened && frame) (not (isRefused (entry d c .says .answer))) h)
 
@@ -51,33 +55,32 @@ act-stays Frame d c f = record { uid = refl; registers = λ h. ap (λ (e : Devic
 
 pub call-stays : (d : Device) (c : Call) → Fits d → Stays d (entry d c)
 call-stays d c f =
-    call-case (Stays d) d c f (record { uid = refl; registers = λ h. refl }) (record { uid = refl; registers = λ h. refl })
+    call-case (Stays d) d c f (λ r found. record { uid = refl; registers = λ h. refl })
     (act-stays (signalBy (c .code) (c .value)) d c f)
 
 -- ---- its answer is not refusal 1 or 4
-abbrev NotByState : Answer → Type 0
-NotByState a = refusedByState a ≡ false
+unfoldable byState : Judgement → Bool
+byState NoRefusal = false
+byState (RefusedBy r) = refusedByState (Refused r)
 
-wire-judged : (a : WireAnswer) → NotByState (fromWire a)
-unfolding refusedByState fromWire
-wire-judged WireNothing = refl
-wire-judged WireAck = refl
-wire-judged WireNoAck = refl
-wire-judged (WireByte x) = refl
+-- the call's own arguments tell 2 and 3
+argument-judged : (c : Call) (r : Refusal) → found c ≡ RefusedBy r → refusedByState (Refused r) ≡ false
+unfolding judgement firstSays byState refusedByState
+argument-judged c r h =
+    let P : Judgement → Type 0 = λ j. byState j ≡ false in
+    ap byState (sym h) ∙ pick-case P _ _ _ (λ k. refl) (λ k. pick-case P _ _ _ (λ l. refl) (λ l. refl))
 
-radio-judged : (a : RadioAnswer) → NotByState (fromRadio a)
-unfolding refusedByState fromRadio
-radio-judged RadioSilence = refl
-radio-judged (RadioReply n) = refl
+served-judged : (a : Answer) → isRefused a ≡ false → refusedByState a ≡ false
+unfolding isRefused refusedByState
+served-judged (Refused r) h = absurd (false≢true (sym h))
+served-judged Nothing h = refl
+served-judged Ack h = refl
+served-judged NoAck h = refl
+served-judged (Byte x) h = refl
+served-judged Silence h = refl
+served-judged (ReplyOf k) h = refl
 
-act-judged : (x : Signal) (d : Device) (c : Call) → NotByState (actedBy x d c .says .answer)
-unfolding actOf refusedByState
-act-judged (Wire x) d c = wire-judged _
-act-judged (Field on) d c = refl
-act-judged Frame d c = radio-judged _
-
-pub call-judged : (d : Device) (c : Call) → Fits d
-    → refusedByState (entry d c .says .answer) ≡ false
-unfolding refusedByState
+pub call-judged : (d : Device) (c : Call) → Fits d → refusedByState (entry d c .says .answer) ≡ false
 call-judged d c f =
-    call-case (λ (e : DeviceResult). NotByState (e .says .answer)) d c f refl refl (act-judged (signalBy (c .code) (c .value)) d c)
+    call-case (λ (e : DeviceResult). refusedByState (e .says .answer) ≡ false) d c f (argument-judged c)
+    (served-judged _ (act-served (signalBy (c .code) (c .value)) (d .tag) (d .memory) (c .buffer) (c .frame)))

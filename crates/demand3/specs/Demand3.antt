@@ -11,13 +11,14 @@ use Rattle.tag.specs.Layout.{memoryBytes}
 use Rattle.errors.specs.declared.RadioError.the-variants.{ShutOut}
 use Rattle.reply.specs.Reply.{ReplyBody, nothing, fault}
 use Rattle.frame.specs.Judge.{isSilent, isMute}
-use Rattle.model.specs.declared.Refusal.the-variants.{MemoryLength, ReplyShort, SignalUnknown, OutOfRange}
+use Rattle.refusals.specs.declared.Refusal.the-variants.{MemoryLength, ReplyShort, SignalUnknown, OutOfRange, StateLength, UidLength}
 use Rattle.model.specs.declared.Answer.{Answer}
 use Rattle.model.specs.declared.Answer.the-variants.{Refused, Nothing, Ack, NoAck, Byte, Silence, Reply as ReplyOf}
 use Rattle.model.specs.declared.Signal.{Signal}
 use Rattle.model.specs.declared.Signal.the-variants.{Wire, Field, Frame}
 use Rattle.model.specs.Signals.{signalBy}
-use Rattle.model.specs.Step.{isRefused, transferOpen, tagInRange}
+use Rattle.model.specs.Step.{isRefused, transferOpen}
+use Rattle.refusals.specs.Refusals.{tagInRange}
 use Rattle.calls.specs.Calls.{framesFit, callReply, Call, CallAnswer, Device, Step, runResult, runBy, entry}
 use Rattle.waiting.specs.Waiting.{Waiting, noTransfer, inside, waitRun}
 
@@ -27,6 +28,8 @@ refusedByState (Refused MemoryLength) = true
 refusedByState (Refused ReplyShort) = false
 refusedByState (Refused SignalUnknown) = false
 refusedByState (Refused OutOfRange) = true
+refusedByState (Refused StateLength) = false
+refusedByState (Refused UidLength) = false
 refusedByState Nothing = false
 refusedByState Ack = false
 refusedByState NoAck = false

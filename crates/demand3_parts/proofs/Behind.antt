@@ -15,11 +15,10 @@ use Rattle.tag.specs.declared.Bus.{Bus}
 use Rattle.tag.specs.declared.Bus.the-variants.{Idle, Started, ReadLeg, WriteLeg, LowAddress, DataLeg}
 use Rattle.tag.specs.declared.Tag.{Tag}
 use Rattle.tag.specs.Bus.{isOpen, pageBytes}
-use Rattle.tag.specs.Parts.{wireSide}
-use Rattle.ranges.specs.Ranges.{airInRange, coreInRange, hostInRange, suppliedInRange, wireInRange, inRange}
-use Rattle.page.specs.PageRange.{busInRange}
+use Rattle.ranges.specs.Ranges.{airInRange, hostInRange}
 use Rattle.model.specs.Signals.{signalBy}
-use Rattle.model.specs.Step.{transferOpen, tagInRange, isRefused}
+use Rattle.model.specs.Step.{transferOpen, isRefused}
+use Rattle.refusals.proofs.Ranges.{range-parts}
 use Rattle.calls.specs.Calls.{Call, CallAnswer, Device, DeviceResult, entry, runBy, framesFit, callReply}
 use Rattle.calls.specs.Examples.{_but_, radioSession, onBus, fieldIs}
 use Rattle.waiting.specs.Waiting.{noTransfer}
@@ -120,14 +119,11 @@ module _ (shows : Device → Device) (holds : Call → Device → Device) (in-ra
 
 -- ---- the mark
 unmarked : (d : Device) → Fits d → isMarked d ≡ false
-unfolding tagInRange inRange wireInRange hostInRange
+unfolding hostInRange
 unmarked d f =
-    let h = d .tag .host in
-    let all = and-left (inRange (d .tag)) (busInRange (h .bus) (h .counter) (d .tag .core) (h .session) (d .memory)) (f .range) in
-    let side = and-right (airInRange (d .tag .air)) (wireInRange (wireSide (d .tag))) all in
-    let core = and-left (coreInRange (d .tag .core) && hostInRange h) (suppliedInRange h (d .tag .core .mailbox .enabled)) side in
-    let page = and-left (leb (pageBytes (h .bus)) 256) _ (and-right (coreInRange (d .tag .core)) (hostInRange h) core) in
-    ne-eqb (pageBytes (h .bus)) 300 (λ e. absurd (omega (arith, leb-true (pageBytes (h .bus)) 256 page, e)))
+    let bus = d .tag .host .bus in
+    let page = and-left (leb (pageBytes bus) 256) _ (range-parts (d .tag) (d .memory) (f .range) .host) in
+    ne-eqb (pageBytes bus) 300 (λ e. absurd (omega (arith, leb-true (pageBytes bus) 256 page, e)))
 
 is-user-write-leg : (b : Bus) → isUserWriteLeg b ≡ true → b ≡ WriteLeg User
 unfolding isUserWriteLeg
@@ -148,13 +144,11 @@ shown-shut d other o =
 
 -- ---- the tag whose radio session is past its range after a Stop
 session-in-range : (d : Device) → Fits d → sessionShown d ≡ d
-unfolding tagInRange inRange airInRange
+unfolding airInRange
 session-in-range d f =
     let n = d .tag .air .session in
-    let h = d .tag .host in
-    let all = and-left (inRange (d .tag)) (busInRange (h .bus) (h .counter) (d .tag .core) (h .session) (d .memory)) (f .range) in
-    let low = and-left (leb n 4) (wireInRange (wireSide (d .tag))) all in
-    sym (pick-false (d but radioSession (n - 5)) d d (ltb 4 n) (le-ltb 4 n (leb-true n 4 low)) refl)
+    let low = leb-true n 4 (range-parts (d .tag) (d .memory) (f .range) .air) in
+    sym (pick-false (d but radioSession (n - 5)) d d (ltb 4 n) (le-ltb 4 n low) refl)
 
 session-undone : (c : Call) (d : Device) → Fits d → sessionShown (sessionRaised c d) ≡ d
 session-undone c d f =

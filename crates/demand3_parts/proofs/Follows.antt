@@ -19,7 +19,7 @@ use Rattle.model.specs.Step.{fromRadio, transferOpen, isRefused}
 use Rattle.calls.specs.Calls.{Call, CallAnswer, Device, DeviceResult, deviceResult, Step, RunResult, runResult, entry, runBy, framesFit, callReply}
 use Rattle.demand3.specs.Demand3.{stateRefused, isFrame, struck, others, otherAnswers, shutReply, startAfter, EachStruck, Same, EveryList, RepliesShut}
 use Rattle.demand3_parts.specs.Follows.{JudgedFollows, StrikingFollows, AnswersShut, BytesFollow}
-use Rattle.calls.proofs.Laws.{Fits, first-fits, rest-fits, fits-next}
+use Rattle.calls.proofs.Laws.{frames-first, Fits, first-fits, rest-fits, fits-next}
 use Rattle.demand3.proofs.OneCall.{struck-is}
 use Rattle.demand3.proofs.Struck.{RunsTo, by-test}
 use Rattle.waiting.proofs.Follow.{now, answers}
@@ -60,12 +60,6 @@ by-answer false true o h = let f : _≡_ {A = ℕ} 4 0 = ap replyLength h in abs
 by-answer false false o h = refl
 
 -- ---- such a step beside the entry point, call by call: s is its device, d the entry point's
-frames-first : (p q : List Call) → framesFit (p ++ q) ≡ true → framesFit p ≡ true
-unfolding framesFit
-frames-first [] q h = refl
-frames-first (c ∷ p) q h =
-    and-both (areBytes (c .frame)) (framesFit p) (first-fits c (p ++ q) h) (frames-first p q (rest-fits c (p ++ q) h))
-
 module _ (step : Step) where
   -- where the entry point has no transfer open, the two devices are the same
   record Beside (s d : Device) (cs : List Call) : Type 0 where

@@ -4,7 +4,7 @@
 // M, T: memory and state from a place on (two bytes, then bytes);
 // and, alone, N: the fresh tag; Z: the state; E: the CRC of all memory bytes and that of all reply bytes.
 use model::Answer;
-use model::Refusal;
+use refusals::Refusal;
 use tag::Tag;
 
 struct EntryRun {

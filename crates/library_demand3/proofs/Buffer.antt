@@ -7,7 +7,6 @@ use native.Mathlib.Omega.{arith}
 use lib.Dec.{ltb}
 use lib.ListN.{length, getD, drop}
 use Rattle.parts.specs.Pick.{pick}
-use Rattle.parts.specs.Bytes.{areBytes}
 use Rattle.parts.proofs.Bools.{and-left, and-right, and-both}
 use Rattle.tag.specs.declared.Tag.{Tag}
 use Rattle.state.specs.Layout.{bytesOf, tagOf}
@@ -18,14 +17,14 @@ use Rattle.capi.specs.Interface.{answerNumber}
 use Rattle.calls.specs.Calls.{Call, Device, device, DeviceResult, entry, runBy, framesFit, callReply}
 use Rattle.waiting.specs.Waiting.{noTransfer, waitRun}
 use Rattle.demand3.specs.Demand3.{isClosed, isFrame, struck, shutReply, startAfter}
-use Rattle.calls.proofs.Laws.{Fits, fits-next}
+use Rattle.calls.proofs.Laws.{first-fits, rest-fits, frames-first, Fits, fits-next}
 use Rattle.demand3.proofs.OneCall.{struck-is}
 use Rattle.demand3.proofs.Demand3.{demand-3, ends-alike}
 use Rattle.library_demand3.specs.Calls.{LibraryStep, LibraryAnswer, answerBy, LibraryRunResult, libraryRun}
 use Rattle.library_demand3.specs.Claim.{inNumber, inNumbers, inBytes, libraryStruck, EachLibraryStruck, LibrarySame, EveryLibraryList}
 use Rattle.library_demand3.specs.Follows.{NumberShut, AnswerShut, BufferFollows}
 use Rattle.library_demand3.proofs.Demand3.{good}
-use Rattle.library_demand3.proofs.Lists.{Good, good-next, first-frame, rest-frames, inLibrary, refusal-number, decoded}
+use Rattle.library_demand3.proofs.Lists.{Good, good-next, inLibrary, refusal-number, decoded}
 
 -- ---- of silence and one reply the number decides the buffer
 by-number : (a b : Bool) (r o : List ℕ)
@@ -36,12 +35,6 @@ by-number true true r o h = refl
 by-number true false r o h = let f : 0x103 ≡ 0x1000 + (length r + 2) = h in absurd (omega arith)
 by-number false true r o h = let f : 0x1000 + (length r + 2) ≡ 0x103 = h in absurd (omega arith)
 by-number false false r o h = refl
-
-frames-first : (p q : List Call) → framesFit (p ++ q) ≡ true → framesFit p ≡ true
-unfolding framesFit
-frames-first [] q h = refl
-frames-first (c ∷ p) q h =
-    and-both (areBytes (c .frame)) (framesFit p) (first-frame c (p ++ q) h) (frames-first p q (rest-frames c (p ++ q) h))
 
 -- ---- a step beside the entry point, call by call: s and m are its bytes, d is the entry point's tag
 module _ (step : LibraryStep) where
@@ -74,9 +67,9 @@ module _ (step : LibraryStep) where
     next : Beside (step s m c .state) (step s m c .memory) (entry d c .device) cs
     unfolding libraryRun runBy inNumbers
     next = record {
-      good = good-next d c (first-frame c cs (b .frames)) (b .good);
-      fits = fits-next d c (first-frame c cs (b .frames)) (b .fits);
-      frames = rest-frames c cs (b .frames);
+      good = good-next d c (first-fits c cs (b .frames)) (b .good);
+      fits = fits-next d c (first-fits c cs (b .frames)) (b .fits);
+      frames = rest-fits c cs (b .frames);
       answers = ap (λ (l : List LibraryAnswer). drop 1 l) (b .answers);
       shut = λ p q e h. b .shut (c ∷ p) q (ap (λ (l : List Call). c ∷ l) e) h;
     }

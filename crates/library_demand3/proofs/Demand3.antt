@@ -10,7 +10,8 @@ use Rattle.state.specs.Layout.{bytesOf, tagOf}
 use Rattle.state.proofs.There.{decodes-encoded}
 use Rattle.state.proofs.Again.{encodes-decoded}
 use Rattle.state.proofs.Decoded.{decoded-fits}
-use Rattle.model.specs.Step.{transferOpen, tagInRange}
+use Rattle.model.specs.Step.{transferOpen}
+use Rattle.refusals.specs.Refusals.{tagInRange}
 use Rattle.calls.specs.Calls.{Call, Device, device, entry, runBy, framesFit}
 use Rattle.waiting.specs.Waiting.{noTransfer, waitRun}
 use Rattle.demand3.specs.Demand3.{isClosed}

@@ -2,14 +2,13 @@
 use mathlib.Core.Path.{_≡_, refl, sym, ap, subst, _∙_}
 use mathlib.Core.Bool.{true, false, not}
 use mathlib.Core.List.{List}
-use Prim.Native.Nat.{ℕ}
+use Prim.Native.Nat.{ℕ, _<_}
 use native.Mathlib.Omega.{arith}
 use lib.Dec.{eqb}
 use lib.ListN.{length, replicate}
 use Rattle.parts.specs.Pick.{pick}
 use Rattle.parts.specs.Bytes.{areBytes}
 use Rattle.parts.proofs.Below.{bytes-below}
-use Rattle.parts.proofs.Picks.{pick-case}
 use Rattle.registers.specs.Defined.{freshRegisters}
 use Rattle.tag.specs.declared.Tag.{Tag}
 use Rattle.tag.specs.Layout.{memoryBytes}
@@ -22,9 +21,14 @@ use Rattle.state.proofs.There.{decodes-encoded}
 use Rattle.state.proofs.AreBytes.{encodes-bytes}
 use Rattle.state.proofs.Decoded.{eight-run}
 use Rattle.model.specs.declared.Answer.the-variants.{Nothing}
-use Rattle.model.specs.Step.{number, transferOpen, tagInRange, freshOf, isRefused}
+use Rattle.model.specs.Step.{transferOpen, freshOf, isRefused}
+use Rattle.rule_list.specs.RuleList.{firstSays}
+use Rattle.refusals.specs.declared.Refusal.{Refusal}
+use Rattle.refusals.specs.declared.Refusal.the-variants.{MemoryLength, ReplyShort, SignalUnknown, OutOfRange, StateLength, UidLength}
+use Rattle.refusals.specs.Refusals.{number, tagInRange, judgement, unlessRefused}
+use Rattle.refusals.proofs.Laws.{judged-case, none-applies, NoneApplies}
 use Rattle.model.proofs.Kept.{fresh-fits}
-use Rattle.capi.specs.Interface.{refusalNumber, answerNumber, stateAfter, FreshCallResult, freshCallResult, freshCall}
+use Rattle.capi.specs.Interface.{answerNumber, stateAfter, FreshCallResult, freshCallResult, freshCallRules, freshCall}
 use Rattle.library_demand3.specs.Claim.{Starts, FreshStarts}
 
 -- ---- what the call leaves
@@ -37,16 +41,24 @@ fresh u = freshTag (uidAt u 0)
 -- by the model, with memory of the right length
 served : (u m s : List ℕ) → not (eqb (length m) memoryBytes) ≡ false
     → (let e = freshOf (uidAt u 0) m in freshCallResult (answerNumber (e .answer)) (stateAfter s (e .answer) (e .tag)) (e .memory)) ≡ freshCallResult (answerNumber Nothing) (bytesOf (fresh u)) zeros
-unfolding freshOf stateAfter isRefused pick
+unfolding freshOf stateAfter isRefused judgement firstSays unlessRefused pick
 served u m s h = rw h
+
+number-small : (r : Refusal) → number r < 0x100
+unfolding number
+number-small MemoryLength = omega arith
+number-small ReplyShort = omega arith
+number-small SignalUnknown = omega arith
+number-small OutOfRange = omega arith
+number-small StateLength = omega arith
+number-small UidLength = omega arith
 
 -- one that is not refused
 fresh-is : (u m s : List ℕ) → freshCall u m s .number ≡ answerNumber Nothing → freshCall u m s ≡ freshCallResult (answerNumber Nothing) (bytesOf (fresh u)) zeros
-unfolding freshCall refusalNumber number answerNumber
+unfolding freshCall answerNumber NoneApplies
 fresh-is u m s =
     let P : FreshCallResult → Type 0 = λ c. c .number ≡ 0x100 → c ≡ freshCallResult (answerNumber Nothing) (bytesOf (fresh u)) zeros in
-    pick-case P (not (eqb (length m) memoryBytes)) _ _ (λ _ n. absurd (omega arith))
-    (λ h. pick-case P _ _ _ (λ _ n. absurd (omega arith)) (λ _. pick-case P _ _ _ (λ _ n. absurd (omega arith)) (λ _ _. served u m s h)))
+    judged-case P _ _ _ (λ r _ n. absurd (omega (arith, number-small r, n))) (λ none _. served u m s (none-applies (freshCallRules u m s) none .0))
 
 -- ---- its tag fits
 fresh-tag-fits : (u : List ℕ) → areBytes u ≡ true → Fits (fresh u)

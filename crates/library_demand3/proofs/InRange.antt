@@ -19,10 +19,10 @@ use Rattle.tag.specs.declared.Tag.{Tag}
 use Rattle.tag.specs.Bus.{isOpen, pageBytes}
 use Rattle.tag.specs.Parts.{wireSide}
 use Rattle.ranges.specs.Ranges.{registersInRange, airInRange, putCurrent, mailboxInRange, suppliedInRange, hostInRange, coreInRange, wireInRange, inRange}
+use Rattle.page.specs.PageRange.{busInRange}
+use Rattle.refusals.specs.Refusals.{tagInRange}
 use Rattle.state.specs.Layout.{registerBytes}
 use Rattle.state.specs.Claims.{isByte, isWord, busFits, PasswordsFit, areEight, Fits}
-use Rattle.page.specs.PageRange.{busInRange}
-use Rattle.model.specs.Step.{tagInRange}
 use Rattle.library_demand3.proofs.WireKept.{highByteOf}
 
 -- ---- registers

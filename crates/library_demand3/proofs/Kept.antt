@@ -1,29 +1,29 @@
 -- Every call leaves a tag whose numbers fit, and bytes. Assumes nothing.
 use mathlib.Core.Path.{_≡_, subst}
-use mathlib.Core.Bool.{true, false, not}
+use mathlib.Core.Bool.{true}
 use mathlib.Core.List.{List}
 use Prim.Native.Nat.{ℕ, _<_}
 use native.Mathlib.Omega.{arith}
-use lib.Dec.{ltb, eqb}
-use lib.ListN.{length}
-use borrow.Author.Tests.{eqb-true, ltb-true, not-false}
-use Rattle.parts.specs.Pick.{pick}
+use lib.Dec.{eqb}
+use borrow.Author.Tests.{eqb-true, ltb-true}
 use Rattle.parts.specs.Bytes.{areBytes}
 use Rattle.parts.proofs.Below.{Below, bytes-below, are-below}
 use Rattle.parts.proofs.Picks.{pick-case}
 use Rattle.tag.specs.declared.Tag.{Tag}
-use Rattle.tag.specs.Layout.{memoryBytes, replyBytes}
 use Rattle.tag.specs.Parts.{wireSide}
 use Rattle.reply.specs.Outcome.{radioSide}
 use Rattle.model.specs.declared.Signal.{Signal}
 use Rattle.model.specs.declared.Signal.the-variants.{Wire, Field, Frame}
-use Rattle.model.specs.Signals.{signalInRange, signalBy}
-use Rattle.model.specs.Step.{StepResult, transferOpen, tagInRange, actOf, stepOf}
+use Rattle.model.specs.Signals.{signalBy}
+use Rattle.refusals.specs.Signals.{signalInRange}
+use Rattle.model.specs.Step.{StepResult, transferOpen, actOf, stepOf}
+use Rattle.wire_claims.specs.Claims.{sentByte}
 use Rattle.model.specs.Claims.{Fit}
+use Rattle.refusals.proofs.Laws.{judged-case}
+use Rattle.model.proofs.Acts.{size-of, signal-of, range-of, acts}
 use Rattle.model.proofs.Kept.{keeps}
 use Rattle.model.proofs.Value.{sent-fits}
 use Rattle.state.specs.Claims.{Fits}
-use Rattle.wire_claims.specs.Claims.{sentByte}
 use Rattle.wire_claims.proofs.Line.{keeps-counter}
 use Rattle.wire_claims.proofs.Bytes.{keeps-bytes}
 use Rattle.library_demand3.specs.Kept.{KeepsFits}
@@ -72,22 +72,11 @@ module _ (t : Tag) (m o f : List ℕ) (fits : Fits t) (h : Below m) where
       (fits-in-range _ _ (k .range) counter high (r .passwords) (fits .uid), are-below _ (r .memory))
 
 -- ---- a call
--- one that no refusal applies to
-acts : (t : Tag) (m o : List ℕ) (code value : ℕ) (f : List ℕ) → not (eqb (length m) memoryBytes) ≡ false → ltb (length o) replyBytes ≡ false
-    → not (signalInRange code value) ≡ false → not (tagInRange t m) ≡ false → stepOf t m o code value f ≡ actOf (signalBy code value) t m o f
-unfolding stepOf pick
-acts t m o code value f a b c d = rw (a, b, c, d)
-
 pub keeps-fits : KeepsFits
 unfolding stepOf
 keeps-fits t m o code value f fits are frame =
-    let h : Below m = bytes-below m are in
-    let b : Below f = bytes-below f frame in
-    pick-case F (not (eqb (length m) memoryBytes)) _ _ (λ _. (fits, are))
-    (λ n1. pick-case F (ltb (length o) replyBytes) _ _ (λ _. (fits, are))
-    (λ n2. pick-case F (not (signalInRange code value)) _ _ (λ _. (fits, are))
-    (λ n3. pick-case F (not (tagInRange t m)) _ _ (λ _. (fits, are))
-    (λ n4.
-    let fit : Fit t m = record { range = not-false (tagInRange t m) n4; size = eqb-true (length m) memoryBytes (not-false (eqb (length m) memoryBytes) n1) } in
-    act-fits t m o f fits h (signalBy code value) (sent-below code value (not-false (signalInRange code value) n3)) b
-    (subst (λ (e : StepResult). Fit (e .tag) (e .memory)) (acts t m o code value f n1 n2 n3 n4) (keeps t m o code value f frame fit))))))
+    judged-case F _ _ _ (λ r _. (fits, are))
+    (λ none.
+    let fit : Fit t m = record { range = range-of t m o code value none; size = size-of t m o code value none } in
+    act-fits t m o f fits (bytes-below m are) (signalBy code value) (sent-below code value (signal-of t m o code value none)) (bytes-below f frame)
+    (subst (λ (e : StepResult). Fit (e .tag) (e .memory)) (acts t m o code value f none) (keeps t m o code value f frame fit)))

@@ -8,18 +8,20 @@ use lib.Dec.{ltb}
 use borrow.Author.Tests.{le-ltb}
 use Rattle.parts.specs.Bytes.{areBytes}
 use Rattle.parts.proofs.Picks.{pick-case}
-use Rattle.parts.proofs.Bools.{and-left, and-right}
 use Rattle.tag.specs.declared.Tag.{Tag}
 use Rattle.state.specs.Layout.{bytesOf, tagOf}
 use Rattle.state.specs.Claims.{Fits}
 use Rattle.state.proofs.There.{decodes-encoded}
-use Rattle.model.specs.declared.Refusal.the-variants.{MemoryLength, ReplyShort, SignalUnknown, OutOfRange}
+use Rattle.refusals.specs.declared.Refusal.the-variants.{MemoryLength, ReplyShort, SignalUnknown, OutOfRange, StateLength, UidLength}
 use Rattle.model.specs.declared.Answer.{Answer}
 use Rattle.model.specs.declared.Answer.the-variants.{Refused, Nothing, Ack, NoAck, Byte, Silence, Reply}
 use Rattle.model.specs.Signals.{signalBy}
-use Rattle.model.specs.Step.{StepResult, number, transferOpen, stepOf, isRefused}
-use Rattle.capi.specs.Interface.{refusalNumber, answerNumber, stateAfter, CallResult, callResult}
-use Rattle.capi.proofs.Refusals.{act-served}
+use Rattle.model.specs.Step.{StepResult, transferOpen, stepOf, isRefused}
+use Rattle.refusals.specs.Refusals.{number}
+use Rattle.capi.specs.Interface.{answerNumber, stateAfter, CallResult, callResult}
+use Rattle.refusals.proofs.Laws.{judged-case}
+use Rattle.model.proofs.Served.{act-served}
+use Rattle.calls.proofs.Laws.{first-fits, rest-fits}
 use Rattle.capi.proofs.Tags.{steps-the-tag}
 use Rattle.calls.specs.Calls.{Call, Device, device, DeviceResult, RunResult, entry, runBy, framesFit}
 use Rattle.demand3.specs.Demand3.{isFrame, struck, Shut, startAfter, EachStruck, AllShut}
@@ -35,11 +37,7 @@ T t e = isRefused (e .answer) ≡ true → e .tag ≡ t
 refused-tag : (t : Tag) (m o : List ℕ) (code value : ℕ) (f : List ℕ) → T t (stepOf t m o code value f)
 unfolding stepOf
 refused-tag t m o code value f =
-    pick-case (T t) _ _ _ (λ _ _. refl)
-    (λ _. pick-case (T t) _ _ _ (λ _ _. refl)
-    (λ _. pick-case (T t) _ _ _ (λ _ _. refl)
-    (λ _. pick-case (T t) _ _ _ (λ _ _. refl)
-    (λ _ r. absurd (false≢true (sym (act-served (signalBy code value) t m o f) ∙ r))))))
+    judged-case (T t) _ _ _ (λ _ _ _. refl) (λ _ r. absurd (false≢true (sym (act-served (signalBy code value) t m o f) ∙ r)))
 
 -- so the state's bytes are those of the tag, refused or not
 after-is : (t : Tag) (m o : List ℕ) (code value : ℕ) (f : List ℕ)
@@ -72,14 +70,6 @@ good-next d c b g =
     let k = keeps-fits (d .tag) (d .memory) (c .buffer) (c .code) (c .value) (c .frame) (g .fits) (g .bytes) b in
     record { fits = k .0; bytes = k .1 }
 
-pub first-frame : (c : Call) (cs : List Call) → framesFit (c ∷ cs) ≡ true → areBytes (c .frame) ≡ true
-unfolding framesFit
-first-frame c cs b = and-left (areBytes (c .frame)) (framesFit cs) b
-
-pub rest-frames : (c : Call) (cs : List Call) → framesFit (c ∷ cs) ≡ true → framesFit cs ≡ true
-unfolding framesFit
-rest-frames c cs b = and-right (areBytes (c .frame)) (framesFit cs) b
-
 -- ---- the answers, and the bytes at the end
 abbrev pub inLibrary : RunResult → LibraryRunResult
 inLibrary r = libraryRunResult (inNumbers (r .answers)) (bytesOf (r .device .tag)) (r .device .memory)
@@ -92,22 +82,24 @@ run-is (c ∷ cs) d b g =
     ap (λ (x : CallResult). let r = libraryRun exported (x .state) (x .memory) cs in libraryRunResult (answerBy x ∷ r .answers) (r .state) (r .memory))
     (step-is (d .tag) (d .memory) c (g .fits))
     ∙ ap (λ (r : LibraryRunResult). libraryRunResult (inNumber (e .says) ∷ r .answers) (r .state) (r .memory))
-    (run-is cs (e .device) (rest-frames c cs b) (good-next d c (first-frame c cs b) g))
+    (run-is cs (e .device) (rest-fits c cs b) (good-next d c (first-fits c cs b) g))
 
 -- the tag at the end fits too
 pub run-good : (cs : List Call) (d : Device) → framesFit cs ≡ true → Good d → Good (runBy entry d cs .device)
 unfolding runBy
 run-good [] d b g = g
-run-good (c ∷ cs) d b g = run-good cs (entry d c .device) (rest-frames c cs b) (good-next d c (first-frame c cs b) g)
+run-good (c ∷ cs) d b g = run-good cs (entry d c .device) (rest-fits c cs b) (good-next d c (first-fits c cs b) g)
 
 -- ---- struck frames
 -- a refusal's number is below 0x100, and no other's
 pub refusal-number : (a : Answer) → ltb (answerNumber a) 0x100 ≡ isRefused a
-unfolding answerNumber refusalNumber number isRefused
+unfolding answerNumber number isRefused
 refusal-number (Refused MemoryLength) = refl
 refusal-number (Refused ReplyShort) = refl
 refusal-number (Refused SignalUnknown) = refl
 refusal-number (Refused OutOfRange) = refl
+refusal-number (Refused StateLength) = refl
+refusal-number (Refused UidLength) = refl
 refusal-number Nothing = refl
 refusal-number Ack = refl
 refusal-number NoAck = refl
@@ -155,5 +147,5 @@ all-shut-is (c ∷ cs) start d b g h =
     (sym (decoded (d .tag) (g .fits))) (
       λ t. shut-is now d c g (h .0 (sym (struck-is d c g) ∙ t)),
       subst (λ (x : CallResult). EachLibraryStruck exported (LibraryShut exported) now (x .state) (x .memory) cs) (sym e)
-          (all-shut-is cs now (entry d c .device) (rest-frames c cs b) (good-next d c (first-frame c cs b) g) (h .1)),
+          (all-shut-is cs now (entry d c .device) (rest-fits c cs b) (good-next d c (first-fits c cs b) g) (h .1)),
     )

@@ -15,10 +15,11 @@ use Rattle.tag.specs.Bus.{isActive}
 use Rattle.tag.specs.Radio.{isSelected}
 use Rattle.tag.specs.Supply.{freshTag}
 use Rattle.state.specs.Layout.{flagByte, radioNumber, radioStateOf, spaceNumber, spaceOf, airBytes, airDecodes, airAt, busBytes, isBus, busOf, busDecodes, busAt, hostBytes, hostDecodes, hostAt, registerBytes, registersAt, mailboxBytes, mailboxDecodes, mailboxAt, passwordBytes, passwordsAt, bytesOf, decodes, tagOf}
-use Rattle.model.specs.Step.{transferOpen, tagInRange, isRefused}
+use Rattle.model.specs.Step.{transferOpen, isRefused}
+use Rattle.refusals.specs.Refusals.{tagInRange}
 use Rattle.transfer.specs.Legs.{selectRefused, ends, fresher, isEmpty, finished, push, parse}
 use Rattle.transfer.specs.Whole.{bytesSent, replies, accepted, writeLeg, selectedLeg, legOf, lastLeg, legsOf, transferOf}
-use Rattle.capi.specs.Interface.{refusalNumber, answerNumber, stateAfter, stepCall}
+use Rattle.capi.specs.Interface.{answerNumber, stateAfter, stepCall}
 use Rattle.calls.specs.Calls.{Call, Device, device, framesFit}
 use Rattle.calls.specs.Examples.{zeros, fieldTo, send, stop, programmingEnd, frame, uid, powered, _but_, radioState, radioSession, i2cSession, beingProgrammed, onBus, hostMessage}
 use Rattle.waiting.specs.Waiting.{fill, answered, isStarted, ackedSelect, whenClosed, note, frameAnswer, whenOpen, waitAct, waitStep, waitRun}
@@ -30,7 +31,7 @@ use Rattle.library_demand3.specs.Wrong.{LibraryRefuted, acksStop, refuse
 
 -- all that a run of the library's calls, and the waiting tag's, computes with
 unfoldable runs : Unit {0}
-unfolding computes flagByte radioNumber radioStateOf spaceNumber spaceOf airBytes airDecodes airAt busBytes isBus busOf busDecodes busAt hostBytes hostDecodes hostAt registerBytes registersAt mailboxBytes mailboxDecodes mailboxAt passwordBytes passwordsAt bytesOf decodes tagOf selectRefused ends fresher isEmpty finished push parse bytesSent replies accepted writeLeg selectedLeg legOf lastLeg legsOf transferOf refusalNumber answerNumber isRefused stateAfter stepCall fill answered isStarted ackedSelect whenClosed note frameAnswer whenOpen waitAct waitStep waitRun framesFit isFrame isClosed exported libraryRun inNumbers inBytes libraryStruck EachLibraryStruck
+unfolding computes flagByte radioNumber radioStateOf spaceNumber spaceOf airBytes airDecodes airAt busBytes isBus busOf busDecodes busAt hostBytes hostDecodes hostAt registerBytes registersAt mailboxBytes mailboxDecodes mailboxAt passwordBytes passwordsAt bytesOf decodes tagOf selectRefused ends fresher isEmpty finished push parse bytesSent replies accepted writeLeg selectedLeg legOf lastLeg legsOf transferOf answerNumber isRefused stateAfter stepCall fill answered isStarted ackedSelect whenClosed note frameAnswer whenOpen waitAct waitStep waitRun framesFit isFrame isClosed exported libraryRun inNumbers inBytes libraryStruck EachLibraryStruck
 runs = tt
 
 -- ---- what is compared: of the last answer its number, and byte i of its buffer

@@ -13,7 +13,8 @@ use Rattle.tag.specs.Layout.{memoryBytes}
 use Rattle.state.specs.Layout.{bytesOf, decodes, tagOf}
 use Rattle.model.specs.declared.Answer.the-variants.{Nothing}
 use Rattle.model.specs.Signals.{signalBy}
-use Rattle.model.specs.Step.{transferOpen, tagInRange}
+use Rattle.model.specs.Step.{transferOpen}
+use Rattle.refusals.specs.Refusals.{tagInRange}
 use Rattle.capi.specs.Interface.{answerNumber, freshCall}
 use Rattle.calls.specs.Calls.{Call, CallAnswer, device, framesFit, callReply}
 use Rattle.waiting.specs.Waiting.{Waiting, noTransfer, inside, waitRun}

@@ -11,7 +11,8 @@ take-none : (m : List ℕ) → take 0 m ≡ []
 take-none [] = refl
 take-none (x ∷ m) = refl
 
-replaced : (vs m : List ℕ) → length m ≡ length vs → sets m 0 vs ≡ vs
+-- a list of bytes with all of them replaced
+pub replaced : (vs m : List ℕ) → length m ≡ length vs → sets m 0 vs ≡ vs
 replaced vs m h =
     sets-eq vs m 0 (omega (arith, h))
     ∙ ap (λ (l : List ℕ). l ++ vs ++ drop (0 + length vs) m) (take-none m)

@@ -20,9 +20,11 @@ use Rattle.tag.specs.Bus.{isOpen, isActive}
 use Rattle.tag.specs.Radio.{fieldAt}
 use Rattle.tag.specs.Supply.{freshTag}
 use Rattle.tag.specs.Parts.{wireSide, withTagAir}
-use Rattle.ranges.specs.Ranges.{airInRange, coreInRange, hostInRange, suppliedInRange, wireInRange, inRange}
+use Rattle.ranges.specs.Ranges.{airInRange, coreInRange, suppliedInRange, wireInRange, inRange}
 use Rattle.ranges.proofs.Fresh.{fresh-in-range}
 use Rattle.page.specs.PageRange.{busInRange}
+use Rattle.refusals.proofs.Laws.{judged-case}
+use Rattle.refusals.proofs.Ranges.{RangeParts, range-parts}
 use Rattle.signal.specs.declared.WireSignal.{WireSignal}
 use Rattle.wire_claims.proofs.Kept.{keeps as wire-keeps}
 use Rattle.reply.specs.Outcome.{CommandResult, radioSide, withRadio}
@@ -32,7 +34,8 @@ use Rattle.radio.proofs.ShutOut.{shut-out}
 use Rattle.model.specs.declared.Signal.{Signal}
 use Rattle.model.specs.declared.Signal.the-variants.{Wire, Field, Frame}
 use Rattle.model.specs.Signals.{signalBy}
-use Rattle.model.specs.Step.{StepResult, transferOpen, tagInRange, actOf, stepOf}
+use Rattle.model.specs.Step.{StepResult, transferOpen, actOf, stepOf}
+use Rattle.refusals.specs.Refusals.{tagInRange}
 use Rattle.model.specs.Claims.{Fit, StepKeepsFit, FreshFits}
 
 -- ---- the test of supply: v is VCC, e MB_EN, s session, p programming, a bus activity
@@ -49,39 +52,28 @@ supplied-as false true false s p a h k = absurd (false≢true h)
 
 -- ---- the ranges as facts
 record Fits (t : Tag) (m : List ℕ) : Type 0 where
-  air : airInRange (t .air) ≡ true
-  core : coreInRange (t .core) ≡ true
-  host : hostInRange (t .host) ≡ true
-  supplied : suppliedInRange (t .host) (t .core .mailbox .enabled) ≡ true
-  bus : busInRange (t .host .bus) (t .host .counter) (t .core) (t .host .session) m ≡ true
+  parts : RangeParts t m
   size : length m ≡ 1024
 
 fits : (t : Tag) (m : List ℕ) → Fit t m → Fits t m
-unfolding tagInRange inRange wireInRange
-fits t m f =
-    let a = airInRange (t .air) in
-    let c = coreInRange (t .core) in
-    let h = hostInRange (t .host) in
-    let v = suppliedInRange (t .host) (t .core .mailbox .enabled) in
-    let b = busInRange (t .host .bus) (t .host .counter) (t .core) (t .host .session) m in
-    let r = and-left (inRange t) b (f .range) in
-    let w = and-right a (c && h && v) r in
-    let k = and-left (c && h) v w in
-    record { air = and-left a (c && h && v) r; core = and-left c h k; host = and-right c h k; supplied = and-right (c && h) v w; bus = and-right (inRange t) b (f .range); size = f .size }
+fits t m f = record { parts = range-parts t m (f .range); size = f .size }
 
 fit : (t : Tag) (m : List ℕ) → Fits t m → Fit t m
 unfolding tagInRange inRange wireInRange
-fit t m f = record { range = rw (f .air, f .core, f .host, f .supplied, f .bus); size = f .size }
+fit t m f = record { range = rw (f .parts .air, f .parts .core, f .parts .host, f .parts .supplied, f .parts .bus); size = f .size }
 
-abbrev F : StepResult → Type 0
+abbrev pub F : StepResult → Type 0
 F e = Fit (e .tag) (e .memory)
 
 -- ---- a wire signal
 wire-kept : (x : WireSignal) (t : Tag) (m o s : List ℕ) → Fits t m → F (actOf (Wire x) t m o s)
 unfolding actOf tagInRange inRange wireInRange
 wire-kept x t m o s f =
-    let k = wire-keeps (wireSide t) (t .uid) m x (record { side = rw (f .core, f .host, f .supplied); bus = f .bus; size = f .size }) in
-    record { range = rw (f .air, k .side, k .bus); size = k .size }
+    let k = wire-keeps (wireSide t) (t .uid) m x (record { side = rw (f .parts .core, f .parts .host, f .parts .supplied); bus = f .parts .bus; size = f .size }) in
+    record { range = rw (f .parts .air, k .side, k .bus); size = k .size }
+
+pub wire-fit : (x : WireSignal) (t : Tag) (m o s : List ℕ) → Fit t m → F (actOf (Wire x) t m o s)
+wire-fit x t m o s f = wire-kept x t m o s (fits t m f)
 
 -- ---- a field change
 field-in-range : (on : Bool) (a : Air) → airInRange a ≡ true → airInRange (fieldAt on a) ≡ true
@@ -94,7 +86,7 @@ field-kept : (on : Bool) (t : Tag) (m o s : List ℕ) → Fits t m → F (actOf 
 unfolding actOf
 field-kept on t m o s f =
     fit (withTagAir (fieldAt on (t .air)) t) m
-    (record { air = field-in-range on (t .air) (f .air); core = f .core; host = f .host; supplied = f .supplied; bus = f .bus; size = f .size })
+    (record { parts = record { air = field-in-range on (t .air) (f .parts .air); core = f .parts .core; host = f .parts .host; supplied = f .parts .supplied; bus = f .parts .bus }; size = f .size })
 
 -- ---- a frame
 -- the page bytes stay Acked: with a transfer open nothing changes, else there are none
@@ -123,18 +115,20 @@ module _ (t : Tag) (m s : List ℕ) (f : Fits t m) (b : (i : ℕ) → getD s i 0
   frame-kept =
       let v = t .host .vcc in
       let e = t .core .mailbox .enabled in
-      let x = supplied-first v e (t .host .session) (t .host .programming) (isActive (t .host .bus)) (f .supplied) in
-      let k = radio-keeps (radioSide t) (t .uid) v (transferOpen t) (t .host .programming) m s b (rw (f .air, f .core, x)) in
+      let x = supplied-first v e (t .host .session) (t .host .programming) (isActive (t .host .bus)) (f .parts .supplied) in
+      let k = radio-keeps (radioSide t) (t .uid) v (transferOpen t) (t .host .programming) m s b (rw (f .parts .air, f .parts .core, x)) in
       let a = airInRange (r .side .air) in
       let c = coreInRange (r .side .core) in
       let e′ = r .side .core .mailbox .enabled in
       let ac = and-left (a && c) (v || not e′) (k .0) in
       record {
-        air = and-left a c ac;
-        core = and-right a c ac;
-        host = f .host;
-        supplied = supplied-as v e e′ (t .host .session) (t .host .programming) (isActive (t .host .bus)) (f .supplied) (and-right (a && c) (v || not e′) (k .0));
-        bus = bus-kept (t .host .bus) (t .host .counter) (t .core) (r .side .core) (t .host .session) m (r .memory) nothing-changed (f .bus);
+        parts = record {
+          air = and-left a c ac;
+          core = and-right a c ac;
+          host = f .parts .host;
+          supplied = supplied-as v e e′ (t .host .session) (t .host .programming) (isActive (t .host .bus)) (f .parts .supplied) (and-right (a && c) (v || not e′) (k .0));
+          bus = bus-kept (t .host .bus) (t .host .counter) (t .core) (r .side .core) (t .host .session) m (r .memory) nothing-changed (f .parts .bus);
+        };
         size = k .1 ∙ f .size;
       }
 
@@ -147,12 +141,7 @@ act-kept Frame t m o s b f = fit _ _ (frame-kept t m s f (bytes-below s b))
 
 pub keeps : StepKeepsFit
 unfolding stepOf
-keeps t m o code value s b f =
-    pick-case F _ _ _ (λ h. f)
-    (λ h. pick-case F _ _ _ (λ h. f)
-    (λ h. pick-case F _ _ _ (λ h. f)
-    (λ h. pick-case F _ _ _ (λ h. f)
-    (λ h. act-kept (signalBy code value) t m o s b (fits t m f)))))
+keeps t m o code value s b f = judged-case F _ _ _ (λ r h. f) (λ h. act-kept (signalBy code value) t m o s b (fits t m f))
 
 -- ---- the fresh tag
 pub fresh-fits : FreshFits

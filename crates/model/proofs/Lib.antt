@@ -1,3 +1,6 @@
+pub mod Acts
 pub mod Kept
+pub mod RepliesFit
+pub mod Served
 pub mod Value
 pub mod Clear

@@ -7,7 +7,7 @@ use lib.Dec.{leb}
 use borrow.Author.Tests.{leb-true}
 use Rattle.parts.specs.Pick.{pick}
 use Rattle.parts.proofs.Bools.{and-right}
-use Rattle.model.specs.Signals.{topValue, signalInRange}
+use Rattle.refusals.specs.Signals.{topValue, signalInRange}
 
 sent-at : (value : ℕ) → signalInRange 4 value ≡ true → value < 256
 unfolding signalInRange topValue pick

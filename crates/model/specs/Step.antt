@@ -1,10 +1,9 @@
 -- "What the bench hands in": the refusals, and what a call does to the tag and both lent buffers.
-use mathlib.Core.Bool.{Bool, true, false, not, _&&_}
+use mathlib.Core.Bool.{Bool, true, false}
 use mathlib.Core.List.{List}
 use Prim.Native.Nat.{ℕ}
-use lib.Dec.{ltb, eqb}
 use lib.ListN.{length, replicate}
-use Rattle.parts.specs.Pick.{pick}
+use lib.Dec.{leb}
 use Rattle.tag.specs.declared.Uid.{Uid}
 use Rattle.tag.specs.declared.Tag.{Tag}
 use Rattle.tag.specs.Layout.{memoryBytes, replyBytes}
@@ -12,25 +11,22 @@ use Rattle.tag.specs.Parts.{withTagAir, wireSide, withWire}
 use Rattle.tag.specs.Bus.{isOpen}
 use Rattle.tag.specs.Radio.{fieldAt}
 use Rattle.tag.specs.Supply.{freshTag}
-use Rattle.ranges.specs.Ranges.{inRange}
-use Rattle.page.specs.PageRange.{busInRange}
 use Rattle.signal.specs.declared.WireAnswer.{WireAnswer}
 use Rattle.signal.specs.declared.WireAnswer.the-variants.{Nothing as WireNothing, Ack as WireAck, NoAck as WireNoAck, Byte as WireByte}
 use Rattle.wire.specs.Wire.{signalOf}
-use Rattle.reply.specs.Reply.{ReplyBody, nothing, body, bufferOf}
+use Rattle.reply.specs.Reply.{bufferOf, answerOf}
 use Rattle.reply.specs.declared.RadioAnswer.{RadioAnswer}
 use Rattle.reply.specs.declared.RadioAnswer.the-variants.{Silence as RadioSilence, Reply as RadioReply}
-use Rattle.reply.specs.Reply.{answerOf}
 use Rattle.reply.specs.Outcome.{radioSide, withRadio}
 use Rattle.radio.specs.Radio.{radioOf}
-use Rattle.model.specs.declared.Refusal.{Refusal}
-use Rattle.model.specs.declared.Refusal.the-variants.{MemoryLength, ReplyShort, SignalUnknown, OutOfRange}
+use Rattle.refusals.specs.declared.Refusal.{Refusal}
+use Rattle.refusals.specs.Refusals.{entryRules, freshRules, judgement, unlessRefused}
 use Rattle.model.specs.declared.Answer.{Answer}
 use Rattle.model.specs.declared.Answer.the-variants.{Refused, Nothing, Ack, NoAck, Byte, Silence, Reply}
 use Rattle.model.specs.declared.Outcome.{Outcome}
 use Rattle.model.specs.declared.Signal.{Signal}
 use Rattle.model.specs.declared.Signal.the-variants.{Wire, Field, Frame}
-use Rattle.model.specs.Signals.{signalInRange, signalBy}
+use Rattle.model.specs.Signals.{signalBy}
 
 -- the answer, the tag and both lent buffers after a call
 pub record StepResult : Type 0 where
@@ -47,17 +43,6 @@ abbrev pub stepResultOf : Outcome → List ℕ → List ℕ → StepResult
 stepResultOf r m o = stepResult (r .answer) (r .tag) m o
 
 -- ---- the answers, case by case
--- 01's table of refusals, "given exactly when, in this order"
-unfoldable pub number : Refusal → ℕ
--- "tag memory is not 1,024 bytes"
-number MemoryLength = 1
--- "reply buffer is shorter than 643"
-number ReplyShort = 2
--- "signal code unknown, or its value out of range"
-number SignalUnknown = 3
--- "state breaks a range below"
-number OutOfRange = 4
-
 -- an answer is a refusal
 unfoldable pub isRefused : Answer → Bool
 isRefused (Refused why) = true
@@ -67,6 +52,16 @@ isRefused NoAck = false
 isRefused (Byte x) = false
 isRefused Silence = false
 isRefused (Reply n) = false
+
+-- a reply has at most 643 bytes
+unfoldable pub replyFits : Answer → Bool
+replyFits (Refused why) = true
+replyFits Nothing = true
+replyFits Ack = true
+replyFits NoAck = true
+replyFits (Byte x) = true
+replyFits Silence = true
+replyFits (Reply n) = leb n replyBytes
 
 -- "A refusal returns the number and the state handed in; every lent byte stays."
 abbrev pub refused : Refusal → Tag → List ℕ → List ℕ → StepResult
@@ -88,10 +83,6 @@ fromRadio (RadioReply n) = Reply n
 abbrev pub transferOpen : Tag → Bool
 transferOpen t = isOpen (t .host .bus)
 
--- ---- 01's sentence "Ranges", whole: refusal 4 exactly where this does not hold
-unfoldable pub tagInRange : Tag → List ℕ → Bool
-tagInRange t m = inRange t && busInRange (t .host .bus) (t .host .counter) (t .core) (t .host .session) m
-
 -- ---- one signal that is not refused; s is the frame, o the reply buffer
 unfoldable pub actOf : Signal → Tag → List ℕ → List ℕ → List ℕ → StepResult
 actOf (Wire x) t m o s =
@@ -106,11 +97,8 @@ actOf Frame t m o s =
 -- one call: the refusals "in this order", then the signal
 unfoldable pub stepOf : Tag → List ℕ → List ℕ → ℕ → ℕ → List ℕ → StepResult
 stepOf t m o code value s =
-    pick (not (eqb (length m) memoryBytes)) (refused MemoryLength t m o)
-    (pick (ltb (length o) replyBytes) (refused ReplyShort t m o)
-    (pick (not (signalInRange code value)) (refused SignalUnknown t m o)
-    (pick (not (tagInRange t m)) (refused OutOfRange t m o)
-    (actOf (signalBy code value) t m o s))))
+    unlessRefused (judgement (entryRules t m o code value)) (λ (r : Refusal). refused r t m o)
+    (actOf (signalBy code value) t m o s)
 
 -- without a reply buffer
 pub record FreshResult : Type 0 where
@@ -124,5 +112,5 @@ freshResult a t m = record { answer = a; tag = t; memory = m }
 -- the fresh tag; "all bytes .. 0". Memory of another length is refusal 1 and stays.
 unfoldable pub freshOf : Uid → List ℕ → FreshResult
 freshOf u m =
-    pick (not (eqb (length m) memoryBytes)) (freshResult (Refused MemoryLength) (freshTag u) m)
+    unlessRefused (judgement (freshRules m)) (λ (r : Refusal). freshResult (Refused r) (freshTag u) m)
     (freshResult Nothing (freshTag u) (replicate memoryBytes 0))

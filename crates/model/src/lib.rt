@@ -1,16 +1,16 @@
 // The tag's two entry points: the fresh tag, and one call. Nothing here relies on a check by the caller.
 ghost use mathlib.Core.Path.{_≡_};
 ghost use mathlib.Core.Bool.{true};
-ghost use lib.Dec.{eqb};
-ghost use lib.ListN.{length};
-ghost use Rattle.tag.specs.Layout.{memoryBytes};
 ghost use Rattle.tag.specs.Radio.{fieldAt};
 ghost use Rattle.tag.specs.Parts.{wireSide, withWire, withTagAir};
 ghost use Rattle.wire.specs.Wire.{signalOf};
 ghost use Rattle.model.specs.declared.Signal.the-variants.{Field, Frame};
 ghost use Rattle.model.specs.declared.Answer.the-variants.{Refused, Nothing};
-ghost use Rattle.model.specs.Signals.{topValue, signalInRange, signalBy};
-ghost use Rattle.model.specs.Step.{number, stepResultOf, freshResult, fromWire, fromRadio, tagInRange, actOf, stepOf, freshOf};
+ghost use Rattle.model.specs.Signals.{signalBy};
+ghost use Rattle.refusals.specs.Signals.{signalInRange};
+ghost use Rattle.model.specs.Step.{stepResultOf, freshResult, fromWire, fromRadio, actOf, stepOf, freshOf};
+use refusals::Judgement;
+use refusals::Refusal;
 use reply::RadioSide;
 use tag::Tag;
 use tag::Uid;
@@ -22,28 +22,6 @@ pub enum Signal {
     // The field at a level.
     Field(bool),
     Frame,
-}
-
-// Document 01's table of refusals.
-pub enum Refusal {
-    MemoryLength,
-    ReplyShort,
-    SignalUnknown,
-    OutOfRange,
-}
-
-impl Refusal {
-    // Its number in that table.
-    pub fn number(self) -> u8
-        ensures { λ r. ⌜ r ≡ number self ⌝ }
-    {
-        match self {
-            Refusal::MemoryLength => 1,
-            Refusal::ReplyShort => 2,
-            Refusal::SignalUnknown => 3,
-            Refusal::OutOfRange => 4,
-        }
-    }
 }
 
 pub enum Answer {
@@ -63,25 +41,6 @@ pub struct Outcome {
 }
 
 // ---- the signal of a code and a value
-// The highest value of a code.
-fn top_value(code: u8) -> u16
-    ensures { λ r. ⌜ r ≡ topValue code ⌝ }
-{
-    if code == 4 {
-        return 255;
-    }
-    if (code == 1) | (code == 2) | (code == 5) {
-        return 1;
-    }
-    0
-}
-
-fn signal_in_range(code: u8, value: u16) -> bool
-    ensures { λ r. ⌜ r ≡ signalInRange code value ⌝ }
-{
-    (1 <= code) & (code <= 8) & (value <= top_value(code))
-}
-
 fn signal_by(code: u8, value: u16) -> Signal
     requires { ⌜ signalInRange code value ≡ true ⌝ }
     ensures { λ r. ⌜ r ≡ signalBy code value ⌝ }
@@ -192,15 +151,6 @@ fn act(s: Signal, t: Tag, m: &mut [u8], out: &mut [u8], frame: &[u8]) -> Outcome
 }
 
 // ---- the entry points
-// Whether a tag and its memory are within the ranges.
-fn in_range(t: Tag, m: &[u8]) -> bool
-    ensures { λ r. ⌜ r ≡ tagInRange t (now (m .entry)) ⌝ }
-{
-    let host = t.host;
-    let bus = host.bus;
-    ranges::in_range(t) & page::bus_in_range(bus, t.host.counter, t.core, t.host.session, m)
-}
-
 fn refused(why: Refusal, t: Tag) -> Outcome
     ensures { λ r. ⌜ r ≡ record { answer = Refused why; tag = t } ⌝ }
 {
@@ -210,30 +160,15 @@ fn refused(why: Refusal, t: Tag) -> Outcome
     }
 }
 
-// Whether the lent memory has its length.
-fn is_memory(m: &[u8]) -> bool
-    ensures { λ r. ⌜ r ≡ eqb (length (now (m .entry))) memoryBytes ⌝ }
-{
-    m.len() == tag::MEMORY_BYTES
-}
-
 // One call: a signal's code and value, and a frame.
 pub fn step(t: Tag, m: &mut [u8], out: &mut [u8], code: u8, value: u16, frame: &[u8]) -> Outcome
     ensures { λ r. ⌜ stepResultOf r (now (m .exit)) (now (out .exit)) ≡ stepOf t (now (m .entry)) (now (out .entry)) code value (now (frame .entry)) ⌝ }
 {
-    if !is_memory(m) {
-        return refused(Refusal::MemoryLength, t);
+    let judged = refusals::entry_refusal(t, m, out, code as u32, value as u32);
+    match judged {
+        Judgement::RefusedBy(why) => refused(why, t),
+        Judgement::NoRefusal => act(signal_by(code, value), t, m, out, frame),
     }
-    if out.len() < tag::REPLY_BYTES {
-        return refused(Refusal::ReplyShort, t);
-    }
-    if !signal_in_range(code, value) {
-        return refused(Refusal::SignalUnknown, t);
-    }
-    if !in_range(t, m) {
-        return refused(Refusal::OutOfRange, t);
-    }
-    act(signal_by(code, value), t, m, out, frame)
 }
 
 // The fresh tag; the memory is cleared.
@@ -241,13 +176,16 @@ pub fn fresh(u: Uid, m: &mut [u8]) -> Outcome
     ensures { λ r. ⌜ freshResult (r .answer) (r .tag) (now (m .exit)) ≡ freshOf u (now (m .entry)) ⌝ }
 {
     let t = Tag::fresh(u);
-    if !is_memory(m) {
-        return refused(Refusal::MemoryLength, t);
-    }
-    let zeros = [0u8; 1024];
-    parts::put_bytes(m, 0, &zeros, 0, tag::MEMORY_BYTES);
-    Outcome {
-        answer: Answer::Nothing,
-        tag: t,
+    let judged = refusals::fresh_refusal(m);
+    match judged {
+        Judgement::RefusedBy(why) => refused(why, t),
+        Judgement::NoRefusal => {
+            let zeros = [0u8; 1024];
+            parts::put_bytes(m, 0, &zeros, 0, tag::MEMORY_BYTES);
+            Outcome {
+                answer: Answer::Nothing,
+                tag: t,
+            }
+        }
     }
 }

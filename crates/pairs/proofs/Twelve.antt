@@ -1,29 +1,24 @@
 -- The twelve pairs, by computation. Assumes nothing.
 use mathlib.Core.Path.{_≡_, refl, ap, subst, _∙_}
-use mathlib.Core.Bool.{Bool, true, false, not, _&&_, false≢true}
+use mathlib.Core.Bool.{Bool, true, false, _&&_, false≢true}
 use mathlib.Core.List.{List, [], _∷_}
 use Prim.Native.Nat.{ℕ}
-use lib.Dec.{eqb, ltb}
-use lib.ListN.{length}
+use lib.Dec.{eqb}
 use borrow.Author.Tests.{eqb-true}
-use Rattle.parts.specs.Pick.{pick}
 use Rattle.parts.proofs.Bools.{and-left, and-right}
 use Rattle.tag.specs.declared.Tag.{Tag}
-use Rattle.tag.specs.Layout.{replyBytes}
-use Rattle.model.specs.Signals.{signalInRange}
-use Rattle.model.specs.declared.Refusal.the-variants.{ReplyShort, SignalUnknown}
 use Rattle.model.proofs.Kept.{fresh-fits}
 use Rattle.calls.specs.Calls.{Call, Device, device, DeviceResult, RunResult, runResult, entry, runBy, framesFit}
 use Rattle.calls.specs.Examples.{uid}
-use Rattle.calls.proofs.Laws.{Fits, acted, refusal, call-is, first-fits, rest-fits, fits-next}
+use Rattle.refusals.specs.declared.Refusal.{Refusal}
+use Rattle.refusals.specs.Refusals.{unlessRefused}
+use Rattle.calls.proofs.Laws.{found, Fits, acted, refusal, call-is, first-fits, rest-fits, fits-next}
 use Rattle.calls.proofs.Computes.{computes}
 use Rattle.pairs.specs.Pairs.{Value, valueOf, values, Result, resultOf, Part, Pair, crcIs, goes, HoldFrom, freshDevice, supplies, Holds, AllHold, pair1, pair2, pair3, pair4, pair4wire, pair5, pair6, pair7, pair8, pair9, pair9more, pair10, pair11, pair12, twelve, Twelve}
 
 -- ---- from a tag in range refusals 1 and 4 never come, so no call need judge them: that is what would take long
 unfoldable unranged : Device → Call → DeviceResult
-unranged d c =
-    pick (ltb (length (c .buffer)) replyBytes) (refusal ReplyShort d c)
-    (pick (not (signalInRange (c .code) (c .value))) (refusal SignalUnknown d c) (acted d c))
+unranged d c = unlessRefused (found c) (λ (r : Refusal). refusal r d c) (acted d c)
 
 record Runs (d : Device) (cs : List Call) : Type 0 where
   same : runBy entry d cs ≡ runBy unranged d cs

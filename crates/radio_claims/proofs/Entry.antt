@@ -1,14 +1,11 @@
 -- At the entry: what a call leaves that is answered by an error reply. Assumes nothing.
-use mathlib.Core.Path.{_≡_, refl, sym, ap, subst, _∙_}
+use mathlib.Core.Path.{_≡_, sym, ap, subst, _∙_}
 use mathlib.Core.Bool.{_||_}
 use mathlib.Core.List.{List, _∷_}
-use Prim.Native.Nat.{ℕ, _<_}
+use Prim.Native.Nat.{ℕ, _<_, _≤_}
 use native.Mathlib.Omega.{arith}
-use lib.Dec.{ltb}
 use lib.ListN.{length, take, getD, set}
 use lib.Seq.{sets, getD-set-same}
-use borrow.Author.Tests.{ltb-false}
-use Rattle.parts.specs.Pick.{pick}
 use Rattle.parts.proofs.Picks.{pick-case}
 use Rattle.parts.proofs.Lists.{getD-sets-before}
 use Rattle.crc.specs.Crc.{crcBytes, closedAt}
@@ -17,13 +14,12 @@ use Rattle.reply.specs.declared.RadioSide.{RadioSide}
 use Rattle.reply.specs.Reply.{ReplyBody, body, answerOf, bufferOf}
 use Rattle.reply.specs.Outcome.{CommandResult, radioSide, withRadio}
 use Rattle.radio.specs.Radio.{radioOf}
-use Rattle.model.specs.declared.Refusal.{Refusal}
-use Rattle.model.specs.declared.Refusal.the-variants.{MemoryLength, ReplyShort, SignalUnknown, OutOfRange}
+use Rattle.refusals.specs.declared.Refusal.{Refusal}
+use Rattle.refusals.proofs.Laws.{judged-case}
+use Rattle.model.proofs.Acts.{room-of, frame-code}
 use Rattle.model.specs.declared.Answer.{Answer}
 use Rattle.model.specs.declared.Answer.the-variants.{Refused, Nothing, Ack, NoAck, Byte, Silence, Reply}
 use Rattle.model.specs.declared.Signal.{Signal}
-use Rattle.model.specs.declared.Signal.the-variants.{Frame}
-use Rattle.model.specs.Signals.{signalBy}
 use Rattle.model.specs.Step.{StepResult, fromRadio, transferOpen, actOf, stepOf}
 use Rattle.radio_claims.specs.Claims.{errorLeaves, ErrorCallsLeave}
 use Rattle.radio_claims.proofs.Errors.{Shape, silent, served, failed, frame-leaves}
@@ -60,20 +56,15 @@ told-leaves t m o after r n l (served data- h) a b =
     let e : _≡_ {A = ℕ} 0 1 = sym (first-byte 0 data- o l) ∙ ap (λ (x : ReplyBody). getD (bufferOf x o) 0 0) (sym h) ∙ b in absurd (omega arith)
 told-leaves t m o after r n l (failed e h) a b = (ap (λ (x : CommandResult). withRadio (x .side) t) h, ap (λ (x : CommandResult). x .memory) h)
 
-frame-code : signalBy 8 0 ≡ Frame
-unfolding signalBy pick
-frame-code = refl
-
 pub error-calls-leave : ErrorCallsLeave
 unfolding stepOf actOf
 error-calls-leave t m o s n =
     let busy = transferOpen t || t .host .programming in
     let after = errorLeaves (radioSide t) (t .uid) busy s in
     let P : StepResult → Type 0 = λ (x : StepResult). x .answer ≡ Reply n → getD (x .reply) 0 0 ≡ 0x01 → (x .tag ≡ withRadio after t) × (x .memory ≡ m) in
-    pick-case P _ _ _ (λ h a b. absurd (refused-not MemoryLength n a))
-    (λ h. pick-case P (ltb (length o) 643) _ _ (λ h a b. absurd (refused-not ReplyShort n a))
-    (λ long. pick-case P _ _ _ (λ h a b. absurd (refused-not SignalUnknown n a))
-    (λ h. pick-case P _ _ _ (λ h a b. absurd (refused-not OutOfRange n a))
-    (λ h. subst (λ (x : Signal). P (actOf x t m o s)) (sym frame-code)
-    (told-leaves t m o after (radioOf (radioSide t) (t .uid) (t .host .vcc) (transferOpen t) (t .host .programming) m s) n (omega (arith, ltb-false (length o) 643 long))
-    (frame-leaves (radioSide t) (t .uid) (t .host .vcc) (transferOpen t) (t .host .programming) m s))))))
+    judged-case P _ _ _ (λ r h a b. absurd (refused-not r n a))
+    (λ none.
+    let room : 643 ≤ length o = room-of t m o 8 0 none in
+    subst (λ (x : Signal). P (actOf x t m o s)) (sym frame-code)
+    (told-leaves t m o after (radioOf (radioSide t) (t .uid) (t .host .vcc) (transferOpen t) (t .host .programming) m s) n (omega arith)
+    (frame-leaves (radioSide t) (t .uid) (t .host .vcc) (transferOpen t) (t .host .programming) m s)))

@@ -1,19 +1,20 @@
 -- Laws of lines that hold a frame. Assumes nothing.
-use mathlib.Core.Path.{_≡_, refl, sym, ap, _∙_}
-use mathlib.Core.Bool.{Bool, true, false, _&&_, _||_}
-use mathlib.Core.List.{List, [], _∷_, _++_}
-use Prim.Native.Nat.{ℕ, suc, _+_, _-_, _/_, _%_, _≤_, _<_}
+use mathlib.Core.Path.{_≡_, refl, ap, _∙_}
+use mathlib.Core.Bool.{Bool, true, false, _&&_}
+use mathlib.Core.List.{List}
+use Prim.Native.Nat.{ℕ, _+_, _%_, _≤_}
 use native.Mathlib.Omega.{arith}
-use lib.Dec.{leb, ltb, eqb}
+use lib.Dec.{leb, eqb}
 use borrow.Author.Tests.{leb-true, ltb-false}
 use lib.ListN.{length, take, drop, getD, length-drop, length-append}
 use lib.Seq.{sets, sets-eq, take-at}
-use Rattle.parts.specs.Pick.{pick}
 use Rattle.parts.proofs.Picks.{pick-case}
 use Rattle.parts.proofs.Bools.{and-left}
-use Rattle.crc.specs.Crc.{closed, crcBytes}
-use Rattle.model.specs.Signals.{signalInRange, topValue}
+use Rattle.crc.specs.Crc.{closed}
+use Rattle.refusals.specs.Signals.{signalInRange, topValue}
+use Rattle.refusals.proofs.Laws.{judged-case}
 use Rattle.model.specs.Step.{StepResult, stepOf}
+use Rattle.model.proofs.Acts.{signal-of}
 use Rattle.script.specs.declared.Bench.{Bench}
 use Rattle.text.specs.Hex.{allHex}
 use Rattle.script.specs.Text.{badText, answerText}
@@ -102,8 +103,4 @@ Unmoved b m o e = prints b (e .tag) (e .memory) (e .reply) (answerText (e .answe
 
 pub bad-call : (b : Bench) (m o : List ℕ) (value : ℕ) (f : List ℕ) → benchCall b m o 0 value f ≡ prints b (b .tag) m o badText
 unfolding stepOf signalInRange topValue answerText
-bad-call b m o value f =
-    pick-case (Unmoved b m o) _ _ _ (λ _. refl)
-    (λ _. pick-case (Unmoved b m o) _ _ _ (λ _. refl)
-    (λ _. pick-case (Unmoved b m o) _ _ _ (λ _. refl)
-    (λ h. never (sym h))))
+bad-call b m o value f = judged-case (Unmoved b m o) _ _ _ (λ r h. refl) (λ h. never (signal-of (b .tag) m o 0 value h))

@@ -1,47 +1,48 @@
 -- From the start on every line keeps the tag in range, and only a bad line prints ?. Assumes nothing.
 use mathlib.Core.Path.{_≡_, refl, sym, ap, subst, _∙_}
-use mathlib.Core.Bool.{Bool, true, false, not, _&&_, _||_, false≢true}
-use mathlib.Core.Logic.{_⊎_, inl, inr, ⊎-elim}
+use mathlib.Core.Bool.{Bool, true, false, _&&_, _||_, false≢true}
+use mathlib.Core.Logic.{⊎-elim}
 use mathlib.Core.List.{List, [], _∷_, _++_, append-assoc}
-use Prim.Native.Nat.{ℕ, suc, _+_, _-_, _*_, _/_, _%_, _≤_, _<_}
+use Prim.Native.Nat.{ℕ, _+_, _-_, _/_, _%_, _<_}
 use native.Mathlib.Omega.{arith}
 use lib.Dec.{T, leb, ltb, eqb}
 use lib.Pow.{areBytes as areAll}
 use lib.ListN.{length, take, drop, getD, replicate, length-append}
 use lib.Seq.{sets, length-sets, take-at, drop-at}
-use borrow.Author.Tests.{eq-eqb, eqb-true, le-ltb, le-leb, lt-ltb}
+use borrow.Author.Tests.{eq-eqb, eqb-true, le-leb, lt-ltb}
 use Rattle.parts.specs.Pick.{pick}
 use Rattle.parts.specs.Bytes.{areBytes}
 use Rattle.parts.proofs.Bools.{and-left, and-right, and-both, or-cases}
-use Rattle.parts.proofs.Picks.{pick-case, pick-false}
+use Rattle.parts.proofs.Picks.{pick-case}
 use Rattle.crc.specs.Crc.{crcOf, crcBytes, closed, closedAt}
 use Rattle.crc.proofs.Below.{crc-below}
 use Rattle.tag.specs.declared.Tag.{Tag}
-use Rattle.tag.specs.Layout.{memoryBytes, replyBytes}
 use Rattle.tag.specs.Supply.{freshTag}
-use Rattle.tag.specs.Parts.{wireSide}
-use Rattle.signal.specs.declared.WireAnswer.{WireAnswer}
-use Rattle.signal.specs.declared.WireAnswer.the-variants.{Nothing as WireNothing, Ack as WireAck, NoAck as WireNoAck, Byte as WireByte}
-use Rattle.wire.specs.Wire.{signalOf}
-use Rattle.reply.specs.Reply.{ReplyBody, nothing, body, answerOf, bufferOf}
+use Rattle.reply.specs.Reply.{ReplyBody, nothing, body, bufferOf}
 use Rattle.reply.specs.Outcome.{radioSide}
 use Rattle.radio.specs.Radio.{radioOf}
 use Rattle.model.specs.declared.Answer.{Answer}
 use Rattle.model.specs.declared.Answer.the-variants.{Refused, Nothing, Ack, NoAck, Byte, Silence, Reply}
 use Rattle.model.specs.declared.Signal.{Signal}
 use Rattle.model.specs.declared.Signal.the-variants.{Wire, Field, Frame}
-use Rattle.model.specs.Signals.{topValue, signalInRange, signalBy}
-use Rattle.model.specs.Step.{StepResult, FreshResult, freshResult, fromWire, fromRadio, transferOpen, tagInRange, actOf, stepOf, freshOf}
+use Rattle.model.specs.Signals.{signalBy}
+use Rattle.refusals.specs.Signals.{topValue, signalInRange}
+use Rattle.model.specs.Step.{StepResult, FreshResult, freshResult, transferOpen, actOf, stepOf, freshOf, isRefused}
+use Rattle.refusals.specs.Refusals.{judgement, unlessRefused}
+use Rattle.tag.specs.declared.Uid.{Uid}
+use Rattle.rule_list.specs.RuleList.{firstSays}
+use Rattle.refusals.proofs.Laws.{judged-case}
+use Rattle.model.proofs.Acts.{fit-acts}
+use Rattle.model.proofs.Served.{act-served}
 use Rattle.model.specs.Claims.{Fit}
 use Rattle.model.proofs.Kept.{keeps, fresh-fits}
-use Rattle.text.specs.Hex.{hexValue, allHex, hexByte, hexBytes, hexText}
+use Rattle.text.specs.Hex.{allHex, hexByte, hexBytes, hexText}
 use Rattle.text.specs.Decimal.{decimal}
 use Rattle.text.proofs.HexLaws.{value-small, length-hex-text}
-use Rattle.script.specs.declared.Bench.{Bench}
 use Rattle.script.specs.Line.{ScriptLine, badLine, signalLine, frameLine, longest, alone, level, byteSent, frameSent, tabbed, lineOf}
 use Rattle.script.specs.Text.{badText, answerText, lineText}
-use Rattle.script.specs.Bench.{LineResult, nextLine, prints, benchCall, lineResult, benchOf, benchUid, benchStartOf}
-use Rattle.script.specs.Lines.{BenchState, benchState, lineFrom, benchAfter, afterLines, beforeLines}
+use Rattle.script.specs.Bench.{nextLine, benchCall, lineResult, benchOf, benchUid, benchStartOf}
+use Rattle.script.specs.Lines.{BenchState, lineFrom, benchAfter, afterLines, beforeLines}
 use Rattle.script.specs.Claims.{BenchFit, StartFits, LineKeepsFit, OnlyBadRefused}
 use Rattle.script.proofs.TextLaws.{length-line}
 
@@ -133,52 +134,12 @@ crc-bytes s h = rw (lt-ltb (crcOf s % 256) 256 (omega arith), lt-ltb (crcOf s / 
 closed-bytes : (s : List ℕ) → areBytes s ≡ true → areBytes (closed s) ≡ true
 closed-bytes s h = bytes-append s (crcBytes s) h (crc-bytes s (crc-below s (subst T (sym (sym (same-bytes s) ∙ h)) tt)))
 
--- ---- a call in range is served, and its answer is no refusal
-passed : {A : Type 0} (b : Bool) (x y : A) → b ≡ false → pick b x y ≡ y
-passed b x y h = sym (pick-false x y y b h refl)
-
-served : (t : Tag) (m o : List ℕ) (code value : ℕ) (s : List ℕ) → Fit t m → replyBytes ≤ length o → signalInRange code value ≡ true
-    → stepOf t m o code value s ≡ actOf (signalBy code value) t m o s
-unfolding stepOf
-served t m o code value s f room h =
-    passed (not (eqb (length m) 1024)) _ _ (ap not (eq-eqb (length m) 1024 (f .size)))
-    ∙ passed (ltb (length o) 643) _ _ (le-ltb (length o) 643 room)
-    ∙ passed (not (signalInRange code value)) _ _ (ap not h)
-    ∙ passed (not (tagInRange t m)) _ _ (ap not (f .range))
-
-refusal : Answer → Bool
-refusal (Refused n) = true
-refusal Nothing = false
-refusal Ack = false
-refusal NoAck = false
-refusal (Byte x) = false
-refusal Silence = false
-refusal (Reply n) = false
-
-wire-answers : (a : WireAnswer) → refusal (fromWire a) ≡ false
-unfolding refusal fromWire
-wire-answers WireNothing = refl
-wire-answers WireAck = refl
-wire-answers WireNoAck = refl
-wire-answers (WireByte x) = refl
-
-radio-answers : (r : ReplyBody) → refusal (fromRadio (answerOf r)) ≡ false
-unfolding refusal fromRadio answerOf
-radio-answers nothing = refl
-radio-answers (body b) = refl
-
-act-answers : (x : Signal) (t : Tag) (m o s : List ℕ) → refusal (actOf x t m o s .answer) ≡ false
-unfolding actOf refusal
-act-answers (Wire x) t m o s = wire-answers (signalOf (wireSide t) (t .uid) m x .answer)
-act-answers (Field on) t m o s = refl
-act-answers Frame t m o s = radio-answers (radioOf (radioSide t) (t .uid) (t .host .vcc) (transferOpen t) (t .host .programming) m s .reply)
-
 -- ---- a text that is ? answers a refusal
 first : List ℕ → ℕ
 first s = getD s 0 0
 
-marked : (a : Answer) (o : List ℕ) → refusal a ≡ false → answerText a o ≡ badText → ⊥
-unfolding refusal answerText hexText first
+marked : (a : Answer) (o : List ℕ) → isRefused a ≡ false → answerText a o ≡ badText → ⊥
+unfolding isRefused answerText hexText first
 marked (Refused n) o r e = false≢true (sym r)
 marked Nothing o r e = omega (arith, ap first e)
 marked Ack o r e = omega (arith, ap first e)
@@ -225,11 +186,7 @@ step-room : (t : Tag) (m o : List ℕ) (code value : ℕ) (s : List ℕ) → len
 unfolding stepOf
 step-room t m o code value s =
     let P : StepResult → Type 0 = λ e. length (e .reply) ≡ length o in
-    pick-case P _ _ _ (λ _. refl)
-    (λ _. pick-case P _ _ _ (λ _. refl)
-    (λ _. pick-case P _ _ _ (λ _. refl)
-    (λ _. pick-case P _ _ _ (λ _. refl)
-    (λ _. act-room (signalBy code value) t m o s))))
+    judged-case P _ _ _ (λ r h. refl) (λ h. act-room (signalBy code value) t m o s)
 
 -- ---- a call from a bench that fits
 module _ (c : BenchState) (f : BenchFit c) where
@@ -239,8 +196,8 @@ module _ (c : BenchState) (f : BenchFit c) where
       let t = c .bench .tag in
       let r = stepOf t (c .memory) (c .reply) code value s in
       marked (r .answer) (r .reply)
-      (ap (λ (x : StepResult). refusal (x .answer)) (served t (c .memory) (c .reply) code value s (f .tag) (f .room) h)
-      ∙ act-answers (signalBy code value) t (c .memory) (c .reply) s)
+      (ap (λ (x : StepResult). isRefused (x .answer)) (fit-acts t (c .memory) (c .reply) code value s (f .tag) (f .room) h)
+      ∙ act-served (signalBy code value) t (c .memory) (c .reply) s)
       (same-answer (nextLine (c .bench)) (answerText (r .answer) (r .reply)) badText e)
 
   said-answers : (x : ScriptLine) → Sane x → lineResult x (c .bench) (c .memory) (c .reply) .text ≡ lineText (nextLine (c .bench)) badText → x ≡ badLine
@@ -262,11 +219,14 @@ module _ (c : BenchState) (f : BenchFit c) where
   said-fits (frameLine s) h = call-fits 8 0 (closed s) (closed-bytes s h)
 
 -- ---- the claims
+fresh-served : (u : Uid) (m : List ℕ) → length m ≡ 1024 → freshOf u m ≡ freshResult Nothing (freshTag u) (replicate 1024 0)
+unfolding freshOf judgement firstSays unlessRefused pick
+fresh-served u m l = rw (eq-eqb (length m) 1024 l)
+
 pub start-fits : StartFits
-unfolding benchStartOf freshOf
+unfolding benchStartOf
 start-fits m o l room =
-    let e = passed (not (eqb (length m) 1024)) _ (freshResult Nothing (freshTag benchUid) (replicate 1024 0)) (ap not (eq-eqb (length m) 1024 l)) in
-    record { tag = subst (λ (x : FreshResult). Fit (x .tag) (x .memory)) (sym e) (fresh-fits benchUid); room = room }
+    record { tag = subst (λ (x : FreshResult). Fit (x .tag) (x .memory)) (sym (fresh-served benchUid m l)) (fresh-fits benchUid); room = room }
 
 pub line-keeps-fit : LineKeepsFit
 unfolding benchOf

@@ -4,7 +4,6 @@ use mathlib.Core.Bool.{Bool, true, false, not}
 use mathlib.Core.List.{List, [], _∷_, _++_, append-assoc}
 use Prim.Native.Nat.{ℕ}
 use native.Mathlib.Omega.{arith}
-use lib.Dec.{ltb}
 use lib.ListN.{length, length-append}
 use Rattle.parts.specs.Pick.{pick}
 use Rattle.parts.proofs.Picks.{pick-true, pick-case}
@@ -15,7 +14,6 @@ use Rattle.tag.specs.declared.Bus.the-variants.{Started}
 use Rattle.tag.specs.declared.Host.{Host}
 use Rattle.tag.specs.declared.WireSide.{WireSide}
 use Rattle.tag.specs.Bus.{isOpen}
-use Rattle.tag.specs.Layout.{replyBytes}
 use Rattle.tag.specs.Radio.{fieldAt}
 use Rattle.tag.specs.Supply.{vccAt}
 use Rattle.tag.specs.Parts.{withProgramming, withHost, wireSide, withWire, withTagAir}
@@ -28,17 +26,20 @@ use Rattle.transfer.specs.Legs.{Noted, NotedStart, NotedSend, NotedFetch, Noted
 use Rattle.transfer.specs.Whole.{TransferResult, transferResult, transferOf}
 use Rattle.transfer.specs.Claim.{runOf, Ready}
 use Rattle.transfer.proofs.Transfer.{transfer-by-signals}
-use Rattle.model.specs.declared.Refusal.the-variants.{ReplyShort, SignalUnknown}
 use Rattle.model.specs.declared.Answer.the-variants.{Refused, Nothing}
+use Rattle.refusals.specs.declared.Refusal.{Refusal}
+use Rattle.refusals.specs.declared.Judgement.{Judgement}
+use Rattle.refusals.specs.declared.Judgement.the-variants.{NoRefusal, RefusedBy}
+use Rattle.refusals.specs.Refusals.{unlessRefused}
 use Rattle.model.specs.declared.Signal.{Signal}
 use Rattle.model.specs.declared.Signal.the-variants.{Wire, Field, Frame}
-use Rattle.model.specs.Signals.{signalInRange, signalBy}
+use Rattle.model.specs.Signals.{signalBy}
 use Rattle.model.specs.Step.{fromWire, transferOpen, actOf}
 use Rattle.calls.specs.Calls.{Call, CallAnswer, callAnswer, Device, device, DeviceResult, deviceResult, entry, callReply}
 use Rattle.waiting.specs.Waiting.{Slot, given, waits, fill, Waiting, noTransfer, inside, answered, isStarted, ackedSelect, atOnce, acts, whenClosed, note, frameAnswer, notes, whenOpen, waitAct, waitStep}
 use Rattle.waiting.proofs.OpenStep.{Open, Going, going, opens, stays-shut, Selects, selects, first-goes}
 use Rattle.waiting.proofs.Lists.{run-snoc, run-length, On, here, more, on-snoc, on-finished, waiting, waiting-waits, waiting-given, fill-waits, fill-given}
-use Rattle.calls.proofs.Laws.{Fits, call-is, actedBy, supplied}
+use Rattle.calls.proofs.Laws.{found, Fits, call-is, actedBy, supplied}
 use Rattle.waiting.proofs.Frames.{shutBy, frame-shut, frame-waits}
 
 -- ---- where the tag by signals stands
@@ -288,16 +289,15 @@ unfolding answered now
 at-refusal (noTransfer out k) a g = at-once out k (deviceResult a k) g
 at-refusal (inside out k n sl) a g = given-at-once out k n sl g (k .tag .air) a
 
--- both choose by the same test
-both : (w : Waiting) (b : Bool) (x y : Waiting) (d e : DeviceResult) → Stepped w x d → Stepped w y e → Stepped w (pick b x y) (pick b d e)
-unfolding pick
-both w true x y d e p q = p
-both w false x y d e p q = q
+-- both judge alike
+both : (w : Waiting) (j : Judgement) (x : Refusal → Waiting) (y : Waiting) (d : Refusal → DeviceResult) (e : DeviceResult)
+    → ((r : Refusal) → Stepped w (x r) (d r)) → Stepped w y e → Stepped w (unlessRefused j x y) (unlessRefused j d e)
+unfolding unlessRefused
+both w NoRefusal x y d e p q = q
+both w (RefusedBy r) x y d e p q = p r
 
 pub stepped : (w : Waiting) (c : Call) → Good w → Fits (now w) → Stepped w (waitStep w c) (entry (now w) c)
 unfolding waitStep
 stepped w c g f =
     subst (Stepped w (waitStep w c)) (sym (call-is (now w) c f))
-    (both w (ltb (length (c .buffer)) replyBytes) _ _ _ _ (at-refusal w (callAnswer (Refused ReplyShort) (c .buffer)) g)
-    (both w (not (signalInRange (c .code) (c .value))) _ _ _ _ (at-refusal w (callAnswer (Refused SignalUnknown) (c .buffer)) g)
-    (at-signal w (signalBy (c .code) (c .value)) c g f)))
+    (both w (found c) _ _ _ _ (λ r. at-refusal w (callAnswer (Refused r) (c .buffer)) g) (at-signal w (signalBy (c .code) (c .value)) c g f))

@@ -3,13 +3,10 @@
 use mathlib.Core.Bool.{Bool, true, false, not, _&&_}
 use mathlib.Core.List.{List, [], _∷_, _++_}
 use Prim.Native.Nat.{ℕ}
-use lib.Dec.{ltb}
-use lib.ListN.{length}
 use Rattle.parts.specs.Pick.{pick}
 use Rattle.tag.specs.declared.Bus.{Bus}
 use Rattle.tag.specs.declared.Bus.the-variants.{Idle, Started, ReadLeg, WriteLeg, LowAddress, DataLeg}
 use Rattle.tag.specs.declared.Host.{Host}
-use Rattle.tag.specs.Layout.{replyBytes}
 use Rattle.tag.specs.Radio.{fieldAt}
 use Rattle.tag.specs.Parts.{wireSide, withWire, withTagAir}
 use Rattle.rule.specs.Select.{choose}
@@ -18,11 +15,12 @@ use Rattle.signal.specs.declared.WireSignal.the-variants.{Start as SignalStart,
 use Rattle.transfer.specs.Legs.{Noted, NotedStart, NotedSend, NotedFetch, NotedStop, NotedVccOff, selectRefused, finished}
 use Rattle.transfer.specs.Whole.{transferOf}
 use Rattle.radio.specs.Radio.{radioOf}
-use Rattle.model.specs.declared.Refusal.the-variants.{ReplyShort, SignalUnknown}
 use Rattle.model.specs.declared.Answer.the-variants.{Refused, Nothing}
+use Rattle.refusals.specs.declared.Refusal.{Refusal}
+use Rattle.refusals.specs.Refusals.{argumentRules, judgement, unlessRefused}
 use Rattle.model.specs.declared.Signal.{Signal}
 use Rattle.model.specs.declared.Signal.the-variants.{Wire, Field, Frame}
-use Rattle.model.specs.Signals.{signalInRange, signalBy}
+use Rattle.model.specs.Signals.{signalBy}
 use Rattle.model.specs.Step.{fromWire, actOf}
 use Rattle.reply.specs.Outcome.{radioSide}
 use Rattle.calls.specs.Calls.{Call, callReply, CallAnswer, callAnswer, Device, device, DeviceResult, deviceResultOf}
@@ -118,12 +116,11 @@ unfoldable pub waitAct : Waiting → Signal → Call → Waiting
 waitAct (noTransfer out k) x c = whenClosed out k x c
 waitAct (inside out k n sl) x c = whenOpen out k n sl x c
 
--- it judges refusals 2 and 3
+-- it judges refusals 2 and 3, which the call's own arguments tell
 unfoldable pub waitStep : Waiting → Call → Waiting
 waitStep w c =
-    pick (ltb (length (c .buffer)) replyBytes) (answered w (callAnswer (Refused ReplyShort) (c .buffer)))
-    (pick (not (signalInRange (c .code) (c .value))) (answered w (callAnswer (Refused SignalUnknown) (c .buffer)))
-    (waitAct w (signalBy (c .code) (c .value)) c))
+    unlessRefused (judgement (argumentRules (c .buffer) (c .code) (c .value))) (λ (r : Refusal). answered w (callAnswer (Refused r) (c .buffer)))
+    (waitAct w (signalBy (c .code) (c .value)) c)
 
 unfoldable pub waitRun : Waiting → List Call → Waiting
 waitRun w [] = w

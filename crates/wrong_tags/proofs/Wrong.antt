@@ -11,7 +11,7 @@ use Rattle.tag.specs.Bus.{isOpen, pageBytes}
 use Rattle.tag.specs.Radio.{isSelected}
 use Rattle.model.specs.declared.Answer.{Answer}
 use Rattle.model.specs.declared.Answer.the-variants.{Refused, Nothing, Ack, NoAck, Byte, Silence, Reply}
-use Rattle.model.specs.Step.{number}
+use Rattle.refusals.specs.Refusals.{number}
 use Rattle.calls.specs.Calls.{Call, CallAnswer, callAnswer, Device, RunResult}
 use Rattle.calls.specs.Examples.{vccTo, start, send, stop, programmingEnd, frame, zeros, powered, _but_, radioState, radioSession, fieldIs, vccIs, i2cSession, beingProgrammed, counterAt, onBus, mailboxMode, hostMessage, bytes}
 use Rattle.waiting.specs.Waiting.{Waiting, noTransfer, inside}

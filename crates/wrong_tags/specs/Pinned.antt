@@ -12,7 +12,7 @@ use Rattle.tag.specs.declared.Bus.the-variants.{Idle, Started, ReadLeg, WriteLe
 use Rattle.tag.specs.Layout.{mailboxPlace, pagePlace}
 use Rattle.tag.specs.Bus.{pageBytes}
 use Rattle.tag.specs.Radio.{isSelected}
-use Rattle.model.specs.declared.Refusal.the-variants.{SignalUnknown, OutOfRange}
+use Rattle.refusals.specs.declared.Refusal.the-variants.{SignalUnknown, OutOfRange}
 use Rattle.model.specs.declared.Answer.{Answer}
 use Rattle.model.specs.declared.Answer.the-variants.{Refused, Nothing, Ack, NoAck, Byte, Silence, Reply}
 use Rattle.model.specs.Step.{transferOpen, isRefused}

@@ -1,5 +1,5 @@
 use native.Mathlib.Omega.{arith}
-use Rattle.capi.proofs.Fit.{short}
+use Rattle.model.proofs.RepliesFit.{short}
 use Rattle.capi.specs.Interface.{answerNumber}
 use borrow.Author.Needs.{needs}
 use Rattle.capi.proofs.answer_number.Statement.{statement}
@@ -10,6 +10,9 @@ enum-known-a c = search needs
 
 number-requires : tie.Need-number-requires
 number-requires c κs = search needs
+
+cast-result : tie.Need-cast-result
+cast-result c = search needs
 
 enum-told : tie.Need-enum-told
 enum-told c = search needs
@@ -23,8 +26,8 @@ enum-told-3 c = search needs
 enum-known-a-2 : tie.Need-enum-known-a-2
 enum-known-a-2 c = search needs
 
-cast-result : tie.Need-cast-result
-cast-result c = search needs
+cast-result-2 : tie.Need-cast-result-2
+cast-result-2 c = search needs
 
 add-result : tie.Need-add-result
 add-result c = search needs
@@ -35,8 +38,8 @@ enum-told-4 c = search needs
 enum-known-a-3 : tie.Need-enum-known-a-3
 enum-known-a-3 c = search needs
 
-cast-result-2 : tie.Need-cast-result-2
-cast-result-2 c = omega (arith, short (c .before .before .before .args .a) _ (c .before .a3 .given .1) (c .before .before .before .pre))
+cast-result-3 : tie.Need-cast-result-3
+cast-result-3 c = omega (arith, short (c .before .before .before .args .a) _ (c .before .a3 .given .1) (c .before .before .before .pre))
 
 add-result-2 : tie.Need-add-result-2
 add-result-2 c = omega (arith, short (c .before .before .before .args .a) _ (c .before .a3 .given .1) (c .before .before .before .pre))
@@ -75,15 +78,16 @@ answer-number-spec =
     (tie.spec
     enum-known-a
     number-requires
+    cast-result
     enum-told
     enum-told-2
     enum-told-3
     enum-known-a-2
-    cast-result
+    cast-result-2
     add-result
     enum-told-4
     enum-known-a-3
-    cast-result-2
+    cast-result-3
     add-result-2
     returns
     returns-2

@@ -3,7 +3,7 @@ use borrow.Author.Tests.{not-true, not-false}
 use Rattle.parts.proofs.Picks.{pick-true, pick-false}
 use Rattle.state.specs.Layout.{bytesOf}
 use Rattle.capi.specs.Interface.{stateAfter}
-use Rattle.capi.proofs.Calls.{replaced}
+use Rattle.model.proofs.Clear.{replaced}
 use borrow.Author.Needs.{needs}
 use Rattle.capi.proofs.keep.Statement.{statement}
 use Rattle.capi.proofs.keep.Tie as tie

@@ -1,0 +1,111 @@
+// Which refusal, if any, a call gets.
+ghost use mathlib.Core.Path.{_≡_};
+ghost use Rattle.refusals.specs.Signals.{topValue, signalInRange};
+ghost use Rattle.refusals.specs.Refusals.{number, tagInRange, freshRules, callRules, entryRules, judgement};
+use tag::Tag;
+
+// Document 01's table of refusals, and two of the library for C.
+pub enum Refusal {
+    MemoryLength,
+    ReplyShort,
+    SignalUnknown,
+    OutOfRange,
+    // The state buffer has not its 83 bytes.
+    StateLength,
+    // The UID has not its 8 bytes.
+    UidLength,
+}
+
+impl Refusal {
+    // Its number.
+    pub fn number(self) -> u8
+        ensures { λ r. ⌜ r ≡ number self ⌝ }
+    {
+        match self {
+            Refusal::MemoryLength => 1,
+            Refusal::ReplyShort => 2,
+            Refusal::SignalUnknown => 3,
+            Refusal::OutOfRange => 4,
+            Refusal::StateLength => 13,
+            Refusal::UidLength => 14,
+        }
+    }
+}
+
+// What judging a call finds.
+pub enum Judgement {
+    NoRefusal,
+    RefusedBy(Refusal),
+}
+
+// ---- the tests
+// The highest value of a signal's code.
+fn top_value(code: u32) -> u32
+    ensures { λ r. ⌜ r ≡ topValue code ⌝ }
+{
+    if code == 4 {
+        return 255;
+    }
+    if (code == 1) | (code == 2) | (code == 5) {
+        return 1;
+    }
+    0
+}
+
+pub fn signal_in_range(code: u32, value: u32) -> bool
+    ensures { λ r. ⌜ r ≡ signalInRange code value ⌝ }
+{
+    (1 <= code) & (code <= 8) & (value <= top_value(code))
+}
+
+// Whether a tag and its memory are within the ranges.
+pub fn in_range(t: Tag, m: &[u8]) -> bool
+    ensures { λ r. ⌜ r ≡ tagInRange t (now (m .entry)) ⌝ }
+{
+    let host = t.host;
+    let bus = host.bus;
+    ranges::in_range(t) & page::bus_in_range(bus, t.host.counter, t.core, t.host.session, m)
+}
+
+// ---- the order
+// Of a fresh tag: 1.
+pub fn fresh_refusal(m: &[u8]) -> Judgement
+    ensures { λ r. ⌜ r ≡ judgement (freshRules (now (m .entry))) ⌝ }
+{
+    if m.len() != tag::MEMORY_BYTES {
+        return Judgement::RefusedBy(Refusal::MemoryLength);
+    }
+    Judgement::NoRefusal
+}
+
+// Of a call, without its state: 1, 2, 3.
+pub fn call_refusal(m: &[u8], out: &[u8], code: u32, value: u32) -> Judgement
+    ensures { λ r. ⌜ r ≡ judgement (callRules (now (m .entry)) (now (out .entry)) code value) ⌝ }
+{
+    if m.len() != tag::MEMORY_BYTES {
+        return Judgement::RefusedBy(Refusal::MemoryLength);
+    }
+    if out.len() < tag::REPLY_BYTES {
+        return Judgement::RefusedBy(Refusal::ReplyShort);
+    }
+    if !signal_in_range(code, value) {
+        return Judgement::RefusedBy(Refusal::SignalUnknown);
+    }
+    Judgement::NoRefusal
+}
+
+// Of a call: 1 to 4.
+pub fn entry_refusal(t: Tag, m: &[u8], out: &[u8], code: u32, value: u32) -> Judgement
+    ensures { λ r. ⌜ r ≡ judgement (entryRules t (now (m .entry)) (now (out .entry)) code value) ⌝ }
+{
+    let first = call_refusal(m, out, code, value);
+    match first {
+        Judgement::RefusedBy(why) => Judgement::RefusedBy(why),
+        Judgement::NoRefusal => {
+            if !in_range(t, m) {
+                return Judgement::RefusedBy(Refusal::OutOfRange);
+            }
+            Judgement::NoRefusal
+        }
+    }
+}

@@ -20,15 +20,18 @@ use Rattle.leg.specs.Fetch.{memoryByte, mailboxByte, userByte, systemByte, fetc
 use Rattle.signal.specs.Claims.{sentByte}
 use Rattle.signal.specs.Signal.{dueOf, startAt, startOf, stopAt, selectBy, dataOf, sendAt, fetchAt, signalOf}
 use Rattle.reply.specs.Reply.{answerOf, bufferOf}
-use Rattle.frame.specs.Fields.{uidPlace, paramPlace, ownUid, param, isKnown, takesOption, paramBytes}
-use Rattle.frame.specs.Judge.{isSilent, isMute, errorOf, shutOut, badFlags, wrongLength, judge}
+use Rattle.frame.specs.Fields.{uidPlace, paramPlace, ownUid, param}
+use Rattle.rule_list.specs.RuleList.{anyHolds, firstSays}
+use Rattle.commands.specs.Table.{commandTable, commandOf, isKnown, takesOption, sizeOf, paramBytes}
+use Rattle.frame.specs.Silence.{makerDiffers, uidDiffers, silenceHolds, receptionSilences, addressSilences, requestSilences, isSilent}
+use Rattle.frame.specs.Judge.{isMute, errorOf, shutOut, badFlags, wrongLength, errorHolds, ruleError, errorRules, judge}
 use Rattle.blocks.specs.Blocks.{leavesArea, statusOf, blockOf, blocksOf, readOf, statusesOf, statusReply}
 use Rattle.block_writes.specs.Writes.{mayWriteAll, writeOf, lockOf}
 use Rattle.config.specs.Config.{isPointer, readConfigOf, mailboxAfterWrite, writtenCore, writeConfigOf, readDynamicOf, writeDynamicOf}
 use Rattle.message.specs.Message.{takesMessage, writeMessageOf, lengthOf, asked, mailboxAfterRead, readMessageOf}
 use Rattle.password.specs.Password.{presentOf, writePasswordOf}
 use Rattle.radio_state.specs.RadioState.{stayQuietOf, selectUidOf, resetToReadyOf}
-use Rattle.radio.specs.Commands.{serveOf}
+use Rattle.radio.specs.Commands.{serveCommand, serveCode, serveOf}
 use Rattle.radio.specs.Radio.{verdictResult, radioOf}
 use Rattle.model.specs.Signals.{topValue, signalInRange, signalBy}
 use Rattle.model.specs.Step.{number, fromWire, fromRadio, tagInRange, actOf, stepOf, freshOf}
@@ -41,7 +44,7 @@ use Rattle.waiting.specs.Claim.{framesFit, refusedByState, stateRefused,
 
 -- all that a run of written-down calls computes with
 unfoldable pub computes : Unit {0}
-unfolding bytesAt copied agree pick shifted bit bits byte run crcOf goodFrame closedAt definedOnly freshRegisters registerAt withArea withEnd writtenArea written areaOfBlock areaOfByte endsInRange laterLargest exceedsBefore endAccepted endAllows securityOf sessionOpens radioWrites radioReads wireBits wireWrites wireReads isLocked readRight writeRight mayRead mayWrite isOpen isActive pageBytes radioPassword withRadioPassword freshPasswords controlByte lengthByte enabled controlled isQuiet isSelected deselected fieldAt vccAt freshTag registersInRange airInRange mailboxInRange suppliedInRange hostInRange coreInRange wireInRange inRange pageAcked busInRange memoryAcked mailboxAcked userAcked writtenAll isWritable registerAcked passwordAcked systemAcked spaceAcked acked selectOf choose firstOf userWritten passwordWritten systemWritten legWritten settle memoryByte mailboxByte userByte systemByte fetched isLast sentByte dueOf startAt startOf stopAt selectBy dataOf sendAt fetchAt signalOf answerOf bufferOf uidPlace paramPlace ownUid param isKnown takesOption paramBytes isSilent isMute errorOf shutOut badFlags wrongLength judge leavesArea statusOf blockOf blocksOf readOf mayWriteAll writeOf lockOf statusesOf statusReply isPointer readConfigOf mailboxAfterWrite writtenCore writeConfigOf readDynamicOf writeDynamicOf takesMessage writeMessageOf lengthOf asked mailboxAfterRead readMessageOf presentOf writePasswordOf stayQuietOf selectUidOf resetToReadyOf serveOf verdictResult radioOf areBytes topValue signalInRange signalBy number fromWire fromRadio tagInRange actOf stepOf freshOf entry runBy sends framesFit
+unfolding bytesAt copied agree pick shifted bit bits byte run crcOf goodFrame closedAt definedOnly freshRegisters registerAt withArea withEnd writtenArea written areaOfBlock areaOfByte endsInRange laterLargest exceedsBefore endAccepted endAllows securityOf sessionOpens radioWrites radioReads wireBits wireWrites wireReads isLocked readRight writeRight mayRead mayWrite isOpen isActive pageBytes radioPassword withRadioPassword freshPasswords controlByte lengthByte enabled controlled isQuiet isSelected deselected fieldAt vccAt freshTag registersInRange airInRange mailboxInRange suppliedInRange hostInRange coreInRange wireInRange inRange pageAcked busInRange memoryAcked mailboxAcked userAcked writtenAll isWritable registerAcked passwordAcked systemAcked spaceAcked acked selectOf choose firstOf userWritten passwordWritten systemWritten legWritten settle memoryByte mailboxByte userByte systemByte fetched isLast sentByte dueOf startAt startOf stopAt selectBy dataOf sendAt fetchAt signalOf answerOf bufferOf uidPlace paramPlace ownUid param anyHolds firstSays commandTable commandOf isKnown takesOption sizeOf paramBytes makerDiffers uidDiffers silenceHolds receptionSilences addressSilences requestSilences isSilent isMute errorOf shutOut badFlags wrongLength errorHolds ruleError errorRules judge leavesArea statusOf blockOf blocksOf readOf mayWriteAll writeOf lockOf statusesOf statusReply isPointer readConfigOf mailboxAfterWrite writtenCore writeConfigOf readDynamicOf writeDynamicOf takesMessage writeMessageOf lengthOf asked mailboxAfterRead readMessageOf presentOf writePasswordOf stayQuietOf selectUidOf resetToReadyOf serveCommand serveCode serveOf verdictResult radioOf areBytes topValue signalInRange signalBy number fromWire fromRadio tagInRange actOf stepOf freshOf entry runBy sends framesFit
 computes = tt
 
 -- and the waiting tag and the claim beside it; of whole transfers those of write legs

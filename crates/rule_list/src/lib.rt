@@ -1,0 +1,1 @@
+// Rules in their order: definitions and laws only.

@@ -22,19 +22,21 @@ use Rattle.send.specs.Send.{selectBy, dataOf, sendAt}
 use Rattle.wire.specs.Wire.{fetchAt, signalOf}
 use Rattle.wire_claims.specs.Claims.{sentByte}
 use Rattle.reply.specs.Reply.{answerOf, bufferOf}
-use Rattle.frame.specs.Fields.{uidPlace, paramPlace, ownUid, param, isKnown, takesOption, paramBytes}
-use Rattle.frame.specs.Judge.{isSilent, isMute, errorOf, shutOut, badFlags, wrongLength, judge}
+use Rattle.frame.specs.Fields.{uidPlace, paramPlace, ownUid, param}
+use Rattle.rule_list.specs.RuleList.{anyHolds, firstSays}
+use Rattle.commands.specs.Table.{commandTable, commandOf, isKnown, takesOption, sizeOf, paramBytes}
+use Rattle.frame.specs.Silence.{makerDiffers, uidDiffers, silenceHolds, receptionSilences, addressSilences, requestSilences, isSilent}
+use Rattle.frame.specs.Judge.{isMute, errorOf, shutOut, badFlags, wrongLength, errorHolds, ruleError, errorRules, judge}
 use Rattle.blocks.specs.Blocks.{leavesArea, statusOf, blockOf, blocksOf, readOf, statusesOf, statusReply}
 use Rattle.block_writes.specs.Writes.{mayWriteAll, writeOf, lockOf}
 use Rattle.config.specs.Config.{isPointer, readConfigOf, mailboxAfterWrite, writtenCore, writeConfigOf, readDynamicOf, writeDynamicOf}
 use Rattle.message.specs.Message.{takesMessage, writeMessageOf, lengthOf, asked, mailboxAfterRead, readMessageOf}
 use Rattle.password.specs.Password.{presentOf, writePasswordOf}
 use Rattle.radio_state.specs.RadioState.{stayQuietOf, selectUidOf, resetToReadyOf}
-use Rattle.radio.specs.Commands.{serveOf}
+use Rattle.radio.specs.Commands.{serveCommand, serveCode, serveOf}
 use Rattle.radio.specs.Radio.{verdictResult, radioOf}
 use Rattle.refusals.specs.Signals.{topValue, signalInRange}
 use Rattle.model.specs.Signals.{signalBy}
-use Rattle.rule_list.specs.RuleList.{firstSays}
 use Rattle.refusals.specs.Refusals.{number, tagInRange, judgement, unlessRefused}
 use Rattle.model.specs.Step.{fromWire, fromRadio, actOf, stepOf, freshOf}
 use Rattle.calls.specs.Calls.{entry, runBy, framesFit}
@@ -42,5 +44,5 @@ use Rattle.calls.specs.Examples.{sends}
 
 -- all that a run of written-down calls computes with
 unfoldable pub computes : Unit {0}
-unfolding bytesAt copied agree pick shifted bit bits byte run crcOf goodFrame closedAt definedOnly freshRegisters registerAt withArea withEnd writtenArea written areaOfBlock areaOfByte endsInRange laterLargest exceedsBefore endAccepted endAllows securityOf sessionOpens radioWrites radioReads wireBits wireWrites wireReads isLocked readRight writeRight mayRead mayWrite isOpen isActive pageBytes radioPassword withRadioPassword freshPasswords controlByte lengthByte enabled controlled isQuiet isSelected deselected fieldAt vccAt freshTag registersInRange airInRange mailboxInRange suppliedInRange hostInRange coreInRange wireInRange inRange pageAcked busInRange memoryAcked mailboxAcked userAcked writtenAll isWritable registerAcked passwordAcked systemAcked spaceAcked acked selectOf choose firstOf userWritten passwordWritten systemWritten legWritten settle memoryByte mailboxByte userByte systemByte fetched isLast sentByte dueOf startAt startOf stopAt selectBy dataOf sendAt fetchAt signalOf answerOf bufferOf uidPlace paramPlace ownUid param isKnown takesOption paramBytes isSilent isMute errorOf shutOut badFlags wrongLength judge leavesArea statusOf blockOf blocksOf readOf mayWriteAll writeOf lockOf statusesOf statusReply isPointer readConfigOf mailboxAfterWrite writtenCore writeConfigOf readDynamicOf writeDynamicOf takesMessage writeMessageOf lengthOf asked mailboxAfterRead readMessageOf presentOf writePasswordOf stayQuietOf selectUidOf resetToReadyOf serveOf verdictResult radioOf areBytes topValue signalInRange signalBy number firstSays judgement unlessRefused fromWire fromRadio tagInRange actOf stepOf freshOf entry runBy sends framesFit
+unfolding bytesAt copied agree pick shifted bit bits byte run crcOf goodFrame closedAt definedOnly freshRegisters registerAt withArea withEnd writtenArea written areaOfBlock areaOfByte endsInRange laterLargest exceedsBefore endAccepted endAllows securityOf sessionOpens radioWrites radioReads wireBits wireWrites wireReads isLocked readRight writeRight mayRead mayWrite isOpen isActive pageBytes radioPassword withRadioPassword freshPasswords controlByte lengthByte enabled controlled isQuiet isSelected deselected fieldAt vccAt freshTag registersInRange airInRange mailboxInRange suppliedInRange hostInRange coreInRange wireInRange inRange pageAcked busInRange memoryAcked mailboxAcked userAcked writtenAll isWritable registerAcked passwordAcked systemAcked spaceAcked acked selectOf choose firstOf userWritten passwordWritten systemWritten legWritten settle memoryByte mailboxByte userByte systemByte fetched isLast sentByte dueOf startAt startOf stopAt selectBy dataOf sendAt fetchAt signalOf answerOf bufferOf uidPlace paramPlace ownUid param isKnown takesOption paramBytes isSilent isMute errorOf shutOut badFlags wrongLength judge leavesArea statusOf blockOf blocksOf readOf mayWriteAll writeOf lockOf statusesOf statusReply isPointer readConfigOf mailboxAfterWrite writtenCore writeConfigOf readDynamicOf writeDynamicOf takesMessage writeMessageOf lengthOf asked mailboxAfterRead readMessageOf presentOf writePasswordOf stayQuietOf selectUidOf resetToReadyOf serveOf verdictResult radioOf areBytes topValue signalInRange signalBy number firstSays judgement unlessRefused fromWire fromRadio tagInRange actOf stepOf freshOf entry runBy sends framesFit anyHolds commandTable commandOf sizeOf makerDiffers uidDiffers silenceHolds receptionSilences addressSilences requestSilences errorHolds ruleError errorRules serveCommand serveCode
 computes = tt

@@ -7,7 +7,6 @@ use Rattle.parts.specs.Bytes.{areBytes}
 use Rattle.parts.proofs.Bools.{and-left, and-right, and-both}
 use Rattle.tag.specs.declared.Tag.{Tag}
 use Rattle.ranges.specs.Ranges.{suppliedInRange}
-use Rattle.model.specs.declared.Refusal.{Refusal}
 use Rattle.model.specs.declared.Answer.the-variants.{Refused}
 use Rattle.refusals.specs.declared.Refusal.{Refusal}
 use Rattle.refusals.specs.declared.Judgement.{Judgement}

@@ -10,10 +10,12 @@ use Rattle.errors.specs.declared.RadioError.the-variants.{ShutOut}
 use Rattle.frame.specs.declared.Verdict.{Verdict}
 use Rattle.frame.specs.declared.Verdict.the-variants.{Silence, Error}
 use Rattle.frame.specs.Claims.{ShutOutDecides, ShutOutAnswers}
-use Rattle.frame.specs.Judge.{isSilent, isMute, errorOf, shutOut, judge}
+use Rattle.frame.specs.Judge.{isMute, errorOf, shutOut, errorHolds, ruleError, errorRules, judge}
+use Rattle.rule_list.specs.RuleList.{firstSays}
+use Rattle.frame.specs.Silence.{isSilent}
 
 pub shut-out-decides : ShutOutDecides
-unfolding judge shutOut pick
+unfolding judge shutOut pick firstSays errorHolds ruleError errorRules
 shut-out-decides s a u d busy h = rw h
 
 quiet-or : Verdict → Type 0

@@ -1,9 +1,9 @@
 -- "Frame: flags, command, 02h for commands from A0h, UID (8 bytes, lowest first) if addressed, parameters, CRC low byte first."
 -- A byte that a frame is too short to hold reads 0; the judge's rules on length come before any use of it.
-use mathlib.Core.Bool.{Bool, _||_}
+use mathlib.Core.Bool.{Bool}
 use mathlib.Core.List.{List}
-use Prim.Native.Nat.{ℕ, _+_, _*_, _-_}
-use lib.Dec.{leb, eqb}
+use Prim.Native.Nat.{ℕ, _+_, _-_}
+use lib.Dec.{leb}
 use lib.ListN.{length, getD}
 use Rattle.parts.specs.Pick.{pick}
 use Rattle.parts.specs.Bits.{isSet}
@@ -57,29 +57,3 @@ ownUid s u = sameUid (uidAt s (uidPlace s)) u
 -- parameter byte i
 unfoldable pub param : List ℕ → ℕ → ℕ
 param s i = getD s (paramPlace s + i) 0
-
--- the commands of 01's table
-unfoldable pub isKnown : ℕ → Bool
-isKnown c =
-    eqb c 0x02 || eqb c 0x25 || eqb c 0x26
-    || eqb c 0x20 || eqb c 0x23 || eqb c 0x21 || eqb c 0x24 || eqb c 0x22 || eqb c 0x2C
-    || eqb c 0xA0 || eqb c 0xA1 || eqb c 0xAD || eqb c 0xAE
-    || eqb c 0xAA || eqb c 0xAB || eqb c 0xAC
-    || eqb c 0xB3 || eqb c 0xB1
-
--- those with "(option)"
-unfoldable pub takesOption : ℕ → Bool
-takesOption c =
-    eqb c 0x20 || eqb c 0x23 || eqb c 0x21 || eqb c 0x24 || eqb c 0x22 || eqb c 0xA1 || eqb c 0xB1
-
--- how many bytes of parameters a command takes; first and second are the frame's own first two, for
--- 24 (first, count-1, four bytes a block) and AA (length-1, data)
-unfoldable pub paramBytes : ℕ → ℕ → ℕ → ℕ
-paramBytes c first second =
-    pick (eqb c 0x20 || eqb c 0x22 || eqb c 0xA0 || eqb c 0xAD) 1
-    (pick (eqb c 0x23 || eqb c 0x2C || eqb c 0xA1 || eqb c 0xAE || eqb c 0xAC) 2
-    (pick (eqb c 0x21) 5
-    (pick (eqb c 0x24) (2 + 4 * (second + 1))
-    (pick (eqb c 0xAA) (1 + (first + 1))
-    (pick (eqb c 0xB3 || eqb c 0xB1) 9
-    0)))))

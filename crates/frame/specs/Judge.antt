@@ -1,51 +1,25 @@
--- "Frames, in the order they are judged".
+-- "Frames, in the order they are judged": past the silence list.
 use mathlib.Core.Bool.{Bool, not, _&&_, _||_}
-use mathlib.Core.List.{List}
+use mathlib.Core.List.{List, [], _∷_}
 use Prim.Native.Nat.{ℕ, _+_}
-use lib.Dec.{ltb, eqb}
-use lib.ListN.{length, getD}
+use lib.Dec.{eqb}
 use Rattle.parts.specs.Pick.{pick}
 use Rattle.parts.specs.Bits.{isSet}
-use Rattle.crc.specs.Crc.{goodFrame}
 use Rattle.registers.specs.declared.RfMngt.{RfMngt}
 use Rattle.tag.specs.declared.Air.{Air}
 use Rattle.tag.specs.declared.Uid.{Uid}
-use Rattle.tag.specs.Radio.{isQuiet, isSelected}
 use Rattle.errors.specs.declared.RadioError.{RadioError}
 use Rattle.errors.specs.declared.RadioError.the-variants.{ShutOut, UnknownCommand, UnsupportedFlags, WrongLength}
+use Rattle.rule_list.specs.RuleList.{firstSays}
+use Rattle.commands.specs.Table.{commandOf, isKnown, takesOption, paramBytes, selectCode, stayQuietCode}
 use Rattle.frame.specs.declared.Verdict.{Verdict}
 use Rattle.frame.specs.declared.Verdict.the-variants.{Silence, Error, Request}
-use Rattle.frame.specs.Fields.{command, inventoryFlag, extensionFlag, selectFlag, addressFlag, optionFlag, reservedFlag, isCustom, paramPlace, crcPlace, ownUid, param, isKnown, takesOption, paramBytes}
-
--- "Silence and no change:", each test in its place
-unfoldable pub isSilent : List ℕ → Air → Uid → RfMngt → Bool
-isSilent s a u d =
-    -- field off
-    not (a .field)
-    -- RF_MNGT_Dyn b1
-    || isSet 2 (d .bits)
-    -- under 4 or over 270 bytes
-    || ltb (length s) 4 || ltb 270 (length s)
-    -- bad CRC
-    || not (goodFrame s)
-    -- inventory flag
-    || inventoryFlag s
-    -- both select and address
-    || (selectFlag s && addressFlag s)
-    -- 02h missing or other
-    || (isCustom s && (ltb (crcPlace s) 3 || not (eqb (getD s 2 0) 0x02)))
-    -- UID short or, except in Select, other
-    || (addressFlag s && (ltb (crcPlace s) (paramPlace s) || (not (eqb (command s) 0x25) && not (ownUid s u))))
-    -- select flag when not Selected
-    || (selectFlag s && not (isSelected (a .radio)))
-    -- neither flag when Quiet
-    || (not (selectFlag s) && not (addressFlag s) && isQuiet (a .radio))
-    -- Select or Stay Quiet not addressed
-    || ((eqb (command s) 0x25 || eqb (command s) 0x02) && not (addressFlag s))
+use Rattle.frame.specs.Fields.{command, extensionFlag, optionFlag, reservedFlag, paramPlace, crcPlace, ownUid, param}
+use Rattle.frame.specs.Silence.{isSilent}
 
 -- "Stay Quiet, and Select with another UID: silence"
 unfoldable pub isMute : List ℕ → Uid → Bool
-isMute s u = eqb (command s) 0x02 || (eqb (command s) 0x25 && not (ownUid s u))
+isMute s u = eqb (command s) stayQuietCode || (eqb (command s) selectCode && not (ownUid s u))
 
 -- an error of the judge's own, or that silence
 unfoldable pub errorOf : List ℕ → Uid → RadioError → Verdict
@@ -57,22 +31,38 @@ shutOut s a u d = pick (isSilent s a u d) Silence (errorOf s u ShutOut)
 
 -- "extension, reserved bit or unsupported option"
 unfoldable pub badFlags : List ℕ → Bool
-badFlags s = extensionFlag s || reservedFlag s || (optionFlag s && not (takesOption (command s)))
+badFlags s = extensionFlag s || reservedFlag s || (optionFlag s && not (takesOption (commandOf (command s))))
 
 -- "wrong length"
 unfoldable pub wrongLength : List ℕ → Bool
-wrongLength s = not (eqb (paramPlace s + paramBytes (command s) (param s 0) (param s 1)) (crcPlace s))
+wrongLength s = not (eqb (paramPlace s + paramBytes (commandOf (command s)) (param s 0) (param s 1)) (crcPlace s))
 
--- the whole order; `busy`: "a transfer open or programming"
+pub data ErrorRule : Type 0 where
+  isShutOut isUnknown hasBadFlags hasWrongLength : ErrorRule
+
+-- the rule's condition; `busy`: "a transfer open or programming"
+unfoldable pub errorHolds : List ℕ → RfMngt → Bool → ErrorRule → Bool
+errorHolds f dynamic busy isShutOut = isSet 1 (dynamic .bits) || busy
+errorHolds f dynamic busy isUnknown = not (isKnown (commandOf (command f)))
+errorHolds f dynamic busy hasBadFlags = badFlags f
+errorHolds f dynamic busy hasWrongLength = wrongLength f
+
+-- and its error
+unfoldable pub ruleError : ErrorRule → RadioError
+-- "Then, with RF_MNGT_Dyn b0, a transfer open or programming: 0Fh .., no change."
+ruleError isShutOut = ShutOut
+-- "Then 01h unknown command"
+ruleError isUnknown = UnknownCommand
+-- "03h extension, reserved bit or unsupported option"
+ruleError hasBadFlags = UnsupportedFlags
+-- "02h wrong length"
+ruleError hasWrongLength = WrongLength
+
+unfoldable pub errorRules : List ErrorRule
+errorRules = isShutOut ∷ isUnknown ∷ hasBadFlags ∷ hasWrongLength ∷ []
+
+-- the whole order: silence, the first error that holds, or a request
 unfoldable pub judge : List ℕ → Air → Uid → RfMngt → Bool → Verdict
-judge s a u d busy =
-    pick (isSilent s a u d) Silence
-    -- "Then, with RF_MNGT_Dyn b0, a transfer open or programming: 0Fh .., no change."
-    (pick (isSet 1 (d .bits) || busy) (errorOf s u ShutOut)
-    -- "Then 01h unknown command"
-    (pick (not (isKnown (command s))) (errorOf s u UnknownCommand)
-    -- "03h extension, reserved bit or unsupported option"
-    (pick (badFlags s) (errorOf s u UnsupportedFlags)
-    -- "02h wrong length"
-    (pick (wrongLength s) (errorOf s u WrongLength)
-    Request))))
+judge f a u dynamic busy =
+    pick (isSilent f a u dynamic) Silence
+    (firstSays (errorHolds f dynamic busy) (λ r. errorOf f u (ruleError r)) Request errorRules)

@@ -1,3 +1,4 @@
 pub mod Fields
+pub mod Silence
 pub mod Judge
 pub mod Claims

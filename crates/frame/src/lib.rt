@@ -1,8 +1,10 @@
 // A frame judged: silence, an error, or a request to serve.
 ghost use mathlib.Core.Path.{_≡_};
 ghost use Prim.Native.Nat.{_≤_};
-ghost use Rattle.frame.specs.Fields.{command, optionFlag, uidPlace, paramPlace, crcPlace, ownUid, param, isKnown, takesOption, paramBytes};
-ghost use Rattle.frame.specs.Judge.{isSilent, isMute, errorOf, shutOut, badFlags, wrongLength, judge};
+ghost use Rattle.frame.specs.Fields.{command, optionFlag, uidPlace, paramPlace, crcPlace, ownUid, param};
+ghost use Rattle.rule_list.specs.RuleList.{anyHolds};
+ghost use Rattle.frame.specs.Silence.{makerDiffers, uidDiffers, silenceHolds, receptionSilences, addressSilences, isSilent};
+ghost use Rattle.frame.specs.Judge.{isMute, errorOf, shutOut, badFlags, wrongLength, judge};
 use errors::RadioError;
 use registers::RfMngt;
 use tag::Air;
@@ -75,89 +77,92 @@ pub fn own_uid(s: &[u8], u: Uid) -> bool
     Uid::at(s, uid_place(s)).equals(u)
 }
 
-fn is_known(c: u8) -> bool
-    ensures { λ r. ⌜ r ≡ isKnown c ⌝ }
+// "02h missing or other".
+fn maker_differs(s: &[u8]) -> bool
+    ensures { λ r. ⌜ r ≡ makerDiffers (now (s .entry)) ⌝ }
 {
-    (c == 0x02)
-        | (c == 0x25)
-        | (c == 0x26)
-        | (c == 0x20)
-        | (c == 0x23)
-        | (c == 0x21)
-        | (c == 0x24)
-        | (c == 0x22)
-        | (c == 0x2C)
-        | (c == 0xA0)
-        | (c == 0xA1)
-        | (c == 0xAD)
-        | (c == 0xAE)
-        | (c == 0xAA)
-        | (c == 0xAB)
-        | (c == 0xAC)
-        | (c == 0xB3)
-        | (c == 0xB1)
+    let custom = 0xA0 <= command(s);
+    let end = crc_place(s);
+    let maker = parts::byte_at(s, 2);
+    custom & ((end < 3) | (maker != 0x02))
 }
 
-fn takes_option(c: u8) -> bool
-    ensures { λ r. ⌜ r ≡ takesOption c ⌝ }
+// "UID short or, except in Select, other".
+fn uid_differs(s: &[u8], u: Uid) -> bool
+    ensures { λ r. ⌜ r ≡ uidDiffers (now (s .entry)) u ⌝ }
 {
-    (c == 0x20) | (c == 0x23) | (c == 0x21) | (c == 0x24) | (c == 0x22) | (c == 0xA1) | (c == 0xB1)
+    if parts::byte_at(s, 0) / 0x20 % 2 != 1 {
+        return false;
+    }
+    let end = crc_place(s);
+    let at = param_place(s);
+    let select = command(s) == commands::SELECT;
+    let own = own_uid(s, u);
+    (end < at) | (!select & !own)
 }
 
-// How many bytes of parameters a command takes.
-fn param_bytes(c: u8, first: u8, second: u8) -> usize
-    ensures { λ r. ⌜ r ≡ paramBytes c first second ⌝ }
-    ensures { λ r. ⌜ r ≤ 1026 ⌝ }
+// The rules that every frame meets first. The CRC is computed only where the length is right.
+fn fails_reception(s: &[u8], a: Air, d: RfMngt) -> bool
+    ensures { λ r. ⌜ ((u : Uid) → r ≡ anyHolds (silenceHolds (now (s .entry)) a u d) receptionSilences) ⌝ }
 {
-    if (c == 0x20) | (c == 0x22) | (c == 0xA0) | (c == 0xAD) {
-        return 1;
+    if !a.field {
+        return true;
     }
-    if (c == 0x23) | (c == 0x2C) | (c == 0xA1) | (c == 0xAE) | (c == 0xAC) {
-        return 2;
+    if d.bits / 2 % 2 == 1 {
+        return true;
     }
-    if c == 0x21 {
-        return 5;
+    if (s.len() < 4) | (270 < s.len()) {
+        return true;
     }
-    if c == 0x24 {
-        return 2 + 4 * (second as usize + 1);
+    if !crc::is_good(s) {
+        return true;
     }
-    if c == 0xAA {
-        return 1 + (first as usize + 1);
-    }
-    if (c == 0xB3) | (c == 0xB1) {
-        return 9;
-    }
-    0
+    false
 }
 
-// The rules that give silence, in their order. All of them are looked at: the strict tests leave one answer.
-fn is_silent(s: &[u8], a: Air, u: Uid, d: RfMngt) -> bool
-    ensures { λ r. ⌜ r ≡ isSilent (now (s .entry)) a u d ⌝ }
+// And then a request.
+fn fails_address(s: &[u8], a: Air, u: Uid) -> bool
+    ensures { λ r. ⌜ ((d : RfMngt) → r ≡ anyHolds (silenceHolds (now (s .entry)) a u d) addressSilences) ⌝ }
 {
     let radio = a.radio;
     let flags = parts::byte_at(s, 0);
-    let c = command(s);
-    let maker = parts::byte_at(s, 2);
-    let end = crc_place(s);
-    let at = param_place(s);
-    let own = own_uid(s, u);
-    let good = crc::is_good(s);
-    let selected = tag::is_selected(radio);
-    let quiet = tag::is_quiet(radio);
     let select = flags / 0x10 % 2 == 1;
     let address = flags / 0x20 % 2 == 1;
-    !a.field
-        | (d.bits / 2 % 2 == 1)
-        | (s.len() < 4)
-        | (270 < s.len())
-        | !good
-        | (flags / 0x04 % 2 == 1)
-        | (select & address)
-        | ((0xA0 <= c) & ((end < 3) | (maker != 0x02)))
-        | (address & ((end < at) | ((c != 0x25) & !own)))
-        | (select & !selected)
-        | (!select & !address & quiet)
-        | (((c == 0x25) | (c == 0x02)) & !address)
+    if flags / 0x04 % 2 == 1 {
+        return true;
+    }
+    if select & address {
+        return true;
+    }
+    if maker_differs(s) {
+        return true;
+    }
+    if uid_differs(s, u) {
+        return true;
+    }
+    let selected = tag::is_selected(radio);
+    if select & !selected {
+        return true;
+    }
+    let quiet = tag::is_quiet(radio);
+    if !select & !address & quiet {
+        return true;
+    }
+    let c = command(s);
+    if ((c == commands::SELECT) | (c == commands::STAY_QUIET)) & !address {
+        return true;
+    }
+    false
+}
+
+// The silence list, one rule after the other up to the first that holds.
+fn is_silent(s: &[u8], a: Air, u: Uid, d: RfMngt) -> bool
+    ensures { λ r. ⌜ r ≡ isSilent (now (s .entry)) a u d ⌝ }
+{
+    if fails_reception(s, a, d) {
+        return true;
+    }
+    fails_address(s, a, u)
 }
 
 fn is_mute(s: &[u8], u: Uid) -> bool
@@ -165,7 +170,7 @@ fn is_mute(s: &[u8], u: Uid) -> bool
 {
     let c = command(s);
     let own = own_uid(s, u);
-    (c == 0x02) | ((c == 0x25) & !own)
+    (c == commands::STAY_QUIET) | ((c == commands::SELECT) & !own)
 }
 
 fn error_of(s: &[u8], u: Uid, e: RadioError) -> Verdict
@@ -191,14 +196,14 @@ fn bad_flags(s: &[u8]) -> bool
     ensures { λ r. ⌜ r ≡ badFlags (now (s .entry)) ⌝ }
 {
     let flags = parts::byte_at(s, 0);
-    let takes = takes_option(command(s));
+    let takes = commands::command_of(command(s)).takes_option();
     (flags / 0x08 % 2 == 1) | (flags / 0x80 % 2 == 1) | ((flags / 0x40 % 2 == 1) & !takes)
 }
 
 fn wrong_length(s: &[u8]) -> bool
     ensures { λ r. ⌜ r ≡ wrongLength (now (s .entry)) ⌝ }
 {
-    let takes = param_bytes(command(s), param(s, 0), param(s, 1));
+    let takes = commands::command_of(command(s)).param_bytes(param(s, 0), param(s, 1));
     let at = param_place(s);
     let end = crc_place(s);
     !(at + takes == end)
@@ -214,7 +219,7 @@ pub fn judge(s: &[u8], a: Air, u: Uid, d: RfMngt, busy: bool) -> Verdict
     if (d.bits / 1 % 2 == 1) | busy {
         return error_of(s, u, RadioError::ShutOut);
     }
-    if !is_known(command(s)) {
+    if !commands::command_of(command(s)).is_known() {
         return error_of(s, u, RadioError::UnknownCommand);
     }
     if bad_flags(s) {

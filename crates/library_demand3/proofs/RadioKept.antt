@@ -12,6 +12,10 @@ use Rattle.tag.specs.Keys.{passwordAt, withRadioPassword}
 use Rattle.reply.specs.declared.RadioSide.{RadioSide}
 use Rattle.reply.specs.Reply.{ReplyBody}
 use Rattle.reply.specs.Outcome.{CommandResult, commandResult}
+use Rattle.commands.specs.declared.Command.{Command}
+use Rattle.commands.specs.declared.Command.the-variants.{StayQuiet, Select, ResetToReady, ReadSingleBlock, ReadMultipleBlocks, WriteSingleBlock, WriteMultipleBlocks, LockBlock, GetMultipleBlockSecurityStatus, ReadConfiguration, WriteConfiguration, ReadDynamicConfiguration, WriteDynamicConfiguration, WriteMessage, ReadMessageLength, ReadMessage, PresentPassword, WritePassword}
+use Rattle.commands.specs.declared.CommandCode.{CommandCode}
+use Rattle.commands.specs.declared.CommandCode.the-variants.{Unknown, Known}
 use Rattle.frame.specs.declared.Verdict.{Verdict}
 use Rattle.frame.specs.declared.Verdict.the-variants.{Silence, Error, Request}
 use Rattle.frame.specs.Judge.{judge}
@@ -22,7 +26,7 @@ use Rattle.message.specs.Message.{writeMessageOf, lengthOf, readMessageOf}
 use Rattle.password.specs.Password.{presentOf, writePasswordOf}
 use Rattle.radio_state.specs.RadioState.{stayQuietOf, selectUidOf, resetToReadyOf}
 use Rattle.radio.specs.declared.RequestFields.{RequestFields}
-use Rattle.radio.specs.Commands.{requestOf, serveOf}
+use Rattle.radio.specs.Commands.{requestOf, serveCommand, serveCode, serveOf}
 use Rattle.radio.specs.Radio.{verdictResult, radioOf}
 use Rattle.state.specs.Claims.{PasswordsFit}
 use Rattle.state.proofs.Decoded.{eight-run}
@@ -124,27 +128,35 @@ module _ (t : RadioSide) (m : List ℕ) (p : PasswordsFit (t .core .passwords)) 
   select-sound own = pick-case Sound own _ _ (λ _. same _ _ p) (λ _. same _ _ p)
 
   -- ---- the table, and a frame
+  command-sound : (c : Command) (q : RequestFields) (vcc : Bool) (s : List ℕ) → Below s → Sound (serveCommand c q t vcc m s)
+  unfolding serveCommand
+  command-sound StayQuiet q vcc s b = quiet-sound
+  command-sound Select q vcc s b = select-sound (q .own)
+  command-sound ResetToReady q vcc s b = reset-sound
+  command-sound ReadSingleBlock q vcc s b = read-sound (q .option) (q .first) 0
+  command-sound ReadMultipleBlocks q vcc s b = read-sound (q .option) (q .first) (q .second)
+  command-sound WriteSingleBlock q vcc s b = write-sound (q .first) 0 s (q .at + 1) b
+  command-sound WriteMultipleBlocks q vcc s b = write-sound (q .first) (q .second) s (q .at + 2) b
+  command-sound LockBlock q vcc s b = lock-sound (q .first)
+  command-sound GetMultipleBlockSecurityStatus q vcc s b = status-sound (q .first) (q .second)
+  command-sound ReadConfiguration q vcc s b = read-config-sound (q .first)
+  command-sound WriteConfiguration q vcc s b = write-config-sound (q .first) (q .second)
+  command-sound ReadDynamicConfiguration q vcc s b = read-dynamic-sound (q .first)
+  command-sound WriteDynamicConfiguration q vcc s b = write-dynamic-sound vcc (q .first) (q .second)
+  command-sound WriteMessage q vcc s b = write-message-sound (q .first) s (q .at + 1) b
+  command-sound ReadMessageLength q vcc s b = length-sound
+  command-sound ReadMessage q vcc s b = read-message-sound (q .first) (q .second)
+  command-sound PresentPassword q vcc s b = present-sound (q .first) s (q .at + 1)
+  command-sound WritePassword q vcc s b = password-sound (q .first) s (q .at + 1) b
+
+  code-sound : (c : CommandCode) (q : RequestFields) (vcc : Bool) (s : List ℕ) → Below s → Sound (serveCode c q t vcc m s)
+  unfolding serveCode
+  code-sound Unknown q vcc s b = same _ t p
+  code-sound (Known r) q vcc s b = command-sound (r .command) q vcc s b
+
   serve-sound : (q : RequestFields) (vcc : Bool) (s : List ℕ) → Below s → Sound (serveOf q t vcc m s)
   unfolding serveOf
-  serve-sound q vcc s b =
-      pick-case Sound _ _ _ (λ _. quiet-sound)
-      (λ _. pick-case Sound _ _ _ (λ _. select-sound (q .own))
-      (λ _. pick-case Sound _ _ _ (λ _. reset-sound)
-      (λ _. pick-case Sound _ _ _ (λ _. read-sound (q .option) (q .first) 0)
-      (λ _. pick-case Sound _ _ _ (λ _. read-sound (q .option) (q .first) (q .second))
-      (λ _. pick-case Sound _ _ _ (λ _. write-sound (q .first) 0 s (q .at + 1) b)
-      (λ _. pick-case Sound _ _ _ (λ _. write-sound (q .first) (q .second) s (q .at + 2) b)
-      (λ _. pick-case Sound _ _ _ (λ _. lock-sound (q .first))
-      (λ _. pick-case Sound _ _ _ (λ _. status-sound (q .first) (q .second))
-      (λ _. pick-case Sound _ _ _ (λ _. read-config-sound (q .first))
-      (λ _. pick-case Sound _ _ _ (λ _. write-config-sound (q .first) (q .second))
-      (λ _. pick-case Sound _ _ _ (λ _. read-dynamic-sound (q .first))
-      (λ _. pick-case Sound _ _ _ (λ _. write-dynamic-sound vcc (q .first) (q .second))
-      (λ _. pick-case Sound _ _ _ (λ _. write-message-sound (q .first) s (q .at + 1) b)
-      (λ _. pick-case Sound _ _ _ (λ _. length-sound)
-      (λ _. pick-case Sound _ _ _ (λ _. read-message-sound (q .first) (q .second))
-      (λ _. pick-case Sound _ _ _ (λ _. present-sound (q .first) s (q .at + 1))
-      (λ _. pick-case Sound _ _ _ (λ _. password-sound (q .first) s (q .at + 1) b) (λ _. same _ t p))))))))))))))))))
+  serve-sound q vcc s b = code-sound (q .command) q vcc s b
 
   answer-sound : (v : Verdict) (u : Uid) (vcc : Bool) (s : List ℕ) → Below s → Sound (verdictResult v t u vcc m s)
   unfolding verdictResult

@@ -29,6 +29,10 @@ use Rattle.tag.specs.Mailbox.{disabled, enabled, controlled, radioPut, radioRea
 use Rattle.reply.specs.declared.RadioSide.{RadioSide}
 use Rattle.reply.specs.Reply.{ReplyBody}
 use Rattle.reply.specs.Outcome.{CommandResult, commandResult, withAir, withRadioCore, sideRegisters, sideMailbox, sidePasswords}
+use Rattle.commands.specs.declared.Command.{Command}
+use Rattle.commands.specs.declared.Command.the-variants.{StayQuiet, Select, ResetToReady, ReadSingleBlock, ReadMultipleBlocks, WriteSingleBlock, WriteMultipleBlocks, LockBlock, GetMultipleBlockSecurityStatus, ReadConfiguration, WriteConfiguration, ReadDynamicConfiguration, WriteDynamicConfiguration, WriteMessage, ReadMessageLength, ReadMessage, PresentPassword, WritePassword}
+use Rattle.commands.specs.declared.CommandCode.{CommandCode}
+use Rattle.commands.specs.declared.CommandCode.the-variants.{Unknown, Known}
 use Rattle.frame.specs.declared.Verdict.{Verdict}
 use Rattle.frame.specs.declared.Verdict.the-variants.{Silence, Error, Request}
 use Rattle.frame.specs.Fields.{param}
@@ -41,7 +45,7 @@ use Rattle.password.specs.Password.{presentOf, writePasswordOf}
 use Rattle.radio_state.specs.RadioState.{stayQuietOf, selectUidOf, resetToReadyOf}
 use Rattle.radio.specs.declared.RequestFields.{RequestFields}
 use Rattle.radio.specs.Claims.{radioInRange, FrameKeepsRange}
-use Rattle.radio.specs.Commands.{requestOf, serveOf}
+use Rattle.radio.specs.Commands.{requestOf, serveCommand, serveCode, serveOf}
 use Rattle.radio.specs.Radio.{verdictResult, radioOf}
 
 -- ---- the ranges as facts
@@ -216,27 +220,35 @@ module _ (vcc : Bool) (t : RadioSide) (m : List ℕ) (f : Fits vcc t) where
       (pick-case (λ (b : Mailbox). (vcc || not (b .enabled)) ≡ true) _ _ _ (λ k. f .supplied) (λ k. f .supplied))))
 
   -- ---- the table, and a frame
+  command-kept : (c : Command) (q : RequestFields) (s : List ℕ) → q .first < 256 → K (serveCommand c q t vcc m s)
+  unfolding serveCommand
+  command-kept StayQuiet q s l = quiet-kept
+  command-kept Select q s l = select-kept (q .own)
+  command-kept ResetToReady q s l = reset-kept
+  command-kept ReadSingleBlock q s l = read-kept (q .option) (q .first) 0
+  command-kept ReadMultipleBlocks q s l = read-kept (q .option) (q .first) (q .second)
+  command-kept WriteSingleBlock q s l = write-kept (q .first) 0 s (q .at + 1)
+  command-kept WriteMultipleBlocks q s l = write-kept (q .first) (q .second) s (q .at + 2)
+  command-kept LockBlock q s l = lock-kept (q .first)
+  command-kept GetMultipleBlockSecurityStatus q s l = status-kept (q .first) (q .second)
+  command-kept ReadConfiguration q s l = read-config-kept (q .first)
+  command-kept WriteConfiguration q s l = write-config-kept (q .first) (q .second)
+  command-kept ReadDynamicConfiguration q s l = read-dynamic-kept (q .first)
+  command-kept WriteDynamicConfiguration q s l = write-dynamic-kept (q .first) (q .second)
+  command-kept WriteMessage q s l = write-message-kept (q .first) s (q .at + 1) l
+  command-kept ReadMessageLength q s l = length-kept
+  command-kept ReadMessage q s l = read-message-kept (q .first) (q .second)
+  command-kept PresentPassword q s l = present-kept (q .first) s (q .at + 1)
+  command-kept WritePassword q s l = password-kept (q .first) s (q .at + 1)
+
+  code-kept : (c : CommandCode) (q : RequestFields) (s : List ℕ) → q .first < 256 → K (serveCode c q t vcc m s)
+  unfolding serveCode
+  code-kept Unknown q s l = same _
+  code-kept (Known r) q s l = command-kept (r .command) q s l
+
   serve-kept : (q : RequestFields) (s : List ℕ) → q .first < 256 → K (serveOf q t vcc m s)
   unfolding serveOf
-  serve-kept q s l =
-      pick-case K _ _ _ (λ h. quiet-kept)
-      (λ h. pick-case K _ _ _ (λ h. select-kept (q .own))
-      (λ h. pick-case K _ _ _ (λ h. reset-kept)
-      (λ h. pick-case K _ _ _ (λ h. read-kept (q .option) (q .first) 0)
-      (λ h. pick-case K _ _ _ (λ h. read-kept (q .option) (q .first) (q .second))
-      (λ h. pick-case K _ _ _ (λ h. write-kept (q .first) 0 s (q .at + 1))
-      (λ h. pick-case K _ _ _ (λ h. write-kept (q .first) (q .second) s (q .at + 2))
-      (λ h. pick-case K _ _ _ (λ h. lock-kept (q .first))
-      (λ h. pick-case K _ _ _ (λ h. status-kept (q .first) (q .second))
-      (λ h. pick-case K _ _ _ (λ h. read-config-kept (q .first))
-      (λ h. pick-case K _ _ _ (λ h. write-config-kept (q .first) (q .second))
-      (λ h. pick-case K _ _ _ (λ h. read-dynamic-kept (q .first))
-      (λ h. pick-case K _ _ _ (λ h. write-dynamic-kept (q .first) (q .second))
-      (λ h. pick-case K _ _ _ (λ h. write-message-kept (q .first) s (q .at + 1) l)
-      (λ h. pick-case K _ _ _ (λ h. length-kept)
-      (λ h. pick-case K _ _ _ (λ h. read-message-kept (q .first) (q .second))
-      (λ h. pick-case K _ _ _ (λ h. present-kept (q .first) s (q .at + 1))
-      (λ h. pick-case K _ _ _ (λ h. password-kept (q .first) s (q .at + 1)) (λ h. same _))))))))))))))))))
+  serve-kept q s l = code-kept (q .command) q s l
 
   answer-kept : (v : Verdict) (u : Uid) (s : List ℕ) → ((i : ℕ) → getD s i 0 < 256) → K (verdictResult v t u vcc m s)
   unfolding verdictResult param

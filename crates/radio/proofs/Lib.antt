@@ -1,3 +1,4 @@
+pub mod Rows
 pub mod ShutOut
 pub mod Kept
 pub mod Room

@@ -19,6 +19,10 @@ use Rattle.tag.specs.declared.Uid.{Uid}
 use Rattle.tag.specs.declared.Mailbox.{Mailbox}
 use Rattle.reply.specs.declared.RadioSide.{RadioSide}
 use Rattle.reply.specs.Outcome.{CommandResult, commandResult, fails}
+use Rattle.commands.specs.declared.Command.{Command}
+use Rattle.commands.specs.declared.Command.the-variants.{StayQuiet, Select, ResetToReady, ReadSingleBlock, ReadMultipleBlocks, WriteSingleBlock, WriteMultipleBlocks, LockBlock, GetMultipleBlockSecurityStatus, ReadConfiguration, WriteConfiguration, ReadDynamicConfiguration, WriteDynamicConfiguration, WriteMessage, ReadMessageLength, ReadMessage, PresentPassword, WritePassword}
+use Rattle.commands.specs.declared.CommandCode.{CommandCode}
+use Rattle.commands.specs.declared.CommandCode.the-variants.{Unknown, Known}
 use Rattle.frame.specs.declared.Verdict.{Verdict}
 use Rattle.frame.specs.declared.Verdict.the-variants.{Silence, Error, Request}
 use Rattle.frame.specs.Judge.{judge}
@@ -30,7 +34,7 @@ use Rattle.password.specs.Password.{presentOf, writePasswordOf}
 use Rattle.radio_state.specs.RadioState.{stayQuietOf, selectUidOf, resetToReadyOf}
 use Rattle.radio.specs.declared.RequestFields.{RequestFields}
 use Rattle.radio.specs.Claims.{replySize, RepliesFit}
-use Rattle.radio.specs.Commands.{requestOf, serveOf}
+use Rattle.radio.specs.Commands.{requestOf, serveCommand, serveCode, serveOf}
 use Rattle.radio.specs.Radio.{verdictResult, radioOf}
 
 abbrev Small : CommandResult → Type 0
@@ -135,28 +139,35 @@ unfolding selectUidOf replySize
 select-small t m own = either _ _ _ (omega arith) (omega arith)
 
 -- ---- the table
+command-small : (c : Command) (q : RequestFields) (t : RadioSide) (vcc : Bool) (m s : List ℕ) → mailboxInRange (t .core .mailbox) ≡ true → Small (serveCommand c q t vcc m s)
+unfolding serveCommand stayQuietOf resetToReadyOf replySize
+command-small StayQuiet q t vcc m s r = omega arith
+command-small Select q t vcc m s r = select-small t m (q .own)
+command-small ResetToReady q t vcc m s r = omega arith
+command-small ReadSingleBlock q t vcc m s r = read-small t m (q .option) (q .first) 0
+command-small ReadMultipleBlocks q t vcc m s r = read-small t m (q .option) (q .first) (q .second)
+command-small WriteSingleBlock q t vcc m s r = write-small t m (q .first) 0 s (q .at + 1)
+command-small WriteMultipleBlocks q t vcc m s r = write-small t m (q .first) (q .second) s (q .at + 2)
+command-small LockBlock q t vcc m s r = lock-small t m (q .first)
+command-small GetMultipleBlockSecurityStatus q t vcc m s r = status-small t m (q .first) (q .second)
+command-small ReadConfiguration q t vcc m s r = config-small t m (q .first)
+command-small WriteConfiguration q t vcc m s r = set-config-small t m (q .first) (q .second)
+command-small ReadDynamicConfiguration q t vcc m s r = dynamic-small t m (q .first)
+command-small WriteDynamicConfiguration q t vcc m s r = set-dynamic-small t m vcc (q .first) (q .second)
+command-small WriteMessage q t vcc m s r = message-small t m (q .first) s (q .at + 1)
+command-small ReadMessageLength q t vcc m s r = length-small t m
+command-small ReadMessage q t vcc m s r = read-message-small t m (q .first) (q .second) r
+command-small PresentPassword q t vcc m s r = present-small t m (q .first) s (q .at + 1)
+command-small WritePassword q t vcc m s r = password-small t m (q .first) s (q .at + 1)
+
+code-small : (c : CommandCode) (q : RequestFields) (t : RadioSide) (vcc : Bool) (m s : List ℕ) → mailboxInRange (t .core .mailbox) ≡ true → Small (serveCode c q t vcc m s)
+unfolding serveCode replySize
+code-small Unknown q t vcc m s r = omega arith
+code-small (Known row) q t vcc m s r = command-small (row .command) q t vcc m s r
+
 serve-small : (q : RequestFields) (t : RadioSide) (vcc : Bool) (m s : List ℕ) → mailboxInRange (t .core .mailbox) ≡ true → Small (serveOf q t vcc m s)
-unfolding serveOf stayQuietOf resetToReadyOf replySize
-serve-small q t vcc m s r =
-    either _ _ _ (omega arith)
-    (either _ _ _ (select-small t m (q .own))
-    (either _ _ _ (omega arith)
-    (either _ _ _ (read-small t m (q .option) (q .first) 0)
-    (either _ _ _ (read-small t m (q .option) (q .first) (q .second))
-    (either _ _ _ (write-small t m (q .first) 0 s (q .at + 1))
-    (either _ _ _ (write-small t m (q .first) (q .second) s (q .at + 2))
-    (either _ _ _ (lock-small t m (q .first))
-    (either _ _ _ (status-small t m (q .first) (q .second))
-    (either _ _ _ (config-small t m (q .first))
-    (either _ _ _ (set-config-small t m (q .first) (q .second))
-    (either _ _ _ (dynamic-small t m (q .first))
-    (either _ _ _ (set-dynamic-small t m vcc (q .first) (q .second))
-    (either _ _ _ (message-small t m (q .first) s (q .at + 1))
-    (either _ _ _ (length-small t m)
-    (either _ _ _ (read-message-small t m (q .first) (q .second) r)
-    (either _ _ _ (present-small t m (q .first) s (q .at + 1))
-    (either _ _ _ (password-small t m (q .first) s (q .at + 1))
-    (omega arith))))))))))))))))))
+unfolding serveOf
+serve-small q t vcc m s r = code-small (q .command) q t vcc m s r
 
 answered-small : (v : Verdict) (t : RadioSide) (u : Uid) (vcc : Bool) (m s : List ℕ) → mailboxInRange (t .core .mailbox) ≡ true → Small (verdictResult v t u vcc m s)
 unfolding verdictResult replySize

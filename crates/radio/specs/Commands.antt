@@ -1,13 +1,16 @@
--- The table of commands: what each says and leaves. Its rows are defined where their crates are: blocks, block_writes, config, message, password, radio_state.
+-- What each command says and leaves. They are defined where their crates are: blocks, block_writes, config, message, password, radio_state.
 use mathlib.Core.Bool.{Bool}
 use mathlib.Core.List.{List}
 use Prim.Native.Nat.{ℕ, _+_}
-use lib.Dec.{eqb}
-use Rattle.parts.specs.Pick.{pick}
 use Rattle.tag.specs.declared.Uid.{Uid}
 use Rattle.reply.specs.declared.RadioSide.{RadioSide}
 use Rattle.reply.specs.Reply.{nothing}
 use Rattle.reply.specs.Outcome.{CommandResult, commandResult}
+use Rattle.commands.specs.declared.Command.{Command}
+use Rattle.commands.specs.declared.Command.the-variants.{StayQuiet, Select, ResetToReady, ReadSingleBlock, ReadMultipleBlocks, WriteSingleBlock, WriteMultipleBlocks, LockBlock, GetMultipleBlockSecurityStatus, ReadConfiguration, WriteConfiguration, ReadDynamicConfiguration, WriteDynamicConfiguration, WriteMessage, ReadMessageLength, ReadMessage, PresentPassword, WritePassword}
+use Rattle.commands.specs.declared.CommandCode.{CommandCode}
+use Rattle.commands.specs.declared.CommandCode.the-variants.{Unknown, Known}
+use Rattle.commands.specs.Table.{commandOf}
 use Rattle.frame.specs.Fields.{command, optionFlag, paramPlace, ownUid, param}
 use Rattle.blocks.specs.Blocks.{readOf, statusReply}
 use Rattle.block_writes.specs.Writes.{writeOf, lockOf}
@@ -20,33 +23,38 @@ use Rattle.radio.specs.declared.RequestFields.{RequestFields}
 -- a frame's fields: command, first two parameter bytes, option, whether its UID is the tag's, the place of its parameters
 abbrev pub requestOf : List ℕ → Uid → RequestFields
 requestOf s u =
-    record { command = command s; first = param s 0; second = param s 1; option = optionFlag s; own = ownUid s u; at = paramPlace s }
+    record { command = commandOf (command s); first = param s 0; second = param s 1; option = optionFlag s; own = ownUid s u; at = paramPlace s }
 
--- the command of a request served; s is the frame, for data that stand in it
+-- what each command says and leaves; f is the frame, for data that stand in it
+unfoldable pub serveCommand : Command → RequestFields → RadioSide → Bool → List ℕ → List ℕ → CommandResult
+serveCommand StayQuiet q v vcc m f = stayQuietOf v m
+serveCommand Select q v vcc m f = selectUidOf v m (q .own)
+serveCommand ResetToReady q v vcc m f = resetToReadyOf v m
+-- block; first, count-1
+serveCommand ReadSingleBlock q v vcc m f = readOf v m (q .option) (q .first) 0
+serveCommand ReadMultipleBlocks q v vcc m f = readOf v m (q .option) (q .first) (q .second)
+-- block, data; first, count-1, data
+serveCommand WriteSingleBlock q v vcc m f = writeOf v m (q .first) 0 f (q .at + 1)
+serveCommand WriteMultipleBlocks q v vcc m f = writeOf v m (q .first) (q .second) f (q .at + 2)
+serveCommand LockBlock q v vcc m f = lockOf v m (q .first)
+serveCommand GetMultipleBlockSecurityStatus q v vcc m f = statusReply v m (q .first) (q .second)
+-- pointer; pointer, value
+serveCommand ReadConfiguration q v vcc m f = readConfigOf v m (q .first)
+serveCommand WriteConfiguration q v vcc m f = writeConfigOf v m (q .first) (q .second)
+serveCommand ReadDynamicConfiguration q v vcc m f = readDynamicOf v m (q .first)
+serveCommand WriteDynamicConfiguration q v vcc m f = writeDynamicOf v m vcc (q .first) (q .second)
+-- length-1, data
+serveCommand WriteMessage q v vcc m f = writeMessageOf v m (q .first) f (q .at + 1)
+serveCommand ReadMessageLength q v vcc m f = lengthOf v m
+serveCommand ReadMessage q v vcc m f = readMessageOf v m (q .first) (q .second)
+-- n, 8 bytes
+serveCommand PresentPassword q v vcc m f = presentOf v m (q .first) f (q .at + 1)
+serveCommand WritePassword q v vcc m f = writePasswordOf v m (q .first) f (q .at + 1)
+
+unfoldable pub serveCode : CommandCode → RequestFields → RadioSide → Bool → List ℕ → List ℕ → CommandResult
+serveCode Unknown q v vcc m f = commandResult nothing v m
+serveCode (Known r) q v vcc m f = serveCommand (r .command) q v vcc m f
+
+-- a request served; no unknown command is one
 unfoldable pub serveOf : RequestFields → RadioSide → Bool → List ℕ → List ℕ → CommandResult
-serveOf q t vcc m s =
-    pick (eqb (q .command) 0x02) (stayQuietOf t m)
-    (pick (eqb (q .command) 0x25) (selectUidOf t m (q .own))
-    (pick (eqb (q .command) 0x26) (resetToReadyOf t m)
-    -- 20: block; 23: first, count-1
-    (pick (eqb (q .command) 0x20) (readOf t m (q .option) (q .first) 0)
-    (pick (eqb (q .command) 0x23) (readOf t m (q .option) (q .first) (q .second))
-    -- 21: block, data; 24: first, count-1, data
-    (pick (eqb (q .command) 0x21) (writeOf t m (q .first) 0 s (q .at + 1))
-    (pick (eqb (q .command) 0x24) (writeOf t m (q .first) (q .second) s (q .at + 2))
-    (pick (eqb (q .command) 0x22) (lockOf t m (q .first))
-    (pick (eqb (q .command) 0x2C) (statusReply t m (q .first) (q .second))
-    -- pointer; pointer, value
-    (pick (eqb (q .command) 0xA0) (readConfigOf t m (q .first))
-    (pick (eqb (q .command) 0xA1) (writeConfigOf t m (q .first) (q .second))
-    (pick (eqb (q .command) 0xAD) (readDynamicOf t m (q .first))
-    (pick (eqb (q .command) 0xAE) (writeDynamicOf t m vcc (q .first) (q .second))
-    -- length-1, data
-    (pick (eqb (q .command) 0xAA) (writeMessageOf t m (q .first) s (q .at + 1))
-    (pick (eqb (q .command) 0xAB) (lengthOf t m)
-    (pick (eqb (q .command) 0xAC) (readMessageOf t m (q .first) (q .second))
-    -- n, 8 bytes
-    (pick (eqb (q .command) 0xB3) (presentOf t m (q .first) s (q .at + 1))
-    (pick (eqb (q .command) 0xB1) (writePasswordOf t m (q .first) s (q .at + 1))
-    -- no other is a request
-    (commandResult nothing t m))))))))))))))))))
+serveOf q v vcc m f = serveCode (q .command) q v vcc m f

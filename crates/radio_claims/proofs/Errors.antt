@@ -17,6 +17,9 @@ use Rattle.errors.specs.declared.RadioError.the-variants.{NoSuchBlock, ReadLeav
 use Rattle.reply.specs.declared.RadioSide.{RadioSide}
 use Rattle.reply.specs.Reply.{ReplyBody, nothing, body, good, fault}
 use Rattle.reply.specs.Outcome.{CommandResult, commandResult, fails, withAir}
+use Rattle.rule_list.specs.RuleList.{firstSays}
+use Rattle.commands.specs.declared.CommandCode.{CommandCode}
+use Rattle.commands.specs.Table.{commandTable, commandOf}
 use Rattle.frame.specs.declared.Verdict.{Verdict}
 use Rattle.frame.specs.declared.Verdict.the-variants.{Silence, Error, Request}
 use Rattle.frame.specs.Fields.{command, paramPlace, param}
@@ -28,7 +31,8 @@ use Rattle.message.specs.Message.{writeMessageOf, lengthOf, readMessageOf}
 use Rattle.password.specs.Password.{presentOf, writePasswordOf}
 use Rattle.radio_state.specs.RadioState.{stayQuietOf, selectUidOf, resetToReadyOf}
 use Rattle.radio.specs.declared.RequestFields.{RequestFields}
-use Rattle.radio.specs.Commands.{requestOf, serveOf}
+use Rattle.radio.specs.Commands.{requestOf, serveCommand, serveCode, serveOf}
+use Rattle.radio.proofs.Rows.{known-row}
 use Rattle.radio.specs.Radio.{verdictResult, radioOf}
 use Rattle.radio_claims.specs.Claims.{ErrorsChangeNothing, isRequest, presentsWrong, sessionClosed, errorLeaves, ErrorsLeave}
 
@@ -140,33 +144,34 @@ module _ (t : RadioSide) (m : List ℕ) where
   reset-shape = fine _ _ _
 
   -- the table without B3
-  serve-shape : (q : RequestFields) (vcc : Bool) (s : List ℕ) → (q .command ≡ 0xB3 → ⊥) → K (serveOf q t vcc m s)
-  unfolding serveOf
-  serve-shape q vcc s other =
-      pick-case K _ _ _ (λ h. quiet-shape)
-      (λ h. pick-case K _ _ _ (λ h. select-shape (q .own))
-      (λ h. pick-case K _ _ _ (λ h. reset-shape)
-      (λ h. pick-case K _ _ _ (λ h. read-shape (q .option) (q .first) 0)
-      (λ h. pick-case K _ _ _ (λ h. read-shape (q .option) (q .first) (q .second))
-      (λ h. pick-case K _ _ _ (λ h. write-shape (q .first) 0 s (q .at + 1))
-      (λ h. pick-case K _ _ _ (λ h. write-shape (q .first) (q .second) s (q .at + 2))
-      (λ h. pick-case K _ _ _ (λ h. lock-shape (q .first))
-      (λ h. pick-case K _ _ _ (λ h. status-shape (q .first) (q .second))
-      (λ h. pick-case K _ _ _ (λ h. read-config-shape (q .first))
-      (λ h. pick-case K _ _ _ (λ h. write-config-shape (q .first) (q .second))
-      (λ h. pick-case K _ _ _ (λ h. read-dynamic-shape (q .first))
-      (λ h. pick-case K _ _ _ (λ h. write-dynamic-shape vcc (q .first) (q .second))
-      (λ h. pick-case K _ _ _ (λ h. write-message-shape (q .first) s (q .at + 1))
-      (λ h. pick-case K _ _ _ (λ h. length-shape)
-      (λ h. pick-case K _ _ _ (λ h. read-message-shape (q .first) (q .second))
-      (λ h. pick-case K _ _ _ (λ h. absurd (other (eqb-true (q .command) 0xB3 h)))
-      (λ h. pick-case K _ _ _ (λ h. write-password-shape (q .first) s (q .at + 1)) (λ h. still _ _))))))))))))))))))
+  code-shape : (c : ℕ) (q : RequestFields) (vcc : Bool) (s : List ℕ) → (c ≡ 0xB3 → ⊥) → K (serveCode (commandOf c) q t vcc m s)
+  unfolding commandOf commandTable firstSays serveCode serveCommand
+  code-shape c q vcc s other =
+      let P : CommandCode → Type 0 = λ (k : CommandCode). K (serveCode k q t vcc m s) in
+      pick-case P _ _ _ (λ h. quiet-shape)
+      (λ h. pick-case P _ _ _ (λ h. select-shape (q .own))
+      (λ h. pick-case P _ _ _ (λ h. reset-shape)
+      (λ h. pick-case P _ _ _ (λ h. read-shape (q .option) (q .first) 0)
+      (λ h. pick-case P _ _ _ (λ h. read-shape (q .option) (q .first) (q .second))
+      (λ h. pick-case P _ _ _ (λ h. write-shape (q .first) 0 s (q .at + 1))
+      (λ h. pick-case P _ _ _ (λ h. write-shape (q .first) (q .second) s (q .at + 2))
+      (λ h. pick-case P _ _ _ (λ h. lock-shape (q .first))
+      (λ h. pick-case P _ _ _ (λ h. status-shape (q .first) (q .second))
+      (λ h. pick-case P _ _ _ (λ h. read-config-shape (q .first))
+      (λ h. pick-case P _ _ _ (λ h. write-config-shape (q .first) (q .second))
+      (λ h. pick-case P _ _ _ (λ h. read-dynamic-shape (q .first))
+      (λ h. pick-case P _ _ _ (λ h. write-dynamic-shape vcc (q .first) (q .second))
+      (λ h. pick-case P _ _ _ (λ h. write-message-shape (q .first) s (q .at + 1))
+      (λ h. pick-case P _ _ _ (λ h. length-shape)
+      (λ h. pick-case P _ _ _ (λ h. read-message-shape (q .first) (q .second))
+      (λ h. pick-case P _ _ _ (λ h. absurd (other (eqb-true c 0xB3 h)))
+      (λ h. pick-case P _ _ _ (λ h. write-password-shape (q .first) s (q .at + 1)) (λ h. still _ _))))))))))))))))))
 
   answer-shape : (v : Verdict) (u : Uid) (vcc : Bool) (s : List ℕ) → (command s ≡ 0xB3 → ⊥) → K (verdictResult v t u vcc m s)
-  unfolding verdictResult
+  unfolding verdictResult serveOf
   answer-shape Silence u vcc s other = still _ _
   answer-shape (Error e) u vcc s other = fail e
-  answer-shape Request u vcc s other = serve-shape (requestOf s u) vcc s other
+  answer-shape Request u vcc s other = code-shape (command s) (requestOf s u) vcc s other
 
 frame-shape : (t : RadioSide) (u : Uid) (vcc transfer programming : Bool) (m s : List ℕ) → (command s ≡ 0xB3 → ⊥)
     → Shape t m (radioOf t u vcc transfer programming m s)
@@ -197,13 +202,13 @@ module _ (t : RadioSide) (u : Uid) (vcc : Bool) (m s : List ℕ) where
       (λ k. served [] refl))
 
   present-row : command s ≡ 0xB3 → serveOf (requestOf s u) t vcc m s ≡ presentOf t m (param s 0) s (paramPlace s + 1)
-  unfolding serveOf pick
-  present-row h = rw h
+  unfolding commandOf commandTable firstSays pick serveCommand
+  present-row h = known-row (requestOf s u) t vcc m s _ (ap commandOf h)
 
   request-shape : (b : Bool) → eqb (command s) 0xB3 ≡ b → Shape (pick (b && presentsWrong t s) (sessionClosed t) t) m (serveOf (requestOf s u) t vcc m s)
-  unfolding pick
+  unfolding pick serveOf
   request-shape true h = rw (present-row (eqb-true (command s) 0xB3 h)) present-shape
-  request-shape false h = serve-shape t m (requestOf s u) vcc s (λ e. false≢true (sym h ∙ eq-eqb (command s) 0xB3 e))
+  request-shape false h = code-shape t m (command s) (requestOf s u) vcc s (λ e. false≢true (sym h ∙ eq-eqb (command s) 0xB3 e))
 
   answer-leaves : (v : Verdict) → Shape (pick (isRequest v && eqb (command s) 0xB3 && presentsWrong t s) (sessionClosed t) t) m (verdictResult v t u vcc m s)
   unfolding verdictResult isRequest pick

@@ -22,13 +22,15 @@ use Rattle.errors.specs.declared.RadioError.the-variants.{WriteForbidden}
 use Rattle.reply.specs.declared.RadioSide.{RadioSide}
 use Rattle.reply.specs.Reply.{ReplyBody, nothing, body, good, fault}
 use Rattle.reply.specs.Outcome.{CommandResult}
+use Rattle.rule_list.specs.RuleList.{firstSays}
+use Rattle.commands.specs.Table.{commandTable, commandOf}
 use Rattle.frame.specs.declared.Verdict.{Verdict}
 use Rattle.frame.specs.Fields.{command, optionFlag, paramPlace, param}
 use Rattle.blocks.specs.Blocks.{leavesArea, statusOf, blockOf, blocksOf, readOf, statusesOf, statusReply}
 use Rattle.blocks.proofs.Runs.{block-with, length-with, length-statuses}
 use Rattle.block_writes.specs.Writes.{mayWriteAll, writeOf}
-use Rattle.radio.specs.declared.RequestFields.{RequestFields}
-use Rattle.radio.specs.Commands.{requestOf, serveOf}
+use Rattle.radio.specs.Commands.{requestOf, serveCommand, serveOf}
+use Rattle.radio.proofs.Rows.{known-row}
 use Rattle.radio.specs.Radio.{verdictResult, radioOf}
 use Rattle.radio_claims.proofs.Errors.{first-same}
 use Rattle.radio_claims.specs.Claims.{Asks, StatusAgrees, StatusAsWrite, OptionStatusAsWrite}
@@ -199,22 +201,22 @@ read-data t m first more data- =
     (λ h k. (leb-false 128 (first + more) (inside _ _ f), same-data _ data- k))))
 
 -- ---- the rows of the four commands
-module _ (q : RequestFields) (t : RadioSide) (vcc : Bool) (m s : List ℕ) where
-  status-row : q .command ≡ 0x2C → serveOf q t vcc m s ≡ statusReply t m (q .first) (q .second)
-  unfolding serveOf pick
-  status-row h = rw h
+module _ (t : RadioSide) (u : Uid) (vcc : Bool) (m s : List ℕ) where
+  status-row : command s ≡ 0x2C → serveOf (requestOf s u) t vcc m s ≡ statusReply t m (param s 0) (param s 1)
+  unfolding commandOf commandTable firstSays pick serveCommand
+  status-row h = known-row (requestOf s u) t vcc m s _ (ap commandOf h)
 
-  write-row : q .command ≡ 0x21 → serveOf q t vcc m s ≡ writeOf t m (q .first) 0 s (q .at + 1)
-  unfolding serveOf pick
-  write-row h = rw h
+  write-row : command s ≡ 0x21 → serveOf (requestOf s u) t vcc m s ≡ writeOf t m (param s 0) 0 s (paramPlace s + 1)
+  unfolding commandOf commandTable firstSays pick serveCommand
+  write-row h = known-row (requestOf s u) t vcc m s _ (ap commandOf h)
 
-  read-row : q .command ≡ 0x20 → serveOf q t vcc m s ≡ readOf t m (q .option) (q .first) 0
-  unfolding serveOf pick
-  read-row h = rw h
+  read-row : command s ≡ 0x20 → serveOf (requestOf s u) t vcc m s ≡ readOf t m (optionFlag s) (param s 0) 0
+  unfolding commandOf commandTable firstSays pick serveCommand
+  read-row h = known-row (requestOf s u) t vcc m s _ (ap commandOf h)
 
-  read-more-row : q .command ≡ 0x23 → serveOf q t vcc m s ≡ readOf t m (q .option) (q .first) (q .second)
-  unfolding serveOf pick
-  read-more-row h = rw h
+  read-more-row : command s ≡ 0x23 → serveOf (requestOf s u) t vcc m s ≡ readOf t m (optionFlag s) (param s 0) (param s 1)
+  unfolding commandOf commandTable firstSays pick serveCommand
+  read-more-row h = known-row (requestOf s u) t vcc m s _ (ap commandOf h)
 
 module _ (t : RadioSide) (u : Uid) (vcc transfer programming : Bool) (m : List ℕ) where
   asked : (c : ℕ) (s : List ℕ) → Asks t u (transfer || programming) c s
@@ -226,7 +228,7 @@ module _ (t : RadioSide) (u : Uid) (vcc transfer programming : Bool) (m : List �
   write-asked : (w : List ℕ) (block : ℕ) → Asks t u (transfer || programming) 0x21 w → param w 0 ≡ block → block < 128
       → StatusAgrees (statusOf (t .core .registers) (t .air .session) block) (radioOf t u vcc transfer programming m w .reply)
   write-asked w block a e l =
-      let wrote = asked 0x21 w a ∙ write-row (requestOf w u) t vcc m w (a .named) ∙ ap (λ (n : ℕ). writeOf t m n 0 w (paramPlace w + 1)) e in
+      let wrote = asked 0x21 w a ∙ write-row t u vcc m w (a .named) ∙ ap (λ (n : ℕ). writeOf t m n 0 w (paramPlace w + 1)) e in
       subst (λ (x : ReplyBody). StatusAgrees (statusOf (t .core .registers) (t .air .session) block) x) (sym (ap (λ (x : CommandResult). x .reply) wrote))
       (status-write t m block w (paramPlace w + 1) l)
 
@@ -248,7 +250,7 @@ status-as-write t u vcc transfer programming m s w data- k a b e h l =
     let r = t .core .registers in
     let first = param s 0 in
     let n = Counted first (param s 1) in
-    let row = asked t u vcc transfer programming m 0x2C s a ∙ status-row (requestOf s u) t vcc m s (a .named) in
+    let row = asked t u vcc transfer programming m 0x2C s a ∙ status-row t u vcc m s (a .named) in
     let d = status-data t m first (param s 1) data- (sym (ap (λ (x : CommandResult). x .reply) row) ∙ h) in
     let near : k < n = omega (arith, l, ap length (d .1) ∙ length-statuses r (t .air .session) first n) in
     let at = ap (λ (z : List ℕ). getD z k 0) (d .1) ∙ statuses-at r (t .air .session) first n k near in
@@ -262,9 +264,9 @@ pub option-status-as-write : OptionStatusAsWrite
 option-status-as-write t u vcc transfer programming m s w data- k a o b e h l =
     ⊎-elim
     (λ one.
-    let row = asked t u vcc transfer programming m 0x20 s one ∙ read-row (requestOf s u) t vcc m s (one .named) ∙ with-option t m (optionFlag s) (param s 0) 0 o in
+    let row = asked t u vcc transfer programming m 0x20 s one ∙ read-row t u vcc m s (one .named) ∙ with-option t m (optionFlag s) (param s 0) 0 o in
     read-asked t u vcc transfer programming m s w data- (param s 0) 0 k (sym (ap (λ (x : CommandResult). x .reply) row) ∙ h) l b e)
     (λ many.
-    let row = asked t u vcc transfer programming m 0x23 s many ∙ read-more-row (requestOf s u) t vcc m s (many .named) ∙ with-option t m (optionFlag s) (param s 0) (param s 1) o in
+    let row = asked t u vcc transfer programming m 0x23 s many ∙ read-more-row t u vcc m s (many .named) ∙ with-option t m (optionFlag s) (param s 0) (param s 1) o in
     read-asked t u vcc transfer programming m s w data- (param s 0) (param s 1) k (sym (ap (λ (x : CommandResult). x .reply) row) ∙ h) l b e)
     a

@@ -36,3 +36,14 @@ unfolding anyHolds firstSays
 says-passes holds bad says last P [] h each end = end
 says-passes holds bad says last P (r ∷ rs) h each end =
     passed P (holds r) (bad r) (anyHolds bad rs) (says r) _ h (each r) (λ k. says-passes holds bad says last P rs k each end)
+
+-- a list in two parts
+pub any-append : {R : Type 0} (holds : R → Bool) (rs qs : List R) → anyHolds holds (rs ++ qs) ≡ pick (anyHolds holds rs) true (anyHolds holds qs)
+unfolding anyHolds pick
+any-append holds [] qs = refl
+any-append holds (r ∷ rs) qs = either (holds r) (any-append holds rs qs)
+  where
+    either : (b : Bool) → anyHolds holds (rs ++ qs) ≡ pick (anyHolds holds rs) true (anyHolds holds qs)
+        → (b || anyHolds holds (rs ++ qs)) ≡ pick (b || anyHolds holds rs) true (anyHolds holds qs)
+    either true e = refl
+    either false e = e

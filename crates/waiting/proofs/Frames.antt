@@ -16,7 +16,8 @@ use Rattle.reply.specs.Reply.{ReplyBody, nothing, fault}
 use Rattle.reply.specs.Outcome.{CommandResult, commandResult, radioSide}
 use Rattle.frame.specs.declared.Verdict.{Verdict}
 use Rattle.frame.specs.declared.Verdict.the-variants.{Silence, Error}
-use Rattle.frame.specs.Judge.{isSilent, isMute, errorOf, shutOut}
+use Rattle.frame.specs.Judge.{isMute, errorOf, shutOut}
+use Rattle.frame.specs.Silence.{isSilent}
 use Rattle.frame.proofs.ShutOut.{shut-out-decides}
 use Rattle.radio.specs.Radio.{verdictResult, radioOf}
 use Rattle.model.specs.declared.Signal.the-variants.{Frame}

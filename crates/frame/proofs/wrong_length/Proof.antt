@@ -6,6 +6,9 @@ use Rattle.frame.proofs.wrong_length.Tie as tie
 command-requires : tie.Need-command-requires
 command-requires c κs = search needs
 
+command-of-requires : tie.Need-command-of-requires
+command-of-requires c κs = search needs
+
 param-requires : tie.Need-param-requires
 param-requires c κs = search needs
 
@@ -28,13 +31,14 @@ returns : tie.Need-returns
 unfolding wrongLength
 returns c =
     let takes = c .before .before in
-    rw (c .crc-place .ensures, c .before .param-place .ensures .0, takes .param-bytes .ensures .0, takes .before .param2 .ensures, takes .before .before .param .ensures, takes .before .before .before .command .ensures)
+    rw (c .crc-place .ensures, c .before .param-place .ensures .0, takes .param-bytes .ensures .0, takes .before .param2 .ensures, takes .before .before .param .ensures, takes .before .before .before .command-of .ensures, takes .before .before .before .before .command .ensures)
 
 pub wrong-length-spec : {M : Type 1} → statement M
 wrong-length-spec =
     tie.close
     (tie.spec
     command-requires
+    command-of-requires
     param-requires
     param-requires-2
     param-bytes-requires

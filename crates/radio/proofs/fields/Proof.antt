@@ -8,6 +8,9 @@ param-place-requires c κs = search needs
 command-requires : tie.Need-command-requires
 command-requires c κs = search needs
 
+command-of-requires : tie.Need-command-of-requires
+command-of-requires c κs = search needs
+
 param-requires : tie.Need-param-requires
 param-requires c κs = search needs
 
@@ -28,9 +31,10 @@ returns c =
     let option = c .before in
     let param2 = option .before in
     let param = param2 .before in
-    let command = param .before in
+    let code = param .before in
+    let command = code .before in
     let paramplace = command .before in
-    rw (c .own-uid .ensures, option .option .ensures, param2 .param2 .ensures, param .param .ensures, command .command .ensures, paramplace .param-place .ensures .0)
+    rw (c .own-uid .ensures, option .option .ensures, param2 .param2 .ensures, param .param .ensures, code .command-of .ensures, command .command .ensures, paramplace .param-place .ensures .0)
 
 pub fields-spec : {M : Type 1} → statement M
 fields-spec =
@@ -38,6 +42,7 @@ fields-spec =
     (tie.spec
     param-place-requires
     command-requires
+    command-of-requires
     param-requires
     param-requires-2
     option-requires

@@ -10,7 +10,7 @@ use borrow.Author.Tests.{eqb-true, leb-true, ltb-true, lt-ltb}
 use Rattle.parts.specs.Bytes.{areBytes}
 use Rattle.parts.proofs.Bools.{and-left, and-right}
 use Rattle.registers.specs.declared.Registers.{Registers}
-use Rattle.registers.specs.Table.{rfMngtBits, Entry, table}
+use Rattle.registers.specs.Table.{rfMngtBits, RegisterEntry, registerTable}
 use Rattle.registers.specs.Defined.{onlyBits, byteOf, definedIn, definedOnly}
 use Rattle.registers.proofs.Table.{Each}
 use Rattle.areas.specs.Ends.{endsInRange}
@@ -41,7 +41,7 @@ one : (b : ℕ) → onlyBits 1 b ≡ true → isByte b ≡ true
 one b e = own-remainder 2 b (omega arith) (omega arith) e
 
 -- the tests of a table one by one
-each-defined : (es : List Entry) (r : Registers) → definedIn es r ≡ true → Each (λ (e : Entry). onlyBits (e .definedBits) (byteOf (e .row .register) r) ≡ true) es
+each-defined : (es : List RegisterEntry) (r : Registers) → definedIn es r ≡ true → Each (λ (e : RegisterEntry). onlyBits (e .definedBits) (byteOf (e .row .register) r) ≡ true) es
 unfolding definedIn
 each-defined [] r h = tt
 each-defined (e ∷ es) r h =
@@ -53,10 +53,10 @@ unfolding registersInRange definedOnly areBytes registerBytes
 registers-are r h =
     let t = onlyBits rfMngtBits (r .dynamic .bits) in
     let d = and-right (endsInRange (r .ends)) (definedOnly r) h in
-    let f = each-defined table r (and-right t (definedIn table r) d) in
+    let f = each-defined registerTable r (and-right t (definedIn registerTable r) d) in
     let areas = f .1 in
     let last = areas .1 .1 .1 .1 .1 .1 .1 in
-    rw (two (r .mngt .bits) (f .0), two (r .dynamic .bits) (and-left t (definedIn table r) d), four (r .security .area1 .bits) (areas .0), four (r .ends .end1 .bits) (areas .1 .0), four (r .security .area2 .bits) (areas .1 .1 .0), four (r .ends .end2 .bits) (areas .1 .1 .1 .0), four (r .security .area3 .bits) (areas .1 .1 .1 .1 .0), four (r .ends .end3 .bits) (areas .1 .1 .1 .1 .1 .0), four (r .security .area4 .bits) (areas .1 .1 .1 .1 .1 .1 .0), own-remainder 256 (r .i2css .bits) (omega arith) (omega arith) (last .0), two (r .ccfile .bits) (last .1 .0), one (r .mode .bits) (last .1 .1 .0), one (r .config .bits) (last .1 .1 .1 .0))
+    rw (two (r .mngt .bits) (f .0), two (r .dynamic .bits) (and-left t (definedIn registerTable r) d), four (r .security .area1 .bits) (areas .0), four (r .ends .end1 .bits) (areas .1 .0), four (r .security .area2 .bits) (areas .1 .1 .0), four (r .ends .end2 .bits) (areas .1 .1 .1 .0), four (r .security .area3 .bits) (areas .1 .1 .1 .1 .0), four (r .ends .end3 .bits) (areas .1 .1 .1 .1 .1 .0), four (r .security .area4 .bits) (areas .1 .1 .1 .1 .1 .1 .0), own-remainder 256 (r .i2css .bits) (omega arith) (omega arith) (last .0), two (r .ccfile .bits) (last .1 .0), one (r .mode .bits) (last .1 .1 .0), one (r .config .bits) (last .1 .1 .1 .0))
 
 -- ---- the message's length, the bus
 message-is : (b : Mailbox) → mailboxInRange b ≡ true → isWord (b .length) ≡ true

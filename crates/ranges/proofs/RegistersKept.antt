@@ -6,9 +6,9 @@ use Rattle.parts.proofs.Bools.{and-left, and-right, and-both}
 use Rattle.registers.specs.declared.Registers.{Registers}
 use Rattle.registers.specs.declared.Register.{Register}
 use Rattle.registers.specs.declared.Register.the-variants.{Mngt, Rfa1Ss, EndA1, Rfa2Ss, EndA2, Rfa3Ss, EndA3, Rfa4Ss, I2css, Ccfile, Mode, Config}
-use Rattle.registers.specs.declared.Row.{Row}
+use Rattle.registers.specs.declared.RegisterRow.{RegisterRow}
 use Rattle.registers.specs.declared.RfMngt.{RfMngt}
-use Rattle.registers.specs.Table.{rfMngtBits, Entry, table, rowOf}
+use Rattle.registers.specs.Table.{rfMngtBits, RegisterEntry, registerTable, rowOf}
 use Rattle.registers.specs.Defined.{onlyBits, definedIn, definedOnly, rfMngt, endA}
 use Rattle.registers.specs.Map.{withEnd, withDynamic, writtenTo, written}
 use Rattle.registers.proofs.Table.{Each, row-case, only, defined-kept}
@@ -20,14 +20,14 @@ use Rattle.ranges.specs.Ranges.{registersInRange}
 record Fits (r : Registers) : Type 0 where
   ends : endsInRange (r .ends) ≡ true
   dynamic : onlyBits rfMngtBits (r .dynamic .bits) ≡ true
-  others : definedIn table r ≡ true
+  others : definedIn registerTable r ≡ true
 
 fits : (r : Registers) → registersInRange r ≡ true → Fits r
 unfolding registersInRange definedOnly
 fits r h =
     let d = onlyBits rfMngtBits (r .dynamic .bits) in
     let all = and-right (endsInRange (r .ends)) (definedOnly r) h in
-    record { ends = and-left (endsInRange (r .ends)) (definedOnly r) h; dynamic = and-left d (definedIn table r) all; others = and-right d (definedIn table r) all }
+    record { ends = and-left (endsInRange (r .ends)) (definedOnly r) h; dynamic = and-left d (definedIn registerTable r) all; others = and-right d (definedIn registerTable r) all }
 
 in-range : (r : Registers) → Fits r → registersInRange r ≡ true
 unfolding registersInRange definedOnly
@@ -38,13 +38,13 @@ module _ (r : Registers) (b : ℕ) (f : Fits r) where
   of : (x : Register) → endsInRange (writtenTo x b r .ends) ≡ true → onlyBits rfMngtBits (writtenTo x b r .dynamic .bits) ≡ true → Fits (writtenTo x b r)
   of x e d = record { ends = e; dynamic = d; others = defined-kept x b r (f .others) }
 
-  abbrev Allowed : Row → Type 0
+  abbrev Allowed : RegisterRow → Type 0
   Allowed row = ruleAllows (row .rule) (r .ends) b ≡ true → Fits (writtenTo (row .register) b r)
 
   at-end : (i : ℕ) → endAccepted (r .ends) i b ≡ true → endsInRange (withEnd i (endA b) (r .ends)) ≡ true
   at-end i p = end-kept (r .ends) i b (f .ends) p
 
-  each-allowed : Each (λ (e : Entry). Allowed (e .row)) table
+  each-allowed : Each (λ (e : RegisterEntry). Allowed (e .row)) registerTable
   each-allowed =
       let e = f .ends in
       let d = f .dynamic in

@@ -13,28 +13,28 @@ use Rattle.parts.proofs.Picks.{pick-case}
 use Rattle.registers.specs.declared.Registers.{Registers}
 use Rattle.registers.specs.declared.Register.{Register}
 use Rattle.registers.specs.declared.Register.the-variants.{Mngt, Rfa1Ss, EndA1, Rfa2Ss, EndA2, Rfa3Ss, EndA3, Rfa4Ss, I2css, Ccfile, Mode, Config, Unmapped}
-use Rattle.registers.specs.declared.Row.{Row}
-use Rattle.registers.specs.Table.{rfMngtBits, rfaSsBits, endABits, i2cSsBits, lockCcFileBits, mbModeBits, lockCfgBits, Entry, table, noRow, rowIn, rowOf}
+use Rattle.registers.specs.declared.RegisterRow.{RegisterRow}
+use Rattle.registers.specs.Table.{rfMngtBits, rfaSsBits, endABits, i2cSsBits, lockCcFileBits, mbModeBits, lockCfgBits, RegisterEntry, registerTable, noRow, rowIn, rowOf}
 use Rattle.registers.specs.Defined.{onlyBits, byteOf, definedIn}
 use Rattle.registers.specs.Map.{withArea, withEnd, writtenTo}
 
 -- ---- a property of every entry
-abbrev pub Each : (Entry → Type 0) → List Entry → Type 0
+abbrev pub Each : (RegisterEntry → Type 0) → List RegisterEntry → Type 0
 Each P [] = Unit {0}
 Each P (e ∷ es) = P e × Each P es
 
 -- what holds of the row of each entry, and where no register is, holds of the row of an address
-row-in : (P : Row → Type 0) (es : List Entry) → Each (λ (e : Entry). P (e .row)) es → P noRow → (a : ℕ) → P (rowIn es a)
+row-in : (P : RegisterRow → Type 0) (es : List RegisterEntry) → Each (λ (e : RegisterEntry). P (e .row)) es → P noRow → (a : ℕ) → P (rowIn es a)
 unfolding rowIn
 row-in P [] h n a = n
 row-in P (e ∷ es) h n a = pick-case P (eqb a (e .address)) _ _ (λ t. h .0) (λ t. row-in P es (h .1) n a)
 
-pub row-case : (P : Row → Type 0) → Each (λ (e : Entry). P (e .row)) table → P noRow → (a : ℕ) → P (rowOf a)
+pub row-case : (P : RegisterRow → Type 0) → Each (λ (e : RegisterEntry). P (e .row)) registerTable → P noRow → (a : ℕ) → P (rowOf a)
 unfolding rowOf
-row-case P h n a = row-in P table h n a
+row-case P h n a = row-in P registerTable h n a
 
 -- ---- "undefined register bits 0": the tests joined from the first on, as the code does
-abbrev pub joinedIn : Bool → List Entry → Registers → Bool
+abbrev pub joinedIn : Bool → List RegisterEntry → Registers → Bool
 joinedIn b [] r = b
 joinedIn b (e ∷ es) r = joinedIn (b && onlyBits (e .definedBits) (byteOf (e .row .register) r)) es r
 
@@ -46,7 +46,7 @@ and-and : (a b c : Bool) → (a && b && c) ≡ (a && (b && c))
 and-and true b c = refl
 and-and false b c = refl
 
-pub joined : (b : Bool) (es : List Entry) (r : Registers) → joinedIn b es r ≡ (b && definedIn es r)
+pub joined : (b : Bool) (es : List RegisterEntry) (r : Registers) → joinedIn b es r ≡ (b && definedIn es r)
 unfolding definedIn
 joined b [] r = both-true b
 joined b (e ∷ es) r =
@@ -59,12 +59,12 @@ pub only : (n b : ℕ) → onlyBits n (keepBits n b) ≡ true
 only n b = eq-eqb (b % 2 ^ n % 2 ^ n) (b % 2 ^ n) (mod-mod b (2 ^ n))
 
 -- a table without its entry k
-abbrev without : ℕ → List Entry → List Entry
+abbrev without : ℕ → List RegisterEntry → List RegisterEntry
 without k [] = []
 without zero (e ∷ es) = es
 without (suc k) (e ∷ es) = e ∷ without k es
 
-others-defined : (k : ℕ) (es : List Entry) (r : Registers) → definedIn es r ≡ true → definedIn (without k es) r ≡ true
+others-defined : (k : ℕ) (es : List RegisterEntry) (r : Registers) → definedIn es r ≡ true → definedIn (without k es) r ≡ true
 unfolding definedIn
 others-defined k [] r h = h
 others-defined zero (e ∷ es) r h = and-right (onlyBits (e .definedBits) (byteOf (e .row .register) r)) (definedIn es r) h
@@ -73,18 +73,18 @@ others-defined (suc k) (e ∷ es) r h =
     and-both t (definedIn (without k es) r) (and-left t (definedIn es r) h) (others-defined k es r (and-right t (definedIn es r) h))
 
 -- the entry of the written register has kept bits, and the others are as before
-pub defined-kept : (x : Register) (b : ℕ) (r : Registers) → definedIn table r ≡ true → definedIn table (writtenTo x b r) ≡ true
+pub defined-kept : (x : Register) (b : ℕ) (r : Registers) → definedIn registerTable r ≡ true → definedIn registerTable (writtenTo x b r) ≡ true
 unfolding definedIn withArea withEnd pick
-defined-kept Mngt b r h = simp (only rfMngtBits b) (others-defined 0 table r h)
-defined-kept Rfa1Ss b r h = simp (only rfaSsBits b) (others-defined 1 table r h)
-defined-kept EndA1 b r h = simp (only endABits b) (others-defined 2 table r h)
-defined-kept Rfa2Ss b r h = simp (only rfaSsBits b) (others-defined 3 table r h)
-defined-kept EndA2 b r h = simp (only endABits b) (others-defined 4 table r h)
-defined-kept Rfa3Ss b r h = simp (only rfaSsBits b) (others-defined 5 table r h)
-defined-kept EndA3 b r h = simp (only endABits b) (others-defined 6 table r h)
-defined-kept Rfa4Ss b r h = simp (only rfaSsBits b) (others-defined 7 table r h)
-defined-kept I2css b r h = simp (only i2cSsBits b) (others-defined 8 table r h)
-defined-kept Ccfile b r h = simp (only lockCcFileBits b) (others-defined 9 table r h)
-defined-kept Mode b r h = simp (only mbModeBits b) (others-defined 10 table r h)
-defined-kept Config b r h = simp (only lockCfgBits b) (others-defined 11 table r h)
+defined-kept Mngt b r h = simp (only rfMngtBits b) (others-defined 0 registerTable r h)
+defined-kept Rfa1Ss b r h = simp (only rfaSsBits b) (others-defined 1 registerTable r h)
+defined-kept EndA1 b r h = simp (only endABits b) (others-defined 2 registerTable r h)
+defined-kept Rfa2Ss b r h = simp (only rfaSsBits b) (others-defined 3 registerTable r h)
+defined-kept EndA2 b r h = simp (only endABits b) (others-defined 4 registerTable r h)
+defined-kept Rfa3Ss b r h = simp (only rfaSsBits b) (others-defined 5 registerTable r h)
+defined-kept EndA3 b r h = simp (only endABits b) (others-defined 6 registerTable r h)
+defined-kept Rfa4Ss b r h = simp (only rfaSsBits b) (others-defined 7 registerTable r h)
+defined-kept I2css b r h = simp (only i2cSsBits b) (others-defined 8 registerTable r h)
+defined-kept Ccfile b r h = simp (only lockCcFileBits b) (others-defined 9 registerTable r h)
+defined-kept Mode b r h = simp (only mbModeBits b) (others-defined 10 registerTable r h)
+defined-kept Config b r h = simp (only lockCfgBits b) (others-defined 11 registerTable r h)
 defined-kept Unmapped b r h = h

@@ -16,7 +16,7 @@ use Rattle.registers.specs.declared.Ends.{Ends}
 use Rattle.registers.specs.declared.Registers.{Registers}
 use Rattle.registers.specs.declared.Register.{Register}
 use Rattle.registers.specs.declared.Register.the-variants.{Mngt, Rfa1Ss, EndA1, Rfa2Ss, EndA2, Rfa3Ss, EndA3, Rfa4Ss, I2css, Ccfile, Mode, Config, Unmapped}
-use Rattle.registers.specs.Table.{Entry, table, rfMngtBits, rfaSsBits, endABits, i2cSsBits, lockCcFileBits, mbModeBits, lockCfgBits}
+use Rattle.registers.specs.Table.{RegisterEntry, registerTable, rfMngtBits, rfaSsBits, endABits, i2cSsBits, lockCcFileBits, mbModeBits, lockCfgBits}
 
 -- RF_MNGT and RF_MNGT_Dyn: b0 radio disabled, b1 radio asleep
 abbrev pub rfMngt : ℕ → RfMngt
@@ -67,13 +67,13 @@ byteOf Config r = r .config .bits
 byteOf Unmapped r = 0xFF
 
 -- "undefined register bits 0", of the registers of a table
-unfoldable pub definedIn : List Entry → Registers → Bool
+unfoldable pub definedIn : List RegisterEntry → Registers → Bool
 definedIn [] r = true
 definedIn (e ∷ es) r = onlyBits (e .definedBits) (byteOf (e .row .register) r) && definedIn es r
 
 -- of all registers and of RF_MNGT_Dyn
 unfoldable pub definedOnly : Registers → Bool
-definedOnly r = onlyBits rfMngtBits (r .dynamic .bits) && definedIn table r
+definedOnly r = onlyBits rfMngtBits (r .dynamic .bits) && definedIn registerTable r
 
 -- "Fresh tag: all .. registers .. 0, ends 0Fh"
 abbrev pub freshEnds : Ends

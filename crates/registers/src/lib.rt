@@ -37,7 +37,7 @@ pub enum WriteRule {
 }
 
 // What is known of the register at an address.
-pub struct Row {
+pub struct RegisterRow {
     pub register: Register,
     pub rule: WriteRule,
     // The host may write it, with the session open.
@@ -46,11 +46,11 @@ pub struct Row {
     pub radio: bool,
 }
 
-impl Row {
-    fn new(register: Register, rule: WriteRule, host: bool, radio: bool) -> Row
+impl RegisterRow {
+    fn new(register: Register, rule: WriteRule, host: bool, radio: bool) -> RegisterRow
         ensures { λ r. ⌜ r ≡ record { register = register; rule = rule; host = host; radio = radio } ⌝ }
     {
-        Row {
+        RegisterRow {
             register,
             rule,
             host,
@@ -60,23 +60,23 @@ impl Row {
 }
 
 // The row of a system address: the one list of addresses.
-pub fn row_of(at: u32) -> Row
+pub fn row_of(at: u32) -> RegisterRow
     ensures { λ r. ⌜ r ≡ rowOf at ⌝ }
 {
     match at {
-        0x03 => Row::new(Register::Mngt, WriteRule::Plain, true, true),
-        0x04 => Row::new(Register::Rfa1Ss, WriteRule::Plain, true, true),
-        0x05 => Row::new(Register::EndA1, WriteRule::AreaEnd(1), true, true),
-        0x06 => Row::new(Register::Rfa2Ss, WriteRule::Plain, true, true),
-        0x07 => Row::new(Register::EndA2, WriteRule::AreaEnd(2), true, true),
-        0x08 => Row::new(Register::Rfa3Ss, WriteRule::Plain, true, true),
-        0x09 => Row::new(Register::EndA3, WriteRule::AreaEnd(3), true, true),
-        0x0A => Row::new(Register::Rfa4Ss, WriteRule::Plain, true, true),
-        0x0B => Row::new(Register::I2css, WriteRule::Plain, true, false),
-        0x0C => Row::new(Register::Ccfile, WriteRule::Plain, true, false),
-        0x0D => Row::new(Register::Mode, WriteRule::MailboxMode, true, true),
-        0x0F => Row::new(Register::Config, WriteRule::Plain, true, true),
-        _ => Row::new(Register::Unmapped, WriteRule::Plain, false, false),
+        0x03 => RegisterRow::new(Register::Mngt, WriteRule::Plain, true, true),
+        0x04 => RegisterRow::new(Register::Rfa1Ss, WriteRule::Plain, true, true),
+        0x05 => RegisterRow::new(Register::EndA1, WriteRule::AreaEnd(1), true, true),
+        0x06 => RegisterRow::new(Register::Rfa2Ss, WriteRule::Plain, true, true),
+        0x07 => RegisterRow::new(Register::EndA2, WriteRule::AreaEnd(2), true, true),
+        0x08 => RegisterRow::new(Register::Rfa3Ss, WriteRule::Plain, true, true),
+        0x09 => RegisterRow::new(Register::EndA3, WriteRule::AreaEnd(3), true, true),
+        0x0A => RegisterRow::new(Register::Rfa4Ss, WriteRule::Plain, true, true),
+        0x0B => RegisterRow::new(Register::I2css, WriteRule::Plain, true, false),
+        0x0C => RegisterRow::new(Register::Ccfile, WriteRule::Plain, true, false),
+        0x0D => RegisterRow::new(Register::Mode, WriteRule::MailboxMode, true, true),
+        0x0F => RegisterRow::new(Register::Config, WriteRule::Plain, true, true),
+        _ => RegisterRow::new(Register::Unmapped, WriteRule::Plain, false, false),
     }
 }
 

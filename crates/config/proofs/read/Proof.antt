@@ -1,7 +1,7 @@
 use mathlib.Core.List.{[], _∷_}
 use borrow.Author.Needs.{needs}
 use mathlib.Core.Path.{ap}
-use Rattle.registers.specs.declared.Row.{Row}
+use Rattle.registers.specs.declared.RegisterRow.{RegisterRow}
 use Rattle.parts.proofs.Picks.{picks}
 use Rattle.errors.specs.declared.RadioError.the-variants.{NoSuchRegister}
 use Rattle.reply.specs.Reply.{good, fault}
@@ -24,7 +24,7 @@ unfolding readConfigOf
 returns c =
     let call = c .before .before in
     let a = call .before .before .before .before .before .before .before .args in
-    said (readConfigOf (a .s) (a .m .now) (a .p)) _ (fault NoSuchRegister) (call .error .ensures) (rw (← ap (λ (row : Row). row .radio) (call .before .before .before .before .row-of .ensures)) (search picks depth 20))
+    said (readConfigOf (a .s) (a .m .now) (a .p)) _ (fault NoSuchRegister) (call .error .ensures) (rw (← ap (λ (row : RegisterRow). row .radio) (call .before .before .before .before .row-of .ensures)) (search picks depth 20))
 
 read-requires : tie.Need-read-requires
 read-requires c κs = search needs
@@ -41,7 +41,7 @@ returns-2 c =
     let call = c .before .before in
     let a = call .before .before .before .before .before .before .before .before .args in
     said (readConfigOf (a .s) (a .m .now) (a .p)) _ (good (call .before .before .read .result ∷ [])) (call .byte .ensures)
-    (rw (call .before .before .read .ensures, ← ap (λ (row : Row). row .radio) (call .before .before .before .before .before .row-of .ensures)) (search picks depth 20))
+    (rw (call .before .before .read .ensures, ← ap (λ (row : RegisterRow). row .radio) (call .before .before .before .before .before .row-of .ensures)) (search picks depth 20))
 
 pub read-spec : {M : Type 1} → statement M
 read-spec =

@@ -1,7 +1,7 @@
 use mathlib.Core.List.{[]}
 use borrow.Author.Needs.{needs}
 use mathlib.Core.Path.{ap}
-use Rattle.registers.specs.declared.Row.{Row}
+use Rattle.registers.specs.declared.RegisterRow.{RegisterRow}
 use Rattle.parts.proofs.Picks.{picks}
 use Rattle.errors.specs.declared.RadioError.the-variants.{NoSuchRegister, ConfigurationClosed, EndRefused}
 use Rattle.reply.specs.Reply.{good, fault}
@@ -25,7 +25,7 @@ returns c =
     let call = c .before .before in
     let a = call .before .before .before .before .before .before .before .before .args in
     said (writeConfigOf (a .s) (a .m .now) (a .p) (a .x)) _ (fault NoSuchRegister) (call .error .ensures)
-    (rw (← ap (λ (row : Row). row .radio) (call .before .before .before .before .row-of .ensures)) (search picks depth 20))
+    (rw (← ap (λ (row : RegisterRow). row .radio) (call .before .before .before .before .row-of .ensures)) (search picks depth 20))
 
 error-requires-2 : tie.Need-error-requires-2
 error-requires-2 c κs = search needs
@@ -39,7 +39,7 @@ returns-2 c =
     let call = c .before .before in
     let a = call .before .before .before .before .before .before .before .before .before .before .before .args in
     said (writeConfigOf (a .s) (a .m .now) (a .p) (a .x)) _ (fault ConfigurationClosed) (call .error2 .ensures)
-    (rw (← ap (λ (row : Row). row .radio) (call .before .before .before .before .before .before .before .row-of .ensures)) (search picks depth 20))
+    (rw (← ap (λ (row : RegisterRow). row .radio) (call .before .before .before .before .before .before .before .row-of .ensures)) (search picks depth 20))
 
 end-allows-requires : tie.Need-end-allows-requires
 end-allows-requires c κs = search needs
@@ -57,7 +57,7 @@ returns-3 c =
     let tested = call .before .before .before in
     let a = call .before .before .before .before .before .before .before .before .before .before .before .before .before .args in
     said (writeConfigOf (a .s) (a .m .now) (a .p) (a .x)) _ (fault EndRefused) (call .error3 .ensures)
-    (rw (← tested .end-allows .ensures, ← ap (λ (row : Row). row .radio) (tested .before .before .before .before .before .before .row-of .ensures)) (search picks depth 20))
+    (rw (← tested .end-allows .ensures, ← ap (λ (row : RegisterRow). row .radio) (tested .before .before .before .before .before .before .row-of .ensures)) (search picks depth 20))
 
 written-core-requires : tie.Need-written-core-requires
 written-core-requires c κs = search needs
@@ -75,7 +75,7 @@ returns-4 c =
     let tested = call .before .before .before .before in
     let a = call .before .before .before .before .before .before .before .before .before .before .before .before .before .before .args in
     said (writeConfigOf (a .s) (a .m .now) (a .p) (a .x)) _ (good []) (call .done .ensures)
-    (rw (call .before .before .written-core .ensures, ← tested .end-allows .ensures, ← ap (λ (row : Row). row .radio) (tested .before .before .before .before .before .before .row-of .ensures)) (search (picks, call .before .before .before .if3 .left, tested .before .if2 .left, tested .before .before .before .before .if1 .left) depth 20))
+    (rw (call .before .before .written-core .ensures, ← tested .end-allows .ensures, ← ap (λ (row : RegisterRow). row .radio) (tested .before .before .before .before .before .before .row-of .ensures)) (search (picks, call .before .before .before .if3 .left, tested .before .if2 .left, tested .before .before .before .before .if1 .left) depth 20))
 
 pub write-spec : {M : Type 1} → statement M
 write-spec =

@@ -1,4 +1,4 @@
-use Rattle.registers.specs.Table.{table, rfMngtBits}
+use Rattle.registers.specs.Table.{registerTable, rfMngtBits}
 use Rattle.registers.specs.Defined.{onlyBits, definedOnly}
 use Rattle.registers.proofs.Table.{joined}
 use borrow.Author.Needs.{needs}
@@ -62,7 +62,7 @@ returns c =
     let keep = keep2 .before .before in
     let r = keep .before .before .before .args .self in
     rw (keep13 .keep13 .ensures, keep12 .keep12 .ensures, keep11 .keep11 .ensures, keep10 .keep10 .ensures, keep9 .keep9 .ensures, keep8 .keep8 .ensures, keep7 .keep7 .ensures, keep6 .keep6 .ensures, keep5 .keep5 .ensures, keep4 .keep4 .ensures, keep3 .keep3 .ensures, keep2 .keep2 .ensures, keep .keep .ensures)
-    (joined (onlyBits rfMngtBits (r .dynamic .bits)) table r)
+    (joined (onlyBits rfMngtBits (r .dynamic .bits)) registerTable r)
 
 pub is-defined-spec : {M : Type 1} → statement M
 is-defined-spec =

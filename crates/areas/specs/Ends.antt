@@ -5,6 +5,9 @@ use lib.Dec.{leb, ltb, eqb}
 use Rattle.parts.specs.Pick.{pick}
 use Rattle.registers.specs.declared.EndA.{EndA}
 use Rattle.registers.specs.declared.Ends.{Ends}
+use Rattle.registers.specs.declared.WriteRule.{WriteRule}
+use Rattle.registers.specs.declared.WriteRule.the-variants.{Plain, AreaEnd, MailboxMode}
+use Rattle.registers.specs.Table.{rowOf}
 
 -- "ENDA1 to ENDA3 are 0 to 0Fh."
 abbrev pub largestEnd : ℕ
@@ -63,10 +66,11 @@ exceedsBefore e i x =
 unfoldable pub endAccepted : Ends → ℕ → ℕ → Bool
 endAccepted e i x = leb x largestEnd && laterLargest e i && (exceedsBefore e i x || eqb x largestEnd)
 
--- the same by the register's address: 0005h, 0007h and 0009h are ENDA1 to ENDA3, and no other register has such a rule
+-- the same for any register: no other has such a rule
+abbrev pub ruleAllows : WriteRule → Ends → ℕ → Bool
+ruleAllows Plain e x = true
+ruleAllows (AreaEnd i) e x = endAccepted e i x
+ruleAllows MailboxMode e x = true
+
 unfoldable pub endAllows : Ends → ℕ → ℕ → Bool
-endAllows e a x =
-    pick (eqb a 0x05) (endAccepted e 1 x)
-    (pick (eqb a 0x07) (endAccepted e 2 x)
-    (pick (eqb a 0x09) (endAccepted e 3 x)
-    true))
+endAllows e a x = ruleAllows (rowOf a .rule) e x

@@ -9,6 +9,7 @@ use registers::LockCcFile;
 use registers::Registers;
 use registers::RfaSs;
 use registers::Security;
+use registers::WriteRule;
 
 // ENDAi of the last area.
 pub const LARGEST_END: u8 = 0x0F;
@@ -96,16 +97,13 @@ pub fn end_accepted(e: Ends, i: u8, x: u8) -> bool
 pub fn end_allows(e: Ends, at: u32, x: u8) -> bool
     ensures { λ r. ⌜ r ≡ endAllows e at x ⌝ }
 {
-    if at == 0x05 {
-        return end_accepted(e, 1, x);
+    let row = registers::row_of(at);
+    let rule = row.rule;
+    match rule {
+        WriteRule::Plain => true,
+        WriteRule::AreaEnd(i) => end_accepted(e, i, x),
+        WriteRule::MailboxMode => true,
     }
-    if at == 0x07 {
-        return end_accepted(e, 2, x);
-    }
-    if at == 0x09 {
-        return end_accepted(e, 3, x);
-    }
-    true
 }
 
 // RFAiSS of an area.

@@ -8,7 +8,9 @@ use Rattle.parts.specs.Pick.{pick}
 use Rattle.parts.specs.Bits.{keepBits}
 use Rattle.parts.specs.Bytes.{bytesAt}
 use Rattle.registers.specs.declared.Registers.{Registers}
-use Rattle.registers.specs.Map.{written}
+use Rattle.registers.specs.declared.Register.the-variants.{Ccfile}
+use Rattle.registers.specs.Table.{lockCcFileBits}
+use Rattle.registers.specs.Map.{writtenTo}
 use Rattle.areas.specs.declared.Side.the-variants.{Radio}
 use Rattle.areas.specs.Rights.{isLocked, mayWrite}
 use Rattle.tag.specs.Layout.{blocks}
@@ -38,4 +40,4 @@ unfoldable pub lockOf : RadioSide → List ℕ → ℕ → CommandResult
 lockOf s m block =
     pick (ltb 1 block) (fails NotLockable s m)
     (pick (isLocked (s .core .registers .ccfile) block) (fails AlreadyLocked s m)
-    (commandResult (good []) (sideRegisters (written (s .core .registers) 0x0C (keepBits 2 (s .core .registers .ccfile .bits) + (block + 1))) s) m))
+    (commandResult (good []) (sideRegisters (writtenTo Ccfile (keepBits lockCcFileBits (s .core .registers .ccfile .bits) + (block + 1)) (s .core .registers)) s) m))

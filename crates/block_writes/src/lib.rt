@@ -5,6 +5,8 @@ ghost use Rattle.reply.specs.Outcome.{radioResult, finish};
 ghost use Rattle.block_writes.specs.Writes.{mayWriteAll, writeOf, lockOf};
 use areas::Side;
 use errors::RadioError;
+use registers::LockCcFile;
+use registers::Register;
 use registers::Registers;
 use reply::RadioOutcome;
 use reply::RadioSide;
@@ -72,8 +74,8 @@ pub fn lock(s: RadioSide, m: &[u8], out: &mut [u8], block: u8) -> RadioOutcome
         let answer = reply::error(out, RadioError::AlreadyLocked);
         return RadioOutcome { answer, side: s };
     }
-    let bits = r.ccfile.bits % 4 + (block + 1);
-    let next = s.with_registers(r.write(0x0C, bits));
+    let bits = LockCcFile::keep(r.ccfile.bits) + (block + 1);
+    let next = s.with_registers(r.write_to(Register::Ccfile, bits));
     let answer = reply::done(out);
     RadioOutcome { answer, side: next }
 }

@@ -2,8 +2,9 @@
 use Rattle.parts.specs.Bytes.{bytesAt, copied, agree, areBytes}
 use Rattle.parts.specs.Pick.{pick}
 use Rattle.crc.specs.Crc.{shifted, bit, bits, byte, run, crcOf, goodFrame, closedAt}
-use Rattle.registers.specs.Defined.{definedOnly, freshRegisters}
-use Rattle.registers.specs.Map.{registerAt, withArea, withEnd, writtenArea, written}
+use Rattle.registers.specs.Defined.{definedIn, definedOnly, freshRegisters}
+use Rattle.registers.specs.Table.{rowIn, rowOf}
+use Rattle.registers.specs.Map.{registerAt, withArea, withEnd, written}
 use Rattle.areas.specs.Ends.{areaOfBlock, areaOfByte, endsInRange, laterLargest, exceedsBefore, endAccepted, endAllows}
 use Rattle.areas.specs.Rights.{securityOf, sessionOpens, radioWrites, radioReads, wireBits, wireWrites, wireReads, isLocked, readRight, writeRight, mayRead, mayWrite}
 use Rattle.tag.specs.Bus.{isOpen, isActive, pageBytes}
@@ -12,9 +13,9 @@ use Rattle.tag.specs.Mailbox.{controlByte, lengthByte, enabled, controlled}
 use Rattle.tag.specs.Radio.{isQuiet, isSelected, deselected, fieldAt}
 use Rattle.tag.specs.Supply.{vccAt, freshTag}
 use Rattle.ranges.specs.Ranges.{registersInRange, airInRange, mailboxInRange, suppliedInRange, hostInRange, coreInRange, wireInRange, inRange}
-use Rattle.rule.specs.Rule.{memoryAcked, mailboxAcked, userAcked, writtenAll, isWritable, registerAcked, passwordAcked, systemAcked, spaceAcked, acked}
-use Rattle.rule.specs.Select.{selectOf, choose, firstOf}
+use Rattle.rule.specs.Rule.{memoryAcked, mailboxAcked, userAcked, writtenAll, registerAcked, passwordAcked, systemAcked, spaceAcked, acked}
 use Rattle.page.specs.PageRange.{pageAcked, busInRange}
+use Rattle.rule.specs.Select.{selectOf, choose, firstOf}
 use Rattle.leg.specs.Effect.{userWritten, passwordWritten, systemWritten, legWritten, settle}
 use Rattle.leg.specs.Fetch.{memoryByte, mailboxByte, userByte, systemByte, fetched, isLast}
 use Rattle.signal.specs.Signal.{dueOf, startAt, startOf, stopAt}
@@ -29,7 +30,7 @@ use Rattle.frame.specs.Silence.{makerDiffers, uidDiffers, silenceHolds, recepti
 use Rattle.frame.specs.Judge.{isMute, errorOf, shutOut, badFlags, wrongLength, errorHolds, ruleError, errorRules, judge}
 use Rattle.blocks.specs.Blocks.{leavesArea, statusOf, blockOf, blocksOf, readOf, statusesOf, statusReply}
 use Rattle.block_writes.specs.Writes.{mayWriteAll, writeOf, lockOf}
-use Rattle.config.specs.Config.{isPointer, readConfigOf, mailboxAfterWrite, writtenCore, writeConfigOf, readDynamicOf, writeDynamicOf}
+use Rattle.config.specs.Config.{readConfigOf, mailboxAfterWrite, writtenCore, writeConfigOf, readDynamicOf, writeDynamicOf}
 use Rattle.message.specs.Message.{takesMessage, writeMessageOf, lengthOf, asked, mailboxAfterRead, readMessageOf}
 use Rattle.password.specs.Password.{presentOf, writePasswordOf}
 use Rattle.radio_state.specs.RadioState.{stayQuietOf, selectUidOf, resetToReadyOf}
@@ -44,5 +45,5 @@ use Rattle.calls.specs.Examples.{sends}
 
 -- all that a run of written-down calls computes with
 unfoldable pub computes : Unit {0}
-unfolding bytesAt copied agree pick shifted bit bits byte run crcOf goodFrame closedAt definedOnly freshRegisters registerAt withArea withEnd writtenArea written areaOfBlock areaOfByte endsInRange laterLargest exceedsBefore endAccepted endAllows securityOf sessionOpens radioWrites radioReads wireBits wireWrites wireReads isLocked readRight writeRight mayRead mayWrite isOpen isActive pageBytes radioPassword withRadioPassword freshPasswords controlByte lengthByte enabled controlled isQuiet isSelected deselected fieldAt vccAt freshTag registersInRange airInRange mailboxInRange suppliedInRange hostInRange coreInRange wireInRange inRange pageAcked busInRange memoryAcked mailboxAcked userAcked writtenAll isWritable registerAcked passwordAcked systemAcked spaceAcked acked selectOf choose firstOf userWritten passwordWritten systemWritten legWritten settle memoryByte mailboxByte userByte systemByte fetched isLast sentByte dueOf startAt startOf stopAt selectBy dataOf sendAt fetchAt signalOf answerOf bufferOf uidPlace paramPlace ownUid param isKnown takesOption paramBytes isSilent isMute errorOf shutOut badFlags wrongLength judge leavesArea statusOf blockOf blocksOf readOf mayWriteAll writeOf lockOf statusesOf statusReply isPointer readConfigOf mailboxAfterWrite writtenCore writeConfigOf readDynamicOf writeDynamicOf takesMessage writeMessageOf lengthOf asked mailboxAfterRead readMessageOf presentOf writePasswordOf stayQuietOf selectUidOf resetToReadyOf serveOf verdictResult radioOf areBytes topValue signalInRange signalBy number firstSays judgement unlessRefused fromWire fromRadio tagInRange actOf stepOf freshOf entry runBy sends framesFit anyHolds commandTable commandOf sizeOf makerDiffers uidDiffers silenceHolds receptionSilences addressSilences requestSilences errorHolds ruleError errorRules serveCommand serveCode
+unfolding bytesAt copied agree pick shifted bit bits byte run crcOf goodFrame closedAt definedOnly freshRegisters registerAt withArea withEnd written areaOfBlock areaOfByte endsInRange laterLargest exceedsBefore endAccepted endAllows securityOf sessionOpens radioWrites radioReads wireBits wireWrites wireReads isLocked readRight writeRight mayRead mayWrite isOpen isActive pageBytes radioPassword withRadioPassword freshPasswords controlByte lengthByte enabled controlled isQuiet isSelected deselected fieldAt vccAt freshTag registersInRange airInRange mailboxInRange suppliedInRange hostInRange coreInRange wireInRange inRange pageAcked busInRange memoryAcked mailboxAcked userAcked writtenAll registerAcked passwordAcked systemAcked spaceAcked acked selectOf choose firstOf userWritten passwordWritten systemWritten legWritten settle memoryByte mailboxByte userByte systemByte fetched isLast sentByte dueOf startAt startOf stopAt selectBy dataOf sendAt fetchAt signalOf answerOf bufferOf uidPlace paramPlace ownUid param isKnown takesOption paramBytes isSilent isMute errorOf shutOut badFlags wrongLength judge leavesArea statusOf blockOf blocksOf readOf mayWriteAll writeOf lockOf statusesOf statusReply readConfigOf mailboxAfterWrite writtenCore writeConfigOf readDynamicOf writeDynamicOf takesMessage writeMessageOf lengthOf asked mailboxAfterRead readMessageOf presentOf writePasswordOf stayQuietOf selectUidOf resetToReadyOf serveOf verdictResult radioOf areBytes topValue signalInRange signalBy number firstSays judgement unlessRefused fromWire fromRadio tagInRange actOf stepOf freshOf entry runBy sends framesFit anyHolds commandTable commandOf sizeOf makerDiffers uidDiffers silenceHolds receptionSilences addressSilences requestSilences errorHolds ruleError errorRules serveCommand serveCode rowIn rowOf definedIn
 computes = tt

@@ -5,6 +5,9 @@ use Prim.Native.Nat.{ℕ}
 use lib.Dec.{leb, eqb}
 use Rattle.parts.specs.Pick.{pick}
 use Rattle.parts.specs.Bits.{isSet}
+use Rattle.registers.specs.declared.WriteRule.{WriteRule}
+use Rattle.registers.specs.declared.WriteRule.the-variants.{Plain, AreaEnd, MailboxMode}
+use Rattle.registers.specs.Table.{rowOf, isPointer}
 use Rattle.registers.specs.Map.{registerAt, written}
 use Rattle.areas.specs.Ends.{endAllows}
 use Rattle.tag.specs.declared.Mailbox.{Mailbox}
@@ -16,10 +19,6 @@ use Rattle.reply.specs.declared.RadioSide.{RadioSide}
 use Rattle.reply.specs.Reply.{good}
 use Rattle.reply.specs.Outcome.{CommandResult, commandResult, fails, withRadioCore, sideMailbox}
 
--- "pointers 03-0A, 0D, 0F, else 10h"
-unfoldable pub isPointer : ℕ → Bool
-isPointer p = (leb 0x03 p && leb p 0x0A) || eqb p 0x0D || eqb p 0x0F
-
 -- "A0 Config": the register's byte
 unfoldable pub readConfigOf : RadioSide → List ℕ → ℕ → CommandResult
 readConfigOf s m p =
@@ -27,8 +26,13 @@ readConfigOf s m p =
     (commandResult (good (registerAt (s .core .registers) p ∷ [])) s m)
 
 -- a register written: MB_MODE with bit 0 clear also disables the mailbox (000, MB_CTRL_Dyn: MB_EN falls when MB_MODE is written 0)
+abbrev pub mailboxByRule : WriteRule → ℕ → Mailbox → Mailbox
+mailboxByRule Plain x m = m
+mailboxByRule (AreaEnd i) x m = m
+mailboxByRule MailboxMode x m = pick (isSet 1 x) m (disabled m)
+
 unfoldable pub mailboxAfterWrite : ℕ → ℕ → Mailbox → Mailbox
-mailboxAfterWrite p x m = pick (eqb p 0x0D && not (isSet 1 x)) (disabled m) m
+mailboxAfterWrite p x m = mailboxByRule (rowOf p .rule) x m
 
 unfoldable pub writtenCore : Core → ℕ → ℕ → Core
 writtenCore c p x = withMailbox (mailboxAfterWrite p x (c .mailbox)) (withRegisters (written (c .registers) p x) c)

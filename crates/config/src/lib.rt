@@ -1,24 +1,20 @@
 // Commands on registers, static and dynamic.
 ghost use mathlib.Core.Path.{_≡_};
 ghost use Rattle.reply.specs.Outcome.{radioResult, finish};
-ghost use Rattle.config.specs.Config.{isPointer, readConfigOf, mailboxAfterWrite, writtenCore, writeConfigOf, readDynamicOf, writeDynamicOf};
+ghost use Rattle.config.specs.Config.{readConfigOf, mailboxAfterWrite, writtenCore, writeConfigOf, readDynamicOf, writeDynamicOf};
 use errors::RadioError;
+use registers::WriteRule;
 use reply::RadioOutcome;
 use reply::RadioSide;
 use tag::Core;
 use tag::Mailbox;
 
-fn is_pointer(p: u8) -> bool
-    ensures { λ r. ⌜ r ≡ isPointer p ⌝ }
-{
-    ((0x03 <= p) & (p <= 0x0A)) | (p == 0x0D) | (p == 0x0F)
-}
-
 // A0.
 pub fn read(s: RadioSide, m: &[u8], out: &mut [u8], p: u8) -> RadioOutcome
     ensures { λ r. ⌜ radioResult r (now (m .entry)) (now (out .exit)) ≡ finish (readConfigOf s (now (m .entry)) p) (now (out .entry)) ⌝ }
 {
-    if !is_pointer(p) {
+    let row = registers::row_of(p as u32);
+    if !row.radio {
         return RadioOutcome {
             answer: reply::error(out, RadioError::NoSuchRegister),
             side: s,
@@ -34,10 +30,18 @@ pub fn read(s: RadioSide, m: &[u8], out: &mut [u8], p: u8) -> RadioOutcome
 fn mailbox_after(p: u8, x: u8, m: Mailbox) -> Mailbox
     ensures { λ r. ⌜ r ≡ mailboxAfterWrite p x m ⌝ }
 {
-    if (p == 0x0D) & !(x / 1 % 2 == 1) {
-        return m.disable();
+    let row = registers::row_of(p as u32);
+    let rule = row.rule;
+    match rule {
+        WriteRule::Plain => m,
+        WriteRule::AreaEnd(_) => m,
+        WriteRule::MailboxMode => {
+            if x / 1 % 2 == 1 {
+                return m;
+            }
+            m.disable()
+        }
     }
-    m
 }
 
 fn written_core(c: Core, p: u8, x: u8) -> Core
@@ -56,7 +60,8 @@ pub fn write(s: RadioSide, m: &[u8], out: &mut [u8], p: u8, x: u8) -> RadioOutco
     ensures { λ r. ⌜ radioResult r (now (m .entry)) (now (out .exit)) ≡ finish (writeConfigOf s (now (m .entry)) p x) (now (out .entry)) ⌝ }
 {
     let r = s.core.registers;
-    if !is_pointer(p) {
+    let row = registers::row_of(p as u32);
+    if !row.radio {
         return RadioOutcome {
             answer: reply::error(out, RadioError::NoSuchRegister),
             side: s,

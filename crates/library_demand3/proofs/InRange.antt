@@ -1,7 +1,7 @@
 -- What the ranges say of a tag's numbers. Assumes nothing.
 use mathlib.Core.Path.{_≡_, refl}
 use mathlib.Core.Bool.{true, not, _&&_, _||_}
-use mathlib.Core.List.{List}
+use mathlib.Core.List.{List, [], _∷_}
 use Prim.Native.Nat.{ℕ, _%_, _≤_, _<_}
 use native.Mathlib.Nat.{mod-lt}
 use native.Mathlib.Omega.{arith}
@@ -10,8 +10,10 @@ use borrow.Author.Tests.{eqb-true, leb-true, ltb-true, lt-ltb}
 use Rattle.parts.specs.Bytes.{areBytes}
 use Rattle.parts.proofs.Bools.{and-left, and-right}
 use Rattle.registers.specs.declared.Registers.{Registers}
-use Rattle.registers.specs.Defined.{onlyBits, definedOnly}
-use Rattle.areas.specs.Ends.{rises, endsInRange}
+use Rattle.registers.specs.Table.{rfMngtBits, RegisterEntry, registerTable}
+use Rattle.registers.specs.Defined.{onlyBits, byteOf, definedIn, definedOnly}
+use Rattle.registers.proofs.Table.{Each}
+use Rattle.areas.specs.Ends.{endsInRange}
 use Rattle.tag.specs.declared.Bus.{Bus}
 use Rattle.tag.specs.declared.Bus.the-variants.{Idle, Started, ReadLeg, WriteLeg, LowAddress, DataLeg}
 use Rattle.tag.specs.declared.Mailbox.{Mailbox}
@@ -36,40 +38,26 @@ two b e = own-remainder 4 b (omega arith) (omega arith) e
 four : (b : ℕ) → onlyBits 4 b ≡ true → isByte b ≡ true
 four b e = own-remainder 16 b (omega arith) (omega arith) e
 
-end-byte : (b : ℕ) → leb b 15 ≡ true → isByte b ≡ true
-end-byte b e = lt-ltb b 256 (omega (arith, leb-true b 15 e))
+one : (b : ℕ) → onlyBits 1 b ≡ true → isByte b ≡ true
+one b e = own-remainder 2 b (omega arith) (omega arith) e
+
+-- the tests of a table one by one
+each-defined : (es : List RegisterEntry) (r : Registers) → definedIn es r ≡ true → Each (λ (e : RegisterEntry). onlyBits (e .definedBits) (byteOf (e .row .register) r) ≡ true) es
+unfolding definedIn
+each-defined [] r h = tt
+each-defined (e ∷ es) r h =
+    let t = onlyBits (e .definedBits) (byteOf (e .row .register) r) in
+    (and-left t (definedIn es r) h, each-defined es r (and-right t (definedIn es r) h))
 
 registers-are : (r : Registers) → registersInRange r ≡ true → areBytes (registerBytes r) ≡ true
-unfolding registersInRange definedOnly endsInRange areBytes registerBytes
+unfolding registersInRange definedOnly areBytes registerBytes
 registers-are r h =
-    let t1 = onlyBits 2 (r .mngt .bits) in
-    let t2 = onlyBits 2 (r .dynamic .bits) in
-    let t3 = onlyBits 4 (r .security .area1 .bits) in
-    let t4 = onlyBits 4 (r .security .area2 .bits) in
-    let t5 = onlyBits 4 (r .security .area3 .bits) in
-    let t6 = onlyBits 4 (r .security .area4 .bits) in
-    let t7 = onlyBits 8 (r .i2css .bits) in
-    let t8 = onlyBits 2 (r .ccfile .bits) in
-    let t9 = onlyBits 1 (r .mode .bits) in
-    let t10 = onlyBits 1 (r .config .bits) in
-    let e1 = leb (r .ends .end1 .bits) 15 in
-    let e2 = leb (r .ends .end2 .bits) 15 in
-    let e3 = leb (r .ends .end3 .bits) 15 in
-    let q1 = rises (r .ends .end1) (r .ends .end2) in
-    let q2 = rises (r .ends .end2) (r .ends .end3) in
-    let d10 = and-right (endsInRange (r .ends)) (definedOnly r) h in
-    let d9 = and-left (t1 && t2 && t3 && t4 && t5 && t6 && t7 && t8 && t9) t10 d10 in
-    let d8 = and-left (t1 && t2 && t3 && t4 && t5 && t6 && t7 && t8) t9 d9 in
-    let d7 = and-left (t1 && t2 && t3 && t4 && t5 && t6 && t7) t8 d8 in
-    let d6 = and-left (t1 && t2 && t3 && t4 && t5 && t6) t7 d7 in
-    let d5 = and-left (t1 && t2 && t3 && t4 && t5) t6 d6 in
-    let d4 = and-left (t1 && t2 && t3 && t4) t5 d5 in
-    let d3 = and-left (t1 && t2 && t3) t4 d4 in
-    let d2 = and-left (t1 && t2) t3 d3 in
-    let s4 = and-left (e1 && e2 && e3 && q1) q2 (and-left (endsInRange (r .ends)) (definedOnly r) h) in
-    let s3 = and-left (e1 && e2 && e3) q1 s4 in
-    let s2 = and-left (e1 && e2) e3 s3 in
-    rw (two (r .mngt .bits) (and-left t1 t2 d2), two (r .dynamic .bits) (and-right t1 t2 d2), four (r .security .area1 .bits) (and-right (t1 && t2) t3 d3), end-byte (r .ends .end1 .bits) (and-left e1 e2 s2), four (r .security .area2 .bits) (and-right (t1 && t2 && t3) t4 d4), end-byte (r .ends .end2 .bits) (and-right e1 e2 s2), four (r .security .area3 .bits) (and-right (t1 && t2 && t3 && t4) t5 d5), end-byte (r .ends .end3 .bits) (and-right (e1 && e2) e3 s3), four (r .security .area4 .bits) (and-right (t1 && t2 && t3 && t4 && t5) t6 d6), own-remainder 256 (r .i2css .bits) (omega arith) (omega arith) (and-right (t1 && t2 && t3 && t4 && t5 && t6) t7 d7), two (r .ccfile .bits) (and-right (t1 && t2 && t3 && t4 && t5 && t6 && t7) t8 d8), own-remainder 2 (r .mode .bits) (omega arith) (omega arith) (and-right (t1 && t2 && t3 && t4 && t5 && t6 && t7 && t8) t9 d9), own-remainder 2 (r .config .bits) (omega arith) (omega arith) (and-right (t1 && t2 && t3 && t4 && t5 && t6 && t7 && t8 && t9) t10 d10))
+    let t = onlyBits rfMngtBits (r .dynamic .bits) in
+    let d = and-right (endsInRange (r .ends)) (definedOnly r) h in
+    let f = each-defined registerTable r (and-right t (definedIn registerTable r) d) in
+    let areas = f .1 in
+    let last = areas .1 .1 .1 .1 .1 .1 .1 in
+    rw (two (r .mngt .bits) (f .0), two (r .dynamic .bits) (and-left t (definedIn registerTable r) d), four (r .security .area1 .bits) (areas .0), four (r .ends .end1 .bits) (areas .1 .0), four (r .security .area2 .bits) (areas .1 .1 .0), four (r .ends .end2 .bits) (areas .1 .1 .1 .0), four (r .security .area3 .bits) (areas .1 .1 .1 .1 .0), four (r .ends .end3 .bits) (areas .1 .1 .1 .1 .1 .0), four (r .security .area4 .bits) (areas .1 .1 .1 .1 .1 .1 .0), own-remainder 256 (r .i2css .bits) (omega arith) (omega arith) (last .0), two (r .ccfile .bits) (last .1 .0), one (r .mode .bits) (last .1 .1 .0), one (r .config .bits) (last .1 .1 .1 .0))
 
 -- ---- the message's length, the bus
 message-is : (b : Mailbox) → mailboxInRange b ≡ true → isWord (b .length) ≡ true

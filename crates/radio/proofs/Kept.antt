@@ -16,9 +16,11 @@ use Rattle.parts.proofs.Picks.{pick-case}
 use Rattle.areas.specs.Ends.{endAllows}
 use Rattle.ranges.specs.Ranges.{registersInRange, airInRange, mailboxInRange, coreInRange}
 use Rattle.ranges.proofs.MailboxKept.{empty-kept, radio-read-kept, controlled-kept, radio-put-kept}
-use Rattle.ranges.proofs.RegistersKept.{written-kept}
-use Rattle.registers.specs.declared.Ends.{Ends}
+use Rattle.ranges.proofs.RegistersKept.{written-kept, ccfile-kept}
+use Rattle.registers.specs.declared.WriteRule.{WriteRule}
+use Rattle.registers.specs.declared.WriteRule.the-variants.{Plain, AreaEnd, MailboxMode}
 use Rattle.registers.specs.declared.MbMode.{MbMode}
+use Rattle.registers.specs.Table.{rowOf}
 use Rattle.registers.specs.Map.{written}
 use Rattle.tag.specs.declared.Uid.{Uid}
 use Rattle.tag.specs.declared.Air.{Air}
@@ -39,7 +41,7 @@ use Rattle.frame.specs.Fields.{param}
 use Rattle.frame.specs.Judge.{judge}
 use Rattle.blocks.specs.Blocks.{readOf, statusReply}
 use Rattle.block_writes.specs.Writes.{writeOf, lockOf}
-use Rattle.config.specs.Config.{mailboxAfterWrite, writtenCore, readConfigOf, writeConfigOf, readDynamicOf, writeDynamicOf}
+use Rattle.config.specs.Config.{mailboxByRule, mailboxAfterWrite, writtenCore, readConfigOf, writeConfigOf, readDynamicOf, writeDynamicOf}
 use Rattle.message.specs.Message as message
 use Rattle.password.specs.Password.{presentOf, writePasswordOf}
 use Rattle.radio_state.specs.RadioState.{stayQuietOf, selectUidOf, resetToReadyOf}
@@ -74,11 +76,6 @@ in-range vcc t f = rw (f .air, f .registers, f .mailbox, f .supplied)
 record Kept (vcc : Bool) (n : ℕ) (d : CommandResult) : Type 0 where
   side : Fits vcc (d .side)
   size : length (d .memory) ≡ n
-
--- LOCK_CCFILE is no end
-no-end : (e : Ends) (x : ℕ) → endAllows e 0x0C x ≡ true
-unfolding endAllows pick
-no-end e x = refl
 
 module _ (vcc : Bool) (t : RadioSide) (m : List ℕ) (f : Fits vcc t) where
   abbrev K : CommandResult → Type 0
@@ -117,7 +114,7 @@ module _ (vcc : Bool) (t : RadioSide) (m : List ℕ) (f : Fits vcc t) where
       pick-case K _ _ _ (λ h. same _)
       (λ h. pick-case K _ _ _ (λ h. same _)
       (λ h.
-      record { side = record { air = f .air; registers = written-kept (t .core .registers) 0x0C _ (f .registers) (no-end _ _); mailbox = f .mailbox; supplied = f .supplied }; size = refl }))
+      record { side = record { air = f .air; registers = ccfile-kept (t .core .registers) _ (f .registers); mailbox = f .mailbox; supplied = f .supplied }; size = refl }))
 
   status-kept : (first more : ℕ) → K (statusReply t m first more)
   unfolding statusReply
@@ -156,10 +153,17 @@ module _ (vcc : Bool) (t : RadioSide) (m : List ℕ) (f : Fits vcc t) where
   unfolding readConfigOf
   read-config-kept p = pick-case K _ _ _ (λ h. same _) (λ h. same _)
 
-  mailbox-after : (p x : ℕ) → (mailboxInRange (mailboxAfterWrite p x (t .core .mailbox)) ≡ true) × ((vcc || not (mailboxAfterWrite p x (t .core .mailbox) .enabled)) ≡ true)
+  abbrev Carried : Mailbox → Type 0
+  Carried b = (mailboxInRange b ≡ true) × ((vcc || not (b .enabled)) ≡ true)
+
+  mailbox-by : (rule : WriteRule) (x : ℕ) → Carried (mailboxByRule rule x (t .core .mailbox))
+  mailbox-by Plain x = (f .mailbox, f .supplied)
+  mailbox-by (AreaEnd i) x = (f .mailbox, f .supplied)
+  mailbox-by MailboxMode x = pick-case Carried _ _ _ (λ h. (f .mailbox, f .supplied)) (λ h. (empty-kept, or-second vcc true refl))
+
+  mailbox-after : (p x : ℕ) → Carried (mailboxAfterWrite p x (t .core .mailbox))
   unfolding mailboxAfterWrite
-  mailbox-after p x =
-      pick-case (λ (b : Mailbox). (mailboxInRange b ≡ true) × ((vcc || not (b .enabled)) ≡ true)) _ _ _ (λ h. (empty-kept, or-second vcc true refl)) (λ h. (f .mailbox, f .supplied))
+  mailbox-after p x = mailbox-by (rowOf p .rule) x
 
   write-config-kept : (p x : ℕ) → K (writeConfigOf t m p x)
   unfolding writeConfigOf writtenCore

@@ -1,6 +1,6 @@
 -- The fresh tag is in range, for every UID. Assumes nothing.
 use mathlib.Core.Path.{refl}
-use Rattle.registers.specs.Defined.{definedOnly, freshRegisters}
+use Rattle.registers.specs.Defined.{definedIn, definedOnly, freshRegisters}
 use Rattle.areas.specs.Ends.{endsInRange}
 use Rattle.tag.specs.Bus.{isOpen, isActive, pageBytes}
 use Rattle.tag.specs.Supply.{freshTag}
@@ -8,5 +8,5 @@ use Rattle.ranges.specs.Claims.{FreshInRange}
 use Rattle.ranges.specs.Ranges.{registersInRange, airInRange, mailboxInRange, suppliedInRange, hostInRange, coreInRange, wireInRange, inRange}
 
 pub fresh-in-range : FreshInRange
-unfolding inRange airInRange wireInRange coreInRange registersInRange mailboxInRange hostInRange suppliedInRange endsInRange definedOnly isOpen isActive pageBytes freshTag freshRegisters
+unfolding inRange airInRange wireInRange coreInRange registersInRange mailboxInRange hostInRange suppliedInRange endsInRange definedIn definedOnly isOpen isActive pageBytes freshTag freshRegisters
 fresh-in-range u = refl

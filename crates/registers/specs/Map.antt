@@ -1,5 +1,4 @@
--- The system registers by their address on the wire, which is also their radio pointer.
--- "System: 0003h RF_MNGT, 0004h-000Ah RFA1SS, ENDA1, RFA2SS, ENDA2, RFA3SS, ENDA3, RFA4SS, 000Bh I2CSS, 000Ch LOCK_CCFILE, 000Dh MB_MODE, 000Fh LOCK_CFG"
+-- The registers by their address: read, and written.
 use Prim.Native.Nat.{ℕ}
 use lib.Dec.{eqb}
 use Rattle.parts.specs.Pick.{pick}
@@ -13,24 +12,14 @@ use Rattle.registers.specs.declared.LockCfg.{LockCfg}
 use Rattle.registers.specs.declared.Security.{Security}
 use Rattle.registers.specs.declared.Ends.{Ends}
 use Rattle.registers.specs.declared.Registers.{Registers}
-use Rattle.registers.specs.Defined.{rfMngt, rfaSs, endA, i2cSs, lockCcFile, mbMode, lockCfg}
+use Rattle.registers.specs.declared.Register.{Register}
+use Rattle.registers.specs.declared.Register.the-variants.{Mngt, Rfa1Ss, EndA1, Rfa2Ss, EndA2, Rfa3Ss, EndA3, Rfa4Ss, I2css, Ccfile, Mode, Config, Unmapped}
+use Rattle.registers.specs.Table.{rowOf}
+use Rattle.registers.specs.Defined.{rfMngt, rfaSs, endA, i2cSs, lockCcFile, mbMode, lockCfg, byteOf}
 
--- the byte of the register at address a; "FFh where unmapped"
+-- the byte at address a
 unfoldable pub registerAt : Registers → ℕ → ℕ
-registerAt r a =
-    pick (eqb a 0x03) (r .mngt .bits)
-    (pick (eqb a 0x04) (r .security .area1 .bits)
-    (pick (eqb a 0x05) (r .ends .end1 .bits)
-    (pick (eqb a 0x06) (r .security .area2 .bits)
-    (pick (eqb a 0x07) (r .ends .end2 .bits)
-    (pick (eqb a 0x08) (r .security .area3 .bits)
-    (pick (eqb a 0x09) (r .ends .end3 .bits)
-    (pick (eqb a 0x0A) (r .security .area4 .bits)
-    (pick (eqb a 0x0B) (r .i2css .bits)
-    (pick (eqb a 0x0C) (r .ccfile .bits)
-    (pick (eqb a 0x0D) (r .mode .bits)
-    (pick (eqb a 0x0F) (r .config .bits)
-    0xFF)))))))))))
+registerAt r a = byteOf (rowOf a .register) r
 
 -- ---- the registers with one of them replaced
 abbrev pub withSecurity : Security → Registers → Registers
@@ -83,24 +72,22 @@ abbrev pub withConfig : LockCfg → Registers → Registers
 withConfig x r =
     record { mngt = r .mngt; dynamic = r .dynamic; security = r .security; ends = r .ends; i2css = r .i2css; ccfile = r .ccfile; mode = r .mode; config = x }
 
--- the registers after byte b was written to address a, its defined bits kept; nothing changes where no register is.
--- First those of the areas, then all.
-unfoldable pub writtenArea : Registers → ℕ → ℕ → Registers
-writtenArea r a b =
-    pick (eqb a 0x04) (withSecurity (withArea 1 (rfaSs b) (r .security)) r)
-    (pick (eqb a 0x05) (withEnds (withEnd 1 (endA b) (r .ends)) r)
-    (pick (eqb a 0x06) (withSecurity (withArea 2 (rfaSs b) (r .security)) r)
-    (pick (eqb a 0x07) (withEnds (withEnd 2 (endA b) (r .ends)) r)
-    (pick (eqb a 0x08) (withSecurity (withArea 3 (rfaSs b) (r .security)) r)
-    (pick (eqb a 0x09) (withEnds (withEnd 3 (endA b) (r .ends)) r)
-    (pick (eqb a 0x0A) (withSecurity (withArea 4 (rfaSs b) (r .security)) r)
-    r))))))
+-- the registers after byte b was written to one of them, its defined bits kept
+abbrev pub writtenTo : Register → ℕ → Registers → Registers
+writtenTo Mngt b r = withMngt (rfMngt b) r
+writtenTo Rfa1Ss b r = withSecurity (withArea 1 (rfaSs b) (r .security)) r
+writtenTo EndA1 b r = withEnds (withEnd 1 (endA b) (r .ends)) r
+writtenTo Rfa2Ss b r = withSecurity (withArea 2 (rfaSs b) (r .security)) r
+writtenTo EndA2 b r = withEnds (withEnd 2 (endA b) (r .ends)) r
+writtenTo Rfa3Ss b r = withSecurity (withArea 3 (rfaSs b) (r .security)) r
+writtenTo EndA3 b r = withEnds (withEnd 3 (endA b) (r .ends)) r
+writtenTo Rfa4Ss b r = withSecurity (withArea 4 (rfaSs b) (r .security)) r
+writtenTo I2css b r = withI2cSs (i2cSs b) r
+writtenTo Ccfile b r = withCcFile (lockCcFile b) r
+writtenTo Mode b r = withMode (mbMode b) r
+writtenTo Config b r = withConfig (lockCfg b) r
+writtenTo Unmapped b r = r
 
+-- the same by the address; nothing changes where no register is
 unfoldable pub written : Registers → ℕ → ℕ → Registers
-written r a b =
-    pick (eqb a 0x03) (withMngt (rfMngt b) r)
-    (pick (eqb a 0x0B) (withI2cSs (i2cSs b) r)
-    (pick (eqb a 0x0C) (withCcFile (lockCcFile b) r)
-    (pick (eqb a 0x0D) (withMode (mbMode b) r)
-    (pick (eqb a 0x0F) (withConfig (lockCfg b) r)
-    (writtenArea r a b)))))
+written r a b = writtenTo (rowOf a .register) b r

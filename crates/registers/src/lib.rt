@@ -1,8 +1,84 @@
 // The tag's registers: each a type of its own, with its defined bits, and all of them together.
 ghost use mathlib.Core.Path.{_≡_};
 ghost use Rattle.parts.specs.Bits.{keepBits};
-ghost use Rattle.registers.specs.Defined.{rfMngt, rfaSs, endA, i2cSs, lockCcFile, mbMode, lockCfg, onlyBits, definedOnly, freshRegisters};
-ghost use Rattle.registers.specs.Map.{registerAt, withArea, withEnd, withEnds, withDynamic, withSecurity, writtenArea, written};
+ghost use Rattle.registers.specs.Table.{rfMngtBits, rfaSsBits, endABits, i2cSsBits, lockCcFileBits, mbModeBits, lockCfgBits, rowOf};
+ghost use Rattle.registers.specs.Defined.{rfMngt, rfaSs, endA, i2cSs, lockCcFile, mbMode, lockCfg, byteOf, definedOnly, freshRegisters};
+ghost use Rattle.registers.specs.Map.{registerAt, withArea, withEnd, withEnds, withDynamic, withSecurity, writtenTo, written};
+
+// The system registers, by the fields that hold them.
+pub enum Register {
+    // RF_MNGT.
+    Mngt,
+    Rfa1Ss,
+    EndA1,
+    Rfa2Ss,
+    EndA2,
+    Rfa3Ss,
+    EndA3,
+    Rfa4Ss,
+    I2css,
+    // LOCK_CCFILE.
+    Ccfile,
+    // MB_MODE.
+    Mode,
+    // LOCK_CFG.
+    Config,
+    // No register: reads FFh, and a write changes nothing.
+    Unmapped,
+}
+
+// What a write of a register asks or does beside storing the byte.
+pub enum WriteRule {
+    Plain,
+    // ENDAi: the rule of the ends.
+    AreaEnd(u8),
+    // MB_MODE: 0 disables the mailbox.
+    MailboxMode,
+}
+
+// What is known of the register at an address.
+pub struct RegisterRow {
+    pub register: Register,
+    pub rule: WriteRule,
+    // The host may write it, with the session open.
+    pub host: bool,
+    // The radio reads and writes it, by its address as pointer.
+    pub radio: bool,
+}
+
+impl RegisterRow {
+    fn new(register: Register, rule: WriteRule, host: bool, radio: bool) -> RegisterRow
+        ensures { λ r. ⌜ r ≡ record { register = register; rule = rule; host = host; radio = radio } ⌝ }
+    {
+        RegisterRow {
+            register,
+            rule,
+            host,
+            radio,
+        }
+    }
+}
+
+// The row of a system address: the one list of addresses.
+pub fn row_of(at: u32) -> RegisterRow
+    ensures { λ r. ⌜ r ≡ rowOf at ⌝ }
+{
+    match at {
+        0x03 => RegisterRow::new(Register::Mngt, WriteRule::Plain, true, true),
+        0x04 => RegisterRow::new(Register::Rfa1Ss, WriteRule::Plain, true, true),
+        0x05 => RegisterRow::new(Register::EndA1, WriteRule::AreaEnd(1), true, true),
+        0x06 => RegisterRow::new(Register::Rfa2Ss, WriteRule::Plain, true, true),
+        0x07 => RegisterRow::new(Register::EndA2, WriteRule::AreaEnd(2), true, true),
+        0x08 => RegisterRow::new(Register::Rfa3Ss, WriteRule::Plain, true, true),
+        0x09 => RegisterRow::new(Register::EndA3, WriteRule::AreaEnd(3), true, true),
+        0x0A => RegisterRow::new(Register::Rfa4Ss, WriteRule::Plain, true, true),
+        0x0B => RegisterRow::new(Register::I2css, WriteRule::Plain, true, false),
+        0x0C => RegisterRow::new(Register::Ccfile, WriteRule::Plain, true, false),
+        0x0D => RegisterRow::new(Register::Mode, WriteRule::MailboxMode, true, true),
+        0x0F => RegisterRow::new(Register::Config, WriteRule::Plain, true, true),
+        _ => RegisterRow::new(Register::Unmapped, WriteRule::Plain, false, false),
+    }
+}
 
 // RF_MNGT and RF_MNGT_Dyn: b0 radio disabled, b1 radio asleep.
 pub struct RfMngt {
@@ -13,7 +89,7 @@ impl RfMngt {
     pub const MASK: u8 = 0x03;
 
     pub fn keep(byte: u8) -> u8
-        ensures { λ r. ⌜ r ≡ keepBits 2 byte ⌝ }
+        ensures { λ r. ⌜ r ≡ keepBits rfMngtBits byte ⌝ }
     {
         byte & Self::MASK
     }
@@ -36,7 +112,7 @@ impl RfaSs {
     pub const MASK: u8 = 0x0F;
 
     pub fn keep(byte: u8) -> u8
-        ensures { λ r. ⌜ r ≡ keepBits 4 byte ⌝ }
+        ensures { λ r. ⌜ r ≡ keepBits rfaSsBits byte ⌝ }
     {
         byte & Self::MASK
     }
@@ -59,7 +135,7 @@ impl EndA {
     pub const MASK: u8 = 0x0F;
 
     pub fn keep(byte: u8) -> u8
-        ensures { λ r. ⌜ r ≡ keepBits 4 byte ⌝ }
+        ensures { λ r. ⌜ r ≡ keepBits endABits byte ⌝ }
     {
         byte & Self::MASK
     }
@@ -82,7 +158,7 @@ impl I2cSs {
     pub const MASK: u8 = 0xFF;
 
     pub fn keep(byte: u8) -> u8
-        ensures { λ r. ⌜ r ≡ keepBits 8 byte ⌝ }
+        ensures { λ r. ⌜ r ≡ keepBits i2cSsBits byte ⌝ }
     {
         byte & Self::MASK
     }
@@ -105,7 +181,7 @@ impl LockCcFile {
     pub const MASK: u8 = 0x03;
 
     pub fn keep(byte: u8) -> u8
-        ensures { λ r. ⌜ r ≡ keepBits 2 byte ⌝ }
+        ensures { λ r. ⌜ r ≡ keepBits lockCcFileBits byte ⌝ }
     {
         byte & Self::MASK
     }
@@ -128,7 +204,7 @@ impl MbMode {
     pub const MASK: u8 = 0x01;
 
     pub fn keep(byte: u8) -> u8
-        ensures { λ r. ⌜ r ≡ keepBits 1 byte ⌝ }
+        ensures { λ r. ⌜ r ≡ keepBits mbModeBits byte ⌝ }
     {
         byte & Self::MASK
     }
@@ -151,7 +227,7 @@ impl LockCfg {
     pub const MASK: u8 = 0x01;
 
     pub fn keep(byte: u8) -> u8
-        ensures { λ r. ⌜ r ≡ keepBits 1 byte ⌝ }
+        ensures { λ r. ⌜ r ≡ keepBits lockCfgBits byte ⌝ }
     {
         byte & Self::MASK
     }
@@ -279,11 +355,15 @@ impl Registers {
         ensures { λ r. ⌜ r ≡ definedOnly self ⌝ }
     {
         let s = self.security;
-        (RfMngt::keep(self.mngt.bits) == self.mngt.bits)
-            & (RfMngt::keep(self.dynamic.bits) == self.dynamic.bits)
+        let e = self.ends;
+        (RfMngt::keep(self.dynamic.bits) == self.dynamic.bits)
+            & (RfMngt::keep(self.mngt.bits) == self.mngt.bits)
             & (RfaSs::keep(s.area1.bits) == s.area1.bits)
+            & (EndA::keep(e.end1.bits) == e.end1.bits)
             & (RfaSs::keep(s.area2.bits) == s.area2.bits)
+            & (EndA::keep(e.end2.bits) == e.end2.bits)
             & (RfaSs::keep(s.area3.bits) == s.area3.bits)
+            & (EndA::keep(e.end3.bits) == e.end3.bits)
             & (RfaSs::keep(s.area4.bits) == s.area4.bits)
             & (I2cSs::keep(self.i2css.bits) == self.i2css.bits)
             & (LockCcFile::keep(self.ccfile.bits) == self.ccfile.bits)
@@ -310,25 +390,34 @@ impl Registers {
         r
     }
 
+    // The byte of a register.
+    pub fn byte_of(self, x: Register) -> u8
+        ensures { λ r. ⌜ r ≡ byteOf x self ⌝ }
+    {
+        match x {
+            Register::Mngt => self.mngt.bits,
+            Register::Rfa1Ss => self.security.area1.bits,
+            Register::EndA1 => self.ends.end1.bits,
+            Register::Rfa2Ss => self.security.area2.bits,
+            Register::EndA2 => self.ends.end2.bits,
+            Register::Rfa3Ss => self.security.area3.bits,
+            Register::EndA3 => self.ends.end3.bits,
+            Register::Rfa4Ss => self.security.area4.bits,
+            Register::I2css => self.i2css.bits,
+            Register::Ccfile => self.ccfile.bits,
+            Register::Mode => self.mode.bits,
+            Register::Config => self.config.bits,
+            Register::Unmapped => 0xFF,
+        }
+    }
+
     // The byte of the register at a system address.
     pub fn read(self, at: u16) -> u8
         ensures { λ r. ⌜ r ≡ registerAt self at ⌝ }
     {
-        match at {
-            0x03 => self.mngt.bits,
-            0x04 => self.security.area1.bits,
-            0x05 => self.ends.end1.bits,
-            0x06 => self.security.area2.bits,
-            0x07 => self.ends.end2.bits,
-            0x08 => self.security.area3.bits,
-            0x09 => self.ends.end3.bits,
-            0x0A => self.security.area4.bits,
-            0x0B => self.i2css.bits,
-            0x0C => self.ccfile.bits,
-            0x0D => self.mode.bits,
-            0x0F => self.config.bits,
-            _ => 0xFF,
-        }
+        let row = row_of(at as u32);
+        let x = row.register;
+        self.byte_of(x)
     }
 
     // The registers with RFAiSS of an area replaced.
@@ -349,49 +438,50 @@ impl Registers {
         r
     }
 
-    fn write_area(self, at: u16, byte: u8) -> Registers
-        ensures { λ r. ⌜ r ≡ writtenArea self at byte ⌝ }
-    {
-        match at {
-            0x04 => self.with_area(1, byte),
-            0x05 => self.with_end(1, byte),
-            0x06 => self.with_area(2, byte),
-            0x07 => self.with_end(2, byte),
-            0x08 => self.with_area(3, byte),
-            0x09 => self.with_end(3, byte),
-            0x0A => self.with_area(4, byte),
-            _ => self,
-        }
-    }
-
-    // The registers after a byte was written to a system address. RF_MNGT reloads RF_MNGT_Dyn.
-    pub fn write(self, at: u16, byte: u8) -> Registers
-        ensures { λ r. ⌜ r ≡ written self at byte ⌝ }
+    // The registers after a byte was written to one of them. RF_MNGT reloads RF_MNGT_Dyn.
+    pub fn write_to(self, x: Register, byte: u8) -> Registers
+        ensures { λ r. ⌜ r ≡ writtenTo x byte self ⌝ }
     {
         let mut r = self;
-        match at {
-            0x03 => {
+        match x {
+            Register::Mngt => {
                 r.mngt = RfMngt::new(byte);
                 r.dynamic = RfMngt::new(byte);
                 r
             }
-            0x0B => {
+            Register::Rfa1Ss => self.with_area(1, byte),
+            Register::EndA1 => self.with_end(1, byte),
+            Register::Rfa2Ss => self.with_area(2, byte),
+            Register::EndA2 => self.with_end(2, byte),
+            Register::Rfa3Ss => self.with_area(3, byte),
+            Register::EndA3 => self.with_end(3, byte),
+            Register::Rfa4Ss => self.with_area(4, byte),
+            Register::I2css => {
                 r.i2css = I2cSs::new(byte);
                 r
             }
-            0x0C => {
+            Register::Ccfile => {
                 r.ccfile = LockCcFile::new(byte);
                 r
             }
-            0x0D => {
+            Register::Mode => {
                 r.mode = MbMode::new(byte);
                 r
             }
-            0x0F => {
+            Register::Config => {
                 r.config = LockCfg::new(byte);
                 r
             }
-            _ => self.write_area(at, byte),
+            Register::Unmapped => self,
         }
+    }
+
+    // The registers after a byte was written to a system address.
+    pub fn write(self, at: u16, byte: u8) -> Registers
+        ensures { λ r. ⌜ r ≡ written self at byte ⌝ }
+    {
+        let row = row_of(at as u32);
+        let x = row.register;
+        self.write_to(x, byte)
     }
 }

@@ -6,6 +6,7 @@ use Prim.Native.Nat.{ℕ, _+_, _/_}
 use lib.Dec.{leb, ltb, eqb}
 use Rattle.parts.specs.Pick.{pick}
 use Rattle.registers.specs.declared.Registers.{Registers}
+use Rattle.registers.specs.Table.{isWritable}
 use Rattle.registers.specs.Map.{written}
 use Rattle.areas.specs.declared.Side.the-variants.{Wire}
 use Rattle.areas.specs.Ends.{areaOfByte, endAllows}
@@ -39,10 +40,6 @@ userAcked c session f k =
 unfoldable pub writtenAll : Registers → ℕ → List ℕ → Registers
 writtenAll r f [] = r
 writtenAll r f (x ∷ xs) = writtenAll (written r f x) (f + 1) xs
-
--- "register writable": 0003h to 000Dh and 000Fh
-unfoldable pub isWritable : ℕ → Bool
-isWritable a = (leb 0x03 a && leb a 0x0D) || eqb a 0x0F
 
 -- "system, MB_EN is 0, session open, register writable, ENDA rule met with the leg's earlier bytes taken as written"
 unfoldable pub registerAcked : Core → Bool → ℕ → ℕ → List ℕ → ℕ → Bool

@@ -4,7 +4,7 @@ ghost use Prim.Native.Nat.{_+_};
 ghost use Rattle.registers.specs.Map.{written};
 ghost use Rattle.tag.specs.Layout.{page};
 ghost use Rattle.rule.specs.Select.{selectOf, choose, address, firstOf};
-ghost use Rattle.rule.specs.Rule.{memoryAcked, mailboxAcked, userAcked, writtenAll, isWritable, registerAcked, passwordAcked, systemAcked, acked};
+ghost use Rattle.rule.specs.Rule.{memoryAcked, mailboxAcked, userAcked, writtenAll, registerAcked, passwordAcked, systemAcked, acked};
 use areas::Side;
 use registers::Registers;
 use tag::Core;
@@ -97,11 +97,9 @@ pub fn user_acked(c: Core, session: bool, f: u16, k: u16) -> bool
 fn write_at(r: Registers, f: u16, i: u16, x: u8) -> Registers
     ensures { λ n. ⌜ n ≡ written r (f + i) x ⌝ }
 {
-    let at = f as u32 + i as u32;
-    if 0xFFFF < at {
-        return r;
-    }
-    r.write(at as u16, x)
+    let row = registers::row_of(f as u32 + i as u32);
+    let register = row.register;
+    r.write_to(register, x)
 }
 
 // The registers with the page's k bytes taken as written from address f on.
@@ -118,20 +116,14 @@ pub fn written_all(r: Registers, m: &[u8], f: u16, k: u16) -> Registers
     n
 }
 
-fn is_writable(a: u32) -> bool
-    ensures { λ r. ⌜ r ≡ isWritable a ⌝ }
-{
-    ((0x03 <= a) & (a <= 0x0D)) | (a == 0x0F)
-}
-
 fn register_acked(c: Core, session: bool, m: &[u8], f: u16, k: u16, x: u8) -> bool
     ensures { λ r. ⌜ r ≡ registerAcked c session f k (page k (now (m .entry))) x ⌝ }
 {
     let at = f as u32 + k as u32;
-    let writable = is_writable(at);
+    let row = registers::row_of(at);
     let after = written_all(c.registers, m, f, k);
     let allowed = areas::end_allows(after.ends, at, x);
-    !c.mailbox.enabled & session & writable & allowed
+    !c.mailbox.enabled & session & row.host & allowed
 }
 
 fn password_acked(c: Core, session: bool, k: u16, x: u8) -> bool

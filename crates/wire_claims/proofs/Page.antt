@@ -12,6 +12,7 @@ use Rattle.parts.specs.Bytes.{bytesAt}
 use Rattle.parts.proofs.Bools.{and-left, and-right}
 use Rattle.parts.proofs.Picks.{pick-false}
 use Rattle.parts.proofs.Lists.{length-bytesAt, bytesAt-after}
+use Rattle.registers.specs.Table.{isWritable}
 use Rattle.areas.specs.Ends.{endAllows}
 use Rattle.tag.specs.declared.Space.{Space}
 use Rattle.tag.specs.declared.Space.the-variants.{System}
@@ -20,10 +21,10 @@ use Rattle.tag.specs.declared.Core.{Core}
 use Rattle.tag.specs.Layout.{page}
 use Rattle.ranges.specs.Ranges.{registersInRange}
 use Rattle.ranges.proofs.RegistersKept.{written-kept}
-use Rattle.rule.specs.Rule.{mailboxAcked, userAcked, registerAcked, systemAcked, isWritable, spaceAcked, acked, writtenAll}
+use Rattle.rule.specs.Rule.{mailboxAcked, userAcked, registerAcked, systemAcked, spaceAcked, acked, writtenAll}
+use Rattle.page.specs.PageRange.{pageAcked}
 use Rattle.rule.proofs.Registers.{written-snoc}
 use Rattle.rule.proofs.AckedByte.{acked-room, acked-space}
-use Rattle.page.specs.PageRange.{pageAcked}
 use Rattle.page.proofs.Acks.{page-before, page-last}
 
 module _ (s : Space) (c : Core) (session : Bool) (f : ℕ) where

@@ -39,14 +39,17 @@ returns-2 c =
     said (lockOf (a .s) (a .m .now) (a .block)) _ (fault AlreadyLocked) (call .error2 .ensures)
     (rw (← locked .is-locked .ensures) (search picks depth 20))
 
+keep-requires : tie.Need-keep-requires
+keep-requires c κs = search needs
+
 add-bits : tie.Need-add-bits
 add-bits c = search needs
 
 add-bits-2 : tie.Need-add-bits-2
 add-bits-2 c = search needs
 
-write-requires : tie.Need-write-requires
-write-requires c κs = search needs
+write-to-requires : tie.Need-write-to-requires
+write-to-requires c κs = search needs
 
 with-registers-requires : tie.Need-with-registers-requires
 with-registers-requires c κs = search needs
@@ -66,7 +69,7 @@ returns-3 c =
     let locked = write .before .before .before in
     let a = locked .before .before .before .before .before .args in
     said (lockOf (a .s) (a .m .now) (a .block)) _ (good []) (call .done .ensures)
-    (rw (next .with-registers .ensures, write .write .ensures, ← locked .is-locked .ensures) (search picks depth 20))
+    (rw (next .with-registers .ensures, write .write-to .ensures, write .before .keep .ensures, ← locked .is-locked .ensures) (search picks depth 20))
 
 pub lock-spec : {M : Type 1} → statement M
 lock-spec =
@@ -79,9 +82,10 @@ lock-spec =
     error-requires-2
     same-length-2
     returns-2
+    keep-requires
     add-bits
     add-bits-2
-    write-requires
+    write-to-requires
     with-registers-requires
     done-requires
     same-length-3

@@ -1,5 +1,7 @@
 use mathlib.Core.List.{[], _∷_}
 use borrow.Author.Needs.{needs}
+use mathlib.Core.Path.{ap}
+use Rattle.registers.specs.declared.RegisterRow.{RegisterRow}
 use Rattle.parts.proofs.Picks.{picks}
 use Rattle.errors.specs.declared.RadioError.the-variants.{NoSuchRegister}
 use Rattle.reply.specs.Reply.{good, fault}
@@ -8,8 +10,8 @@ use Rattle.config.specs.Config.{readConfigOf}
 use Rattle.config.proofs.read.Statement.{statement}
 use Rattle.config.proofs.read.Tie as tie
 
-is-pointer-requires : tie.Need-is-pointer-requires
-is-pointer-requires c κs = search needs
+row-of-requires : tie.Need-row-of-requires
+row-of-requires c κs = search needs
 
 error-requires : tie.Need-error-requires
 error-requires c κs = search needs
@@ -21,8 +23,8 @@ returns : tie.Need-returns
 unfolding readConfigOf
 returns c =
     let call = c .before .before in
-    let a = call .before .before .before .before .before .before .args in
-    said (readConfigOf (a .s) (a .m .now) (a .p)) _ (fault NoSuchRegister) (call .error .ensures) (rw (← call .before .before .before .is-pointer .ensures) (search picks depth 20))
+    let a = call .before .before .before .before .before .before .before .args in
+    said (readConfigOf (a .s) (a .m .now) (a .p)) _ (fault NoSuchRegister) (call .error .ensures) (rw (← ap (λ (row : RegisterRow). row .radio) (call .before .before .before .before .row-of .ensures)) (search picks depth 20))
 
 read-requires : tie.Need-read-requires
 read-requires c κs = search needs
@@ -37,15 +39,15 @@ returns-2 : tie.Need-returns-2
 unfolding readConfigOf
 returns-2 c =
     let call = c .before .before in
-    let a = call .before .before .before .before .before .before .before .args in
+    let a = call .before .before .before .before .before .before .before .before .args in
     said (readConfigOf (a .s) (a .m .now) (a .p)) _ (good (call .before .before .read .result ∷ [])) (call .byte .ensures)
-    (rw (call .before .before .read .ensures, ← call .before .before .before .before .is-pointer .ensures) (search picks depth 20))
+    (rw (call .before .before .read .ensures, ← ap (λ (row : RegisterRow). row .radio) (call .before .before .before .before .before .row-of .ensures)) (search picks depth 20))
 
 pub read-spec : {M : Type 1} → statement M
 read-spec =
     tie.close
     (tie.spec
-    is-pointer-requires
+    row-of-requires
     error-requires
     same-length
     returns

@@ -1,5 +1,7 @@
 use mathlib.Core.List.{[]}
 use borrow.Author.Needs.{needs}
+use mathlib.Core.Path.{ap}
+use Rattle.registers.specs.declared.RegisterRow.{RegisterRow}
 use Rattle.parts.proofs.Picks.{picks}
 use Rattle.errors.specs.declared.RadioError.the-variants.{NoSuchRegister, ConfigurationClosed, EndRefused}
 use Rattle.reply.specs.Reply.{good, fault}
@@ -8,8 +10,8 @@ use Rattle.config.specs.Config.{writeConfigOf}
 use Rattle.config.proofs.write.Statement.{statement}
 use Rattle.config.proofs.write.Tie as tie
 
-is-pointer-requires : tie.Need-is-pointer-requires
-is-pointer-requires c κs = search needs
+row-of-requires : tie.Need-row-of-requires
+row-of-requires c κs = search needs
 
 error-requires : tie.Need-error-requires
 error-requires c κs = search needs
@@ -21,9 +23,9 @@ returns : tie.Need-returns
 unfolding writeConfigOf
 returns c =
     let call = c .before .before in
-    let a = call .before .before .before .before .before .before .before .args in
+    let a = call .before .before .before .before .before .before .before .before .args in
     said (writeConfigOf (a .s) (a .m .now) (a .p) (a .x)) _ (fault NoSuchRegister) (call .error .ensures)
-    (rw (← call .before .before .before .is-pointer .ensures) (search picks depth 20))
+    (rw (← ap (λ (row : RegisterRow). row .radio) (call .before .before .before .before .row-of .ensures)) (search picks depth 20))
 
 error-requires-2 : tie.Need-error-requires-2
 error-requires-2 c κs = search needs
@@ -35,9 +37,9 @@ returns-2 : tie.Need-returns-2
 unfolding writeConfigOf
 returns-2 c =
     let call = c .before .before in
-    let a = call .before .before .before .before .before .before .before .before .before .before .args in
+    let a = call .before .before .before .before .before .before .before .before .before .before .before .args in
     said (writeConfigOf (a .s) (a .m .now) (a .p) (a .x)) _ (fault ConfigurationClosed) (call .error2 .ensures)
-    (rw (← call .before .before .before .before .before .before .is-pointer .ensures) (search picks depth 20))
+    (rw (← ap (λ (row : RegisterRow). row .radio) (call .before .before .before .before .before .before .before .row-of .ensures)) (search picks depth 20))
 
 end-allows-requires : tie.Need-end-allows-requires
 end-allows-requires c κs = search needs
@@ -53,9 +55,9 @@ unfolding writeConfigOf
 returns-3 c =
     let call = c .before .before in
     let tested = call .before .before .before in
-    let a = call .before .before .before .before .before .before .before .before .before .before .before .before .args in
+    let a = call .before .before .before .before .before .before .before .before .before .before .before .before .before .args in
     said (writeConfigOf (a .s) (a .m .now) (a .p) (a .x)) _ (fault EndRefused) (call .error3 .ensures)
-    (rw (← tested .end-allows .ensures, ← tested .before .before .before .before .before .is-pointer .ensures) (search picks depth 20))
+    (rw (← tested .end-allows .ensures, ← ap (λ (row : RegisterRow). row .radio) (tested .before .before .before .before .before .before .row-of .ensures)) (search picks depth 20))
 
 written-core-requires : tie.Need-written-core-requires
 written-core-requires c κs = search needs
@@ -71,15 +73,15 @@ unfolding writeConfigOf
 returns-4 c =
     let call = c .before .before in
     let tested = call .before .before .before .before in
-    let a = call .before .before .before .before .before .before .before .before .before .before .before .before .before .args in
+    let a = call .before .before .before .before .before .before .before .before .before .before .before .before .before .before .args in
     said (writeConfigOf (a .s) (a .m .now) (a .p) (a .x)) _ (good []) (call .done .ensures)
-    (rw (call .before .before .written-core .ensures, ← tested .end-allows .ensures, ← tested .before .before .before .before .before .is-pointer .ensures) (search (picks, call .before .before .before .if3 .left, tested .before .if2 .left, tested .before .before .before .before .if1 .left) depth 20))
+    (rw (call .before .before .written-core .ensures, ← tested .end-allows .ensures, ← ap (λ (row : RegisterRow). row .radio) (tested .before .before .before .before .before .before .row-of .ensures)) (search (picks, call .before .before .before .if3 .left, tested .before .if2 .left, tested .before .before .before .before .if1 .left) depth 20))
 
 pub write-spec : {M : Type 1} → statement M
 write-spec =
     tie.close
     (tie.spec
-    is-pointer-requires
+    row-of-requires
     error-requires
     same-length
     returns

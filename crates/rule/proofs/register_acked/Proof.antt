@@ -6,8 +6,8 @@ use Rattle.rule.proofs.register_acked.Tie as tie
 add-at : tie.Need-add-at
 add-at c = search needs
 
-is-writable-requires : tie.Need-is-writable-requires
-is-writable-requires c κs = search needs
+row-of-requires : tie.Need-row-of-requires
+row-of-requires c κs = search needs
 
 written-all-requires : tie.Need-written-all-requires
 written-all-requires c κs = search needs
@@ -18,10 +18,9 @@ end-allows-requires c κs = search needs
 returns : tie.Need-returns
 unfolding registerAcked
 returns c =
-    let asked = c .before in
-    rw (asked .end-allows .ensures, asked .before .written-all .ensures, asked .before .before .is-writable .ensures)
+    let asked = c .before .before in
+    rw (asked .end-allows .ensures, asked .before .written-all .ensures, asked .before .before .row-of .ensures)
 
 pub register-acked-spec : {M : Type 1} → statement M
 register-acked-spec =
-    tie.close
-    (tie.spec add-at is-writable-requires written-all-requires end-allows-requires returns)
+    tie.close (tie.spec add-at row-of-requires written-all-requires end-allows-requires returns)

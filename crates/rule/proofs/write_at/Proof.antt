@@ -1,23 +1,20 @@
-use native.Mathlib.Omega.{arith}
-use Rattle.rule.proofs.Registers.{past}
+use Rattle.registers.specs.Map.{written}
 use borrow.Author.Needs.{needs}
 use Rattle.rule.proofs.write_at.Statement.{statement}
 use Rattle.rule.proofs.write_at.Tie as tie
 
-add-at : tie.Need-add-at
-add-at c = search needs
+add-row-of : tie.Need-add-row-of
+add-row-of c = search needs
+
+row-of-requires : tie.Need-row-of-requires
+row-of-requires c κs = search needs
+
+write-to-requires : tie.Need-write-to-requires
+write-to-requires c κs = search needs
 
 returns : tie.Need-returns
-returns c = past _ _ _ (omega arith)
-
-cast-write : tie.Need-cast-write
-cast-write c = search needs
-
-write-requires : tie.Need-write-requires
-write-requires c κs = search needs
-
-returns-2 : tie.Need-returns-2
-returns-2 c = search needs
+unfolding written
+returns c = rw (c .write-to .ensures, c .before .row-of .ensures)
 
 pub write-at-spec : {M : Type 1} → statement M
-write-at-spec = tie.close (tie.spec add-at returns cast-write write-requires returns-2)
+write-at-spec = tie.close (tie.spec add-row-of row-of-requires write-to-requires returns)

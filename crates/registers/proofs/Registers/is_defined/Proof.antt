@@ -1,4 +1,6 @@
-use Rattle.registers.specs.Defined.{definedOnly}
+use Rattle.registers.specs.Table.{registerTable, rfMngtBits}
+use Rattle.registers.specs.Defined.{onlyBits, definedOnly}
+use Rattle.registers.proofs.Table.{joined}
 use borrow.Author.Needs.{needs}
 use Rattle.registers.proofs.Registers.is_defined.Statement.{statement}
 use Rattle.registers.proofs.Registers.is_defined.Tie as tie
@@ -33,10 +35,22 @@ keep-requires-9 c κs = search needs
 keep-requires-10 : tie.Need-keep-requires-10
 keep-requires-10 c κs = search needs
 
+keep-requires-11 : tie.Need-keep-requires-11
+keep-requires-11 c κs = search needs
+
+keep-requires-12 : tie.Need-keep-requires-12
+keep-requires-12 c κs = search needs
+
+keep-requires-13 : tie.Need-keep-requires-13
+keep-requires-13 c κs = search needs
+
 returns : tie.Need-returns
 unfolding definedOnly
 returns c =
-    let keep10 = c .before in
+    let keep13 = c .before in
+    let keep12 = keep13 .before .before in
+    let keep11 = keep12 .before .before in
+    let keep10 = keep11 .before .before in
     let keep9 = keep10 .before .before in
     let keep8 = keep9 .before .before in
     let keep7 = keep8 .before .before in
@@ -46,7 +60,9 @@ returns c =
     let keep3 = keep4 .before .before in
     let keep2 = keep3 .before .before in
     let keep = keep2 .before .before in
-    rw (keep10 .keep10 .ensures, keep9 .keep9 .ensures, keep8 .keep8 .ensures, keep7 .keep7 .ensures, keep6 .keep6 .ensures, keep5 .keep5 .ensures, keep4 .keep4 .ensures, keep3 .keep3 .ensures, keep2 .keep2 .ensures, keep .keep .ensures)
+    let r = keep .before .before .before .args .self in
+    rw (keep13 .keep13 .ensures, keep12 .keep12 .ensures, keep11 .keep11 .ensures, keep10 .keep10 .ensures, keep9 .keep9 .ensures, keep8 .keep8 .ensures, keep7 .keep7 .ensures, keep6 .keep6 .ensures, keep5 .keep5 .ensures, keep4 .keep4 .ensures, keep3 .keep3 .ensures, keep2 .keep2 .ensures, keep .keep .ensures)
+    (joined (onlyBits rfMngtBits (r .dynamic .bits)) registerTable r)
 
 pub is-defined-spec : {M : Type 1} → statement M
 is-defined-spec =
@@ -62,4 +78,7 @@ is-defined-spec =
     keep-requires-8
     keep-requires-9
     keep-requires-10
+    keep-requires-11
+    keep-requires-12
+    keep-requires-13
     returns)

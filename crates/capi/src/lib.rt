@@ -79,7 +79,7 @@ fn step_refusal(s: &[u8], m: &[u8], out: &[u8], code: u32, value: u32) -> Judgem
 }
 
 // Of a fresh tag: 1, 13, 14.
-fn fresh_refusal(uid: &[u8], m: &[u8], s: &[u8]) -> Judgement
+fn fresh_call_refusal(uid: &[u8], m: &[u8], s: &[u8]) -> Judgement
     ensures { λ r. ⌜ r ≡ judgement (freshCallRules (now (uid .entry)) (now (m .entry)) (now (s .entry))) ⌝ }
 {
     let first = refusals::fresh_refusal(m);
@@ -128,7 +128,7 @@ pub extern "C" fn st25dv_step(
 pub extern "C" fn st25dv_fresh(uid: &[u8], m: &mut [u8], s: &mut [u8]) -> u32
     ensures { λ r. ⌜ freshCallResult r (now (s .exit)) (now (m .exit)) ≡ freshCall (now (uid .entry)) (now (m .entry)) (now (s .entry)) ⌝ }
 {
-    let judged = fresh_refusal(uid, m, s);
+    let judged = fresh_call_refusal(uid, m, s);
     match judged {
         Judgement::RefusedBy(why) => why.number() as u32,
         Judgement::NoRefusal => {

@@ -9,8 +9,8 @@ use borrow.Author.Needs.{needs}
 use Rattle.capi.proofs.st25dv_fresh.Statement.{statement}
 use Rattle.capi.proofs.st25dv_fresh.Tie as tie
 
-fresh-refusal-requires : tie.Need-fresh-refusal-requires
-fresh-refusal-requires c κs = search needs
+fresh-call-refusal-requires : tie.Need-fresh-call-refusal-requires
+fresh-call-refusal-requires c κs = search needs
 
 enum-known-judged : tie.Need-enum-known-judged
 enum-known-judged c = search needs
@@ -33,7 +33,7 @@ fresh-requires c κs = search needs
 keep-requires : tie.Need-keep-requires
 keep-requires c κs =
     let a = c .before .before .before .before .before .before .before .before .before .before .before .before .before .before .args in
-    fresh-whole (a .uid .now) (a .m .now) (a .s .now) (sym (c .before .before .before .before .before .before .before .before .fresh-refusal .ensures) ∙ c .before .before .before .before .before .before .enum-told .given .1)
+    fresh-whole (a .uid .now) (a .m .now) (a .s .now) (sym (c .before .before .before .before .before .before .before .before .fresh-call-refusal .ensures) ∙ c .before .before .before .before .before .before .enum-told .given .1)
 
 answer-number-requires : tie.Need-answer-number-requires
 answer-number-requires c κs = ap (λ (e : FreshResult). replyFits (e .answer)) (c .before .before .before .before .before .before .fresh .ensures) ∙ fresh-reply-fits _ _
@@ -46,7 +46,7 @@ same-length-2 c = search needs
 
 returns : tie.Need-returns
 unfolding freshCall unlessRefused
-returns c = rw (c .number .ensures, sym (c .before .before .before .before .fresh-refusal .ensures) ∙ c .before .before .judged .given .1)
+returns c = rw (c .number .ensures, sym (c .before .before .before .before .fresh-call-refusal .ensures) ∙ c .before .before .judged .given .1)
 
 same-length-3 : tie.Need-same-length-3
 same-length-3 c = search needs
@@ -59,14 +59,14 @@ returns-2 c =
     let a = c .before .before .before .before .before .before .before .before .before .before .before .before .before .before .before .before .before .before .args in
     let o = c .before .before .before .before .before .before .before .fresh in
     freshened (a .uid .now) (a .m .now) (a .s .now) (freshResult (o .result .answer) (o .result .tag) (o .last .1 .0)) (c .answer-number .result) (c .before .before .before .keep .last .1 .0)
-    (sym (c .before .before .before .before .before .before .before .before .before .before .before .before .fresh-refusal .ensures) ∙ c .before .before .before .before .before .before .before .before .before .before .enum-told .given .1)
+    (sym (c .before .before .before .before .before .before .before .before .before .before .before .before .fresh-call-refusal .ensures) ∙ c .before .before .before .before .before .before .before .before .before .before .enum-told .given .1)
     (o .ensures ∙ rw (c .before .before .before .before .before .before .before .before .before .at .ensures)) (c .answer-number .ensures) (c .before .before .before .keep .ensures)
 
 pub st25dv-fresh-spec : {M : Type 1} → statement M
 st25dv-fresh-spec =
     tie.close
     (tie.spec
-    fresh-refusal-requires
+    fresh-call-refusal-requires
     enum-known-judged
     number-requires
     cast-result

@@ -6,8 +6,8 @@ use Rattle.refusals.specs.Refusals.{freshRules, judgement}
 use Rattle.refusals.proofs.Laws.{append-none, append-refused}
 use Rattle.capi.specs.Interface.{stateRule, uidRule}
 use borrow.Author.Needs.{needs}
-use Rattle.capi.proofs.fresh_refusal.Statement.{statement}
-use Rattle.capi.proofs.fresh_refusal.Tie as tie
+use Rattle.capi.proofs.fresh_call_refusal.Statement.{statement}
+use Rattle.capi.proofs.fresh_call_refusal.Tie as tie
 
 fresh-refusal-requires : tie.Need-fresh-refusal-requires
 fresh-refusal-requires c κs = search needs
@@ -49,8 +49,8 @@ returns-4 c =
     let rest = stateRule (a .s .now) ∷ uidRule (a .uid .now) ∷ [] in
     rw (append-none first rest (sym (c .before .before .before .before .fresh-refusal .ensures) ∙ c .before .before .enum-told .given .1)) (search picks depth 20)
 
-pub fresh-refusal-spec : {M : Type 1} → statement M
-fresh-refusal-spec =
+pub fresh-call-refusal-spec : {M : Type 1} → statement M
+fresh-call-refusal-spec =
     tie.close
     (tie.spec
     fresh-refusal-requires

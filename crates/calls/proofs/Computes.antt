@@ -26,8 +26,8 @@ use Rattle.reply.specs.Reply.{answerOf, bufferOf}
 use Rattle.frame.specs.Fields.{uidPlace, paramPlace, ownUid, param}
 use Rattle.rule_list.specs.RuleList.{anyHolds, firstSays}
 use Rattle.commands.specs.Table.{commandTable, commandOf, isKnown, takesOption, sizeOf, paramBytes}
-use Rattle.frame.specs.Silence.{makerDiffers, uidDiffers, silenceHolds, receptionSilences, addressSilences, requestSilences, isSilent}
-use Rattle.frame.specs.Judge.{isMute, errorOf, shutOut, badFlags, wrongLength, errorHolds, ruleError, errorRules, judge}
+use Rattle.silence.specs.Silence.{makerDiffers, uidDiffers, silenceHolds, receptionSilences, addressSilences, requestSilences, isSilent}
+use Rattle.judge.specs.Judge.{isMute, errorOf, shutOut, badFlags, wrongLength, errorHolds, ruleError, errorRules, judge}
 use Rattle.blocks.specs.Blocks.{leavesArea, statusOf, blockOf, blocksOf, readOf, statusesOf, statusReply}
 use Rattle.block_writes.specs.Writes.{mayWriteAll, writeOf, lockOf}
 use Rattle.config.specs.Config.{readConfigOf, mailboxAfterWrite, writtenCore, writeConfigOf, readDynamicOf, writeDynamicOf}

@@ -10,8 +10,8 @@ use Rattle.tag.specs.declared.Tag.{Tag}
 use Rattle.tag.specs.Layout.{memoryBytes}
 use Rattle.errors.specs.declared.RadioError.the-variants.{ShutOut}
 use Rattle.reply.specs.Reply.{ReplyBody, nothing, fault}
-use Rattle.frame.specs.Judge.{isMute}
-use Rattle.frame.specs.Silence.{isSilent}
+use Rattle.judge.specs.Judge.{isMute}
+use Rattle.silence.specs.Silence.{isSilent}
 use Rattle.refusals.specs.declared.Refusal.the-variants.{MemoryLength, ReplyShort, SignalUnknown, OutOfRange, StateLength, UidLength}
 use Rattle.model.specs.declared.Answer.{Answer}
 use Rattle.model.specs.declared.Answer.the-variants.{Refused, Nothing, Ack, NoAck, Byte, Silence, Reply as ReplyOf}

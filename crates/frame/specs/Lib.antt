@@ -1,4 +1,1 @@
 pub mod Fields
-pub mod Silence
-pub mod Judge
-pub mod Claims

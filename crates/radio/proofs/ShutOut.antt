@@ -6,8 +6,8 @@ use mathlib.Core.Logic.{_⊎_, inl, inr, ⊎-elim}
 use Prim.Native.Nat.{ℕ}
 use Rattle.tag.specs.declared.Uid.{Uid}
 use Rattle.reply.specs.declared.RadioSide.{RadioSide}
-use Rattle.frame.specs.declared.Verdict.{Verdict}
-use Rattle.frame.proofs.ShutOut.{shut-out-decides, shut-out-answers}
+use Rattle.judge.specs.declared.Verdict.{Verdict}
+use Rattle.judge.proofs.ShutOut.{shut-out-decides, shut-out-answers}
 use Rattle.radio.specs.Claims.{ShutOutChangesNothing}
 use Rattle.radio.specs.Radio.{verdictResult, radioOf}
 

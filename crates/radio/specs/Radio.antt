@@ -6,9 +6,9 @@ use Rattle.tag.specs.declared.Uid.{Uid}
 use Rattle.reply.specs.declared.RadioSide.{RadioSide}
 use Rattle.reply.specs.Reply.{nothing}
 use Rattle.reply.specs.Outcome.{CommandResult, commandResult, fails}
-use Rattle.frame.specs.declared.Verdict.{Verdict}
-use Rattle.frame.specs.declared.Verdict.the-variants.{Silence, Error, Request}
-use Rattle.frame.specs.Judge.{judge}
+use Rattle.judge.specs.declared.Verdict.{Verdict}
+use Rattle.judge.specs.declared.Verdict.the-variants.{Silence, Error, Request}
+use Rattle.judge.specs.Judge.{judge}
 use Rattle.radio.specs.Commands.{requestOf, serveOf}
 
 -- what each verdict comes to: silence, 01h and the code, or the command

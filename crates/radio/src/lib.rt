@@ -5,7 +5,7 @@ ghost use Rattle.radio.specs.Commands.{requestOf, serveCommand, serveOf}
 ghost use Rattle.radio.specs.Radio.{radioOf};
 use commands::Command;
 use commands::CommandCode;
-use frame::Verdict;
+use judge::Verdict;
 use reply::RadioAnswer;
 use reply::RadioOutcome;
 use reply::RadioSide;
@@ -114,7 +114,7 @@ pub fn radio(
     ensures { λ r. ⌜ radioResult r (now (m .exit)) (now (out .exit)) ≡ finish (radioOf t u vcc transfer programming (now (m .entry)) (now (s .entry))) (now (out .entry)) ⌝ }
 {
     let d = t.core.registers.dynamic;
-    match frame::judge(s, t.air, u, d, transfer | programming) {
+    match judge::judge(s, t.air, u, d, transfer | programming) {
         Verdict::Silence => RadioOutcome {
             answer: RadioAnswer::Silence,
             side: t,

@@ -20,10 +20,10 @@ use Rattle.reply.specs.Outcome.{CommandResult, commandResult, fails, withAir}
 use Rattle.rule_list.specs.RuleList.{firstSays}
 use Rattle.commands.specs.declared.CommandCode.{CommandCode}
 use Rattle.commands.specs.Table.{commandTable, commandOf}
-use Rattle.frame.specs.declared.Verdict.{Verdict}
-use Rattle.frame.specs.declared.Verdict.the-variants.{Silence, Error, Request}
+use Rattle.judge.specs.declared.Verdict.{Verdict}
+use Rattle.judge.specs.declared.Verdict.the-variants.{Silence, Error, Request}
 use Rattle.frame.specs.Fields.{command, paramPlace, param}
-use Rattle.frame.specs.Judge.{judge}
+use Rattle.judge.specs.Judge.{judge}
 use Rattle.blocks.specs.Blocks.{readOf, statusReply}
 use Rattle.block_writes.specs.Writes.{writeOf, lockOf}
 use Rattle.config.specs.Config.{readConfigOf, writeConfigOf, readDynamicOf, writeDynamicOf}

@@ -24,7 +24,7 @@ use Rattle.reply.specs.Reply.{ReplyBody, nothing, body, good, fault}
 use Rattle.reply.specs.Outcome.{CommandResult}
 use Rattle.rule_list.specs.RuleList.{firstSays}
 use Rattle.commands.specs.Table.{commandTable, commandOf}
-use Rattle.frame.specs.declared.Verdict.{Verdict}
+use Rattle.judge.specs.declared.Verdict.{Verdict}
 use Rattle.frame.specs.Fields.{command, optionFlag, paramPlace, param}
 use Rattle.blocks.specs.Blocks.{leavesArea, statusOf, blockOf, blocksOf, readOf, statusesOf, statusReply}
 use Rattle.blocks.proofs.Runs.{block-with, length-with, length-statuses}

@@ -16,10 +16,10 @@ use Rattle.errors.specs.declared.RadioError.the-variants.{WriteForbidden}
 use Rattle.reply.specs.declared.RadioSide.{RadioSide}
 use Rattle.reply.specs.Reply.{ReplyBody, body, good, fault}
 use Rattle.reply.specs.Outcome.{commandResult, fails, withAir, radioSide, withRadio}
-use Rattle.frame.specs.declared.Verdict.{Verdict}
-use Rattle.frame.specs.declared.Verdict.the-variants.{Silence, Error, Request}
+use Rattle.judge.specs.declared.Verdict.{Verdict}
+use Rattle.judge.specs.declared.Verdict.the-variants.{Silence, Error, Request}
 use Rattle.frame.specs.Fields.{command, optionFlag, paramPlace, param}
-use Rattle.frame.specs.Judge.{judge}
+use Rattle.judge.specs.Judge.{judge}
 use Rattle.radio.specs.Radio.{radioOf}
 use Rattle.model.specs.declared.Answer.the-variants.{Reply}
 use Rattle.model.specs.Step.{transferOpen, stepOf}

@@ -14,11 +14,11 @@ use Rattle.reply.specs.declared.RadioSide.{RadioSide}
 use Rattle.errors.specs.declared.RadioError.the-variants.{ShutOut}
 use Rattle.reply.specs.Reply.{ReplyBody, nothing, fault}
 use Rattle.reply.specs.Outcome.{CommandResult, commandResult, radioSide}
-use Rattle.frame.specs.declared.Verdict.{Verdict}
-use Rattle.frame.specs.declared.Verdict.the-variants.{Silence, Error}
-use Rattle.frame.specs.Judge.{isMute, errorOf, shutOut}
-use Rattle.frame.specs.Silence.{isSilent}
-use Rattle.frame.proofs.ShutOut.{shut-out-decides}
+use Rattle.judge.specs.declared.Verdict.{Verdict}
+use Rattle.judge.specs.declared.Verdict.the-variants.{Silence, Error}
+use Rattle.judge.specs.Judge.{isMute, errorOf, shutOut}
+use Rattle.silence.specs.Silence.{isSilent}
+use Rattle.judge.proofs.ShutOut.{shut-out-decides}
 use Rattle.radio.specs.Radio.{verdictResult, radioOf}
 use Rattle.model.specs.declared.Signal.the-variants.{Frame}
 use Rattle.model.specs.Step.{transferOpen, actOf}

@@ -12,7 +12,7 @@ use Rattle.tag.specs.Layout.{userBytes}
 use Rattle.tag.specs.Radio.{deselected}
 use Rattle.tag.specs.Parts.{withTagAir}
 use Rattle.frame.specs.Fields.{command, ownUid}
-use Rattle.frame.specs.Silence.{isSilent}
+use Rattle.silence.specs.Silence.{isSilent}
 use Rattle.model.specs.declared.Answer.the-variants.{NoAck}
 use Rattle.model.specs.declared.Signal.the-variants.{Frame}
 use Rattle.model.specs.Step.{actOf}

@@ -1,0 +1,21 @@
+-- What is proved of the judge, beside the functions' contracts.
+use mathlib.Core.Path.{_≡_}
+use mathlib.Core.Bool.{Bool, true, _||_}
+use mathlib.Core.List.{List}
+use mathlib.Core.Logic.{_⊎_}
+use Prim.Native.Nat.{ℕ}
+use Rattle.parts.specs.Bits.{isSet}
+use Rattle.registers.specs.declared.RfMngt.{RfMngt}
+use Rattle.tag.specs.declared.Air.{Air}
+use Rattle.tag.specs.declared.Uid.{Uid}
+use Rattle.errors.specs.declared.RadioError.the-variants.{ShutOut}
+use Rattle.judge.specs.declared.Verdict.the-variants.{Silence, Error}
+use Rattle.judge.specs.Judge.{shutOut, judge}
+
+-- with RF_MNGT_Dyn b0, a transfer open or programming, the verdict is the one of `shutOut`
+abbrev pub ShutOutDecides : Type 0
+ShutOutDecides = (s : List ℕ) (a : Air) (u : Uid) (d : RfMngt) (busy : Bool) → (isSet 1 (d .bits) || busy) ≡ true → judge s a u d busy ≡ shutOut s a u d
+
+-- and that is silence or error 0Fh
+abbrev pub ShutOutAnswers : Type 0
+ShutOutAnswers = (s : List ℕ) (a : Air) (u : Uid) (d : RfMngt) → (shutOut s a u d ≡ Silence) ⊎ (shutOut s a u d ≡ Error ShutOut)

@@ -1,0 +1,34 @@
+use Rattle.parts.proofs.Picks.{picks}
+use Rattle.rule_list.specs.RuleList.{firstSays}
+use Rattle.rule_list.proofs.Laws.{any-says}
+use Rattle.silence.specs.Silence.{silenceHolds, receptionSilences}
+use borrow.Author.Needs.{needs}
+use Rattle.silence.proofs.fails_reception.Statement.{statement}
+use Rattle.silence.proofs.fails_reception.Tie as tie
+
+returns : tie.Need-returns
+unfolding firstSays silenceHolds receptionSilences
+returns c u = rw any-says (search picks depth 20)
+
+returns-2 : tie.Need-returns-2
+unfolding firstSays silenceHolds receptionSilences
+returns-2 c u = rw any-says (search picks depth 20)
+
+returns-3 : tie.Need-returns-3
+unfolding firstSays silenceHolds receptionSilences
+returns-3 c u = rw any-says (search picks depth 20)
+
+is-good-requires : tie.Need-is-good-requires
+is-good-requires c κs = search needs
+
+returns-4 : tie.Need-returns-4
+unfolding firstSays silenceHolds receptionSilences
+returns-4 c u = rw (any-says, ← c .before .is-good .ensures) (search picks depth 20)
+
+returns-5 : tie.Need-returns-5
+unfolding firstSays silenceHolds receptionSilences
+returns-5 c u = rw (any-says, ← c .before .is-good .ensures) (search picks depth 20)
+
+pub fails-reception-spec : {M : Type 1} → statement M
+fails-reception-spec =
+    tie.close (tie.spec returns returns-2 returns-3 is-good-requires returns-4 returns-5)

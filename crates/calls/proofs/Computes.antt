@@ -17,7 +17,7 @@ use Rattle.rule.specs.Rule.{memoryAcked, mailboxAcked, userAcked, writtenAll, r
 use Rattle.page.specs.PageRange.{pageAcked, busInRange}
 use Rattle.rule.specs.Select.{selectOf, choose, firstOf}
 use Rattle.leg.specs.Effect.{userWritten, passwordWritten, systemWritten, legWritten, settle}
-use Rattle.leg.specs.Fetch.{memoryByte, mailboxByte, userByte, systemByte, fetched, isLast}
+use Rattle.fetch.specs.Fetch.{memoryByte, mailboxByte, userByte, systemByte, fetched, isLast}
 use Rattle.signal.specs.Signal.{dueOf, startAt, startOf, stopAt}
 use Rattle.send.specs.Send.{selectBy, dataOf, sendAt}
 use Rattle.wire.specs.Wire.{fetchAt, signalOf}

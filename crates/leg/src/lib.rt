@@ -1,105 +1,13 @@
-// Fetched bytes, and what a write leg's bytes do at its Stop.
+// What a write leg's bytes do at its Stop, and what the fetch of a message's last byte does.
 ghost use mathlib.Core.Path.{_≡_};
-ghost use Prim.Native.Nat.{_-_};
 ghost use lib.ListN.{getD};
 ghost use Rattle.tag.specs.Layout.{page};
 ghost use Rattle.tag.specs.Parts.{withWireCore};
-ghost use Rattle.leg.specs.Fetch.{memoryByte, mailboxByte, userByte, systemByte, fetched, isLast};
 ghost use Rattle.leg.specs.Effect.{legResult, programming, userWritten, passwordWritten, systemWritten, legWritten, lastFetched};
-use areas::Side;
 use tag::Core;
-use tag::Mailbox;
 use tag::Password;
 use tag::Space;
-use tag::Uid;
 use tag::WireSide;
-
-fn memory_byte(c: Core, session: bool, m: &[u8], a: u16) -> u8
-    ensures { λ r. ⌜ r ≡ memoryByte c session (now (m .entry)) a ⌝ }
-{
-    if areas::may_read(c.registers, Side::Wire(session), a / 4) {
-        return parts::byte_at(m, a as usize);
-    }
-    0xFF
-}
-
-// The place in the mailbox of an address.
-fn mailbox_place(a: u16) -> u16
-    ensures { λ r. ⌜ r ≡ a - 0x2008 ⌝ }
-{
-    if a < 0x2008 {
-        return 0;
-    }
-    a - 0x2008
-}
-
-fn mailbox_byte(b: Mailbox, m: &[u8], a: u16) -> u8
-    ensures { λ r. ⌜ r ≡ mailboxByte b (now (m .entry)) a ⌝ }
-{
-    let i = mailbox_place(a);
-    if b.enabled & (i < b.length) {
-        return parts::byte_in(m, tag::MAILBOX_AT, i as usize);
-    }
-    0xFF
-}
-
-// The byte at an address of user space.
-fn user_byte(c: Core, session: bool, m: &[u8], a: u16) -> u8
-    ensures { λ r. ⌜ r ≡ userByte c session (now (m .entry)) a ⌝ }
-{
-    if a < 512 {
-        return memory_byte(c, session, m, a);
-    }
-    if a == 0x2003 {
-        return c.registers.dynamic.bits;
-    }
-    if a == 0x2004 {
-        if session {
-            return 1;
-        }
-        return 0;
-    }
-    if a == 0x2006 {
-        return c.mailbox.control_byte();
-    }
-    if a == 0x2007 {
-        return c.mailbox.length_byte();
-    }
-    if (0x2008 <= a) & (a <= 0x2107) {
-        return mailbox_byte(c.mailbox, m, a);
-    }
-    0xFF
-}
-
-// The byte at an address of system space.
-fn system_byte(c: Core, u: Uid, a: u16) -> u8
-    ensures { λ r. ⌜ r ≡ systemByte c u a ⌝ }
-{
-    if (0x0018 <= a) & (a <= 0x001F) {
-        return u.byte(a as usize - 0x0018);
-    }
-    c.registers.read(a)
-}
-
-// The byte that a fetch gives at an address.
-pub fn fetched(s: Space, c: Core, session: bool, u: Uid, m: &[u8], a: u16) -> u8
-    ensures { λ r. ⌜ r ≡ fetched s c session u (now (m .entry)) a ⌝ }
-{
-    match s {
-        Space::User => user_byte(c, session, m, a),
-        Space::System => system_byte(c, u, a),
-    }
-}
-
-// Whether an address has the last byte of an RF message.
-pub fn is_last(s: Space, b: Mailbox, a: u16) -> bool
-    ensures { λ r. ⌜ r ≡ isLast s b a ⌝ }
-{
-    match s {
-        Space::User => b.rf.current & (a as u32 + 1 == 0x2008 + b.length as u32),
-        Space::System => false,
-    }
-}
 
 // Byte i of a page of k bytes, 0 past them.
 fn page_byte(m: &[u8], k: u16, i: u16) -> u8

@@ -9,7 +9,7 @@ use Rattle.tag.specs.declared.Bus.the-variants.{ReadLeg}
 use Rattle.tag.specs.declared.WireSide.{WireSide}
 use Rattle.tag.specs.declared.Uid.{Uid}
 use Rattle.tag.specs.Bus.{nextAddress}
-use Rattle.leg.specs.Fetch.{fetched, isLast}
+use Rattle.fetch.specs.Fetch.{fetched, isLast}
 use Rattle.signal.specs.declared.WireAnswer.the-variants.{Byte}
 use Rattle.signal.specs.Signal.{wireResult, sideLine}
 use Rattle.send.specs.Send.{sendAt}

@@ -10,7 +10,7 @@ use Rattle.tag.specs.declared.Uid.{Uid}
 use Rattle.tag.specs.Parts.{withProgramming, withHost}
 use Rattle.tag.specs.Bus.{nextAddress}
 use Rattle.tag.specs.Supply.{vccAt}
-use Rattle.leg.specs.Fetch.{fetched, isLast}
+use Rattle.fetch.specs.Fetch.{fetched, isLast}
 use Rattle.signal.specs.declared.WireAnswer.the-variants.{Nothing, Byte}
 use Rattle.signal.specs.declared.WireSignal.{WireSignal}
 use Rattle.signal.specs.declared.WireSignal.the-variants.{Start, Send, Fetch, Stop, Vcc, ProgrammingEnd}

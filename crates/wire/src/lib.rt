@@ -37,8 +37,8 @@ fn fetch_read(
         return no_byte(w);
     }
     let counter = w.host.counter;
-    let x = leg::fetched(space, w.core, w.host.session, u, m, counter);
-    let reached = leg::is_last(space, w.core.mailbox, counter);
+    let x = fetch::fetched(space, w.core, w.host.session, u, m, counter);
+    let reached = fetch::is_last(space, w.core.mailbox, counter);
     let after = tag::next_address(counter);
     let leg = Bus::ReadLeg {
         space: space,

@@ -2,10 +2,10 @@ use lib.Dec.{leb}
 use borrow.Author.Tests.{leb-true}
 use Rattle.parts.proofs.Bools.{and-left}
 use Rattle.parts.proofs.Picks.{picks}
-use Rattle.leg.specs.Fetch.{systemByte}
+use Rattle.fetch.specs.Fetch.{systemByte}
 use borrow.Author.Needs.{needs}
-use Rattle.leg.proofs.system_byte.Statement.{statement}
-use Rattle.leg.proofs.system_byte.Tie as tie
+use Rattle.fetch.proofs.system_byte.Statement.{statement}
+use Rattle.fetch.proofs.system_byte.Tie as tie
 
 sub-byte : tie.Need-sub-byte
 sub-byte c =

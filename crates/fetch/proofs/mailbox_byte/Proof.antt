@@ -1,8 +1,8 @@
 use Rattle.parts.proofs.Picks.{picks}
-use Rattle.leg.specs.Fetch.{mailboxByte}
+use Rattle.fetch.specs.Fetch.{mailboxByte}
 use borrow.Author.Needs.{needs}
-use Rattle.leg.proofs.mailbox_byte.Statement.{statement}
-use Rattle.leg.proofs.mailbox_byte.Tie as tie
+use Rattle.fetch.proofs.mailbox_byte.Statement.{statement}
+use Rattle.fetch.proofs.mailbox_byte.Tie as tie
 
 mailbox-place-requires : tie.Need-mailbox-place-requires
 mailbox-place-requires c κs = search needs

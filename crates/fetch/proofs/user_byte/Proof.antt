@@ -1,8 +1,8 @@
 use Rattle.parts.proofs.Picks.{picks}
-use Rattle.leg.specs.Fetch.{userByte}
+use Rattle.fetch.specs.Fetch.{userByte}
 use borrow.Author.Needs.{needs}
-use Rattle.leg.proofs.user_byte.Statement.{statement}
-use Rattle.leg.proofs.user_byte.Tie as tie
+use Rattle.fetch.proofs.user_byte.Statement.{statement}
+use Rattle.fetch.proofs.user_byte.Tie as tie
 
 memory-byte-requires : tie.Need-memory-byte-requires
 memory-byte-requires c κs = search needs

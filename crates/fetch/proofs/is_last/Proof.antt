@@ -1,7 +1,7 @@
-use Rattle.leg.specs.Fetch.{isLast}
+use Rattle.fetch.specs.Fetch.{isLast}
 use borrow.Author.Needs.{needs}
-use Rattle.leg.proofs.is_last.Statement.{statement}
-use Rattle.leg.proofs.is_last.Tie as tie
+use Rattle.fetch.proofs.is_last.Statement.{statement}
+use Rattle.fetch.proofs.is_last.Tie as tie
 
 enum-told : tie.Need-enum-told
 enum-told c = search needs

@@ -1,9 +1,9 @@
 use mathlib.Core.Path.{sym, _∙_}
 use Rattle.parts.proofs.Picks.{picks}
-use Rattle.leg.specs.Fetch.{memoryByte}
+use Rattle.fetch.specs.Fetch.{memoryByte}
 use borrow.Author.Needs.{needs}
-use Rattle.leg.proofs.memory_byte.Statement.{statement}
-use Rattle.leg.proofs.memory_byte.Tie as tie
+use Rattle.fetch.proofs.memory_byte.Statement.{statement}
+use Rattle.fetch.proofs.memory_byte.Tie as tie
 
 may-read-requires : tie.Need-may-read-requires
 may-read-requires c κs = search needs

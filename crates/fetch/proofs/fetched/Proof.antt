@@ -1,7 +1,7 @@
-use Rattle.leg.specs.Fetch.{fetched}
+use Rattle.fetch.specs.Fetch.{fetched}
 use borrow.Author.Needs.{needs}
-use Rattle.leg.proofs.fetched.Statement.{statement}
-use Rattle.leg.proofs.fetched.Tie as tie
+use Rattle.fetch.proofs.fetched.Statement.{statement}
+use Rattle.fetch.proofs.fetched.Tie as tie
 
 enum-told : tie.Need-enum-told
 enum-told c = search needs

@@ -16,7 +16,9 @@ use Rattle.ranges.specs.Ranges.{registersInRange, airInRange, mailboxInRange, s
 use Rattle.rule.specs.Rule.{memoryAcked, mailboxAcked, userAcked, writtenAll, registerAcked, passwordAcked, systemAcked, spaceAcked, acked}
 use Rattle.page.specs.PageRange.{pageAcked, busInRange}
 use Rattle.rule.specs.Select.{selectOf, choose, firstOf}
-use Rattle.leg.specs.Effect.{userWritten, passwordWritten, systemWritten, legWritten, settle}
+use Rattle.user_leg.specs.UserLeg.{userWritten}
+use Rattle.system_leg.specs.SystemLeg.{passwordWritten, systemWritten}
+use Rattle.leg.specs.Leg.{legWritten, settle}
 use Rattle.fetch.specs.Fetch.{memoryByte, mailboxByte, userByte, systemByte, fetched, isLast}
 use Rattle.signal.specs.Signal.{dueOf, startAt, startOf, stopAt}
 use Rattle.send.specs.Send.{selectBy, dataOf, sendAt}

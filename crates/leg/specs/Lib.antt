@@ -1,1 +1,1 @@
-pub mod Effect
+pub mod Leg

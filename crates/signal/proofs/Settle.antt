@@ -5,7 +5,8 @@ use mathlib.Core.List.{List}
 use Prim.Native.Nat.{ℕ}
 use Rattle.parts.specs.Pick.{pick}
 use Rattle.tag.specs.declared.WireSide.{WireSide}
-use Rattle.leg.specs.Effect.{LegResult, legResult, End, stopped, started, Due, nothingDue, clears, lastFetched, settle}
+use Rattle.effect.specs.Effect.{LegResult, legResult}
+use Rattle.leg.specs.Leg.{End, stopped, started, Due, nothingDue, clears, lastFetched, settle}
 
 -- the end of a read leg, at a Start and at a Stop
 pub read-started : (last : Bool) (w : WireSide) (m : List ℕ) → legResult (pick last (lastFetched w) w) m ≡ settle started (pick last clears nothingDue) w m

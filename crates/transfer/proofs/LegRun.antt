@@ -23,7 +23,7 @@ use Rattle.rule.specs.declared.Choice.the-variants.{NotAcked, Reading, Writing}
 use Rattle.rule.specs.Select.{choose, address, firstOf}
 use Rattle.rule.specs.Rule.{acked}
 use Rattle.rule.proofs.AckedByte.{acked-room, first-next}
-use Rattle.leg.specs.Effect.{nothingDue, writes}
+use Rattle.leg.specs.Leg.{nothingDue, writes}
 use Rattle.signal.specs.declared.WireAnswer.the-variants.{Ack, NoAck, Byte}
 use Rattle.signal.specs.Signal.{WireResult, wireResult, sideBus, sideLine, dueOf}
 use Rattle.send.specs.Send.{selectBy, sendAt}

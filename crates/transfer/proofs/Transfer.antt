@@ -17,7 +17,8 @@ use Rattle.tag.specs.Supply.{vccOff, vccAt}
 use Rattle.rule.specs.declared.Choice.{Choice}
 use Rattle.rule.specs.declared.Choice.the-variants.{NotAcked, Reading, Writing}
 use Rattle.rule.specs.Select.{selectOf, choose}
-use Rattle.leg.specs.Effect.{LegResult, legResult, stopped, started, powerLost, Due, nothingDue, clears, writes, settle}
+use Rattle.effect.specs.Effect.{LegResult, legResult}
+use Rattle.leg.specs.Leg.{stopped, started, powerLost, Due, nothingDue, clears, writes, settle}
 use Rattle.signal.specs.declared.WireAnswer.the-variants.{Nothing, NoAck}
 use Rattle.signal.specs.Signal.{WireResult, wireResult, sideBus, dueOf, startAt, startOf, stopAt}
 use Rattle.send.specs.Send.{selectBy, sendAt}

@@ -19,7 +19,7 @@ use Rattle.rule.specs.declared.Choice.the-variants.{NotAcked, Reading, Writing}
 use Rattle.rule.specs.Select.{choose, address}
 use Rattle.rule.specs.Rule.{acked}
 use Rattle.fetch.specs.Fetch.{fetched, isLast}
-use Rattle.leg.specs.Effect.{stopped, started, powerLost, Due, nothingDue, clears, writes, settle}
+use Rattle.leg.specs.Leg.{stopped, started, powerLost, Due, nothingDue, clears, writes, settle}
 use Rattle.signal.specs.declared.WireAnswer.{WireAnswer}
 use Rattle.signal.specs.declared.WireAnswer.the-variants.{Nothing, Ack, NoAck, Byte}
 use Rattle.transfer.specs.Legs.{Noted, Move, moveSend, moveFetch, Finish, atStop, atVccOff, atRefusal, Legs, leg, last, parse}

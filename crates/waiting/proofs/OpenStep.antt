@@ -21,7 +21,10 @@ use Rattle.tag.specs.Supply.{vccAt}
 use Rattle.rule.specs.declared.Choice.{Choice}
 use Rattle.rule.specs.declared.Choice.the-variants.{NotAcked, Reading, Writing}
 use Rattle.rule.specs.Select.{selectOf, choose}
-use Rattle.leg.specs.Effect.{LegResult, Due, nothingDue, clears, writes, started, stopped, settle, legWritten, userWritten, systemWritten, passwordWritten}
+use Rattle.effect.specs.Effect.{LegResult}
+use Rattle.leg.specs.Leg.{Due, nothingDue, clears, writes, started, stopped, settle, legWritten}
+use Rattle.user_leg.specs.UserLeg.{userWritten}
+use Rattle.system_leg.specs.SystemLeg.{systemWritten, passwordWritten}
 use Rattle.signal.specs.declared.WireSignal.{WireSignal}
 use Rattle.signal.specs.declared.WireSignal.the-variants.{Start as SignalStart, Send, Fetch, Stop as SignalStop, Vcc, ProgrammingEnd}
 use Rattle.signal.specs.Signal.{WireResult, sideBus, dueOf, startAt, startOf, stopAt}

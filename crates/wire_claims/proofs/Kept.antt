@@ -38,7 +38,10 @@ use Rattle.rule.specs.Rule.{mailboxAcked, userAcked, spaceAcked, acked, written
 use Rattle.rule.proofs.AckedByte.{acked-room, acked-space, first-next}
 use Rattle.page.specs.PageRange.{pageAcked, busInRange}
 use Rattle.page.proofs.Acks.{page-last}
-use Rattle.leg.specs.Effect.{LegResult, Due, nothingDue, clears, writes, started, stopped, settle, legWritten, userWritten, systemWritten, passwordWritten, legResult, sideSession, programming}
+use Rattle.effect.specs.Effect.{LegResult, legResult, sideSession, programming}
+use Rattle.leg.specs.Leg.{Due, nothingDue, clears, writes, started, stopped, settle, legWritten}
+use Rattle.user_leg.specs.UserLeg.{userWritten}
+use Rattle.system_leg.specs.SystemLeg.{systemWritten, passwordWritten}
 use Rattle.signal.specs.declared.WireSignal.{WireSignal}
 use Rattle.signal.specs.declared.WireSignal.the-variants.{Start, Send, Fetch, Stop, Vcc, ProgrammingEnd}
 use Rattle.signal.specs.Signal.{WireResult, sideBus, sideLine, dueOf, startAt, startOf, stopAt}

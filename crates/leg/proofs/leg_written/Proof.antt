@@ -1,4 +1,4 @@
-use Rattle.leg.specs.Effect.{legWritten}
+use Rattle.leg.specs.Leg.{legWritten}
 use borrow.Author.Needs.{needs}
 use Rattle.leg.proofs.leg_written.Statement.{statement}
 use Rattle.leg.proofs.leg_written.Tie as tie

@@ -1,5 +1,5 @@
 use mathlib.Core.Path.{_∙_}
-use Rattle.leg.specs.Effect.{settle}
+use Rattle.leg.specs.Leg.{settle}
 use Rattle.signal.specs.Signal.{dueOf}
 use Rattle.signal.proofs.Settle.{none-due, some-due}
 use borrow.Author.Needs.{needs}

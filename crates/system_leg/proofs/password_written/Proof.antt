@@ -1,11 +1,11 @@
 use native.Mathlib.Omega.{arith}
 use Rattle.parts.proofs.Picks.{picks}
 use Rattle.parts.proofs.Lists.{length-bytesAt, bytesAt-getD}
-use Rattle.leg.proofs.Page.{bytesAt-within}
-use Rattle.leg.specs.Effect.{passwordWritten}
+use Rattle.system_leg.proofs.Page.{bytesAt-within}
+use Rattle.system_leg.specs.SystemLeg.{passwordWritten}
 use borrow.Author.Needs.{needs}
-use Rattle.leg.proofs.password_written.Statement.{statement}
-use Rattle.leg.proofs.password_written.Tie as tie
+use Rattle.system_leg.proofs.password_written.Statement.{statement}
+use Rattle.system_leg.proofs.password_written.Tie as tie
 
 at-requires : tie.Need-at-requires
 at-requires c κs = search needs

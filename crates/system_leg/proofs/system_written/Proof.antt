@@ -1,8 +1,8 @@
 use Rattle.parts.proofs.Picks.{picks}
-use Rattle.leg.specs.Effect.{systemWritten}
+use Rattle.system_leg.specs.SystemLeg.{systemWritten}
 use borrow.Author.Needs.{needs}
-use Rattle.leg.proofs.system_written.Statement.{statement}
-use Rattle.leg.proofs.system_written.Tie as tie
+use Rattle.system_leg.proofs.system_written.Statement.{statement}
+use Rattle.system_leg.proofs.system_written.Tie as tie
 
 password-written-requires : tie.Need-password-written-requires
 password-written-requires c κs = search needs

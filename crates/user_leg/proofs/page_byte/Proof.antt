@@ -2,8 +2,8 @@ use mathlib.Core.Path.{sym, _∙_}
 use native.Mathlib.Omega.{arith}
 use Rattle.parts.proofs.Lists.{bytesAt-getD, bytesAt-past}
 use borrow.Author.Needs.{needs}
-use Rattle.leg.proofs.page_byte.Statement.{statement}
-use Rattle.leg.proofs.page_byte.Tie as tie
+use Rattle.user_leg.proofs.page_byte.Statement.{statement}
+use Rattle.user_leg.proofs.page_byte.Tie as tie
 
 byte-in-requires : tie.Need-byte-in-requires
 byte-in-requires c κs = search needs

@@ -2,10 +2,10 @@ use mathlib.Core.Path.{_∙_}
 use native.Mathlib.Omega.{arith}
 use Rattle.parts.proofs.Picks.{picks}
 use Rattle.parts.proofs.Lists.{length-bytesAt, copied-down}
-use Rattle.leg.specs.Effect.{userWritten}
+use Rattle.user_leg.specs.UserLeg.{userWritten}
 use borrow.Author.Needs.{needs}
-use Rattle.leg.proofs.user_written.Statement.{statement}
-use Rattle.leg.proofs.user_written.Tie as tie
+use Rattle.user_leg.proofs.user_written.Statement.{statement}
+use Rattle.user_leg.proofs.user_written.Tie as tie
 
 copy-bytes-requires : tie.Need-copy-bytes-requires
 copy-bytes-requires c κs = search needs

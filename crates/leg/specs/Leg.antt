@@ -1,0 +1,44 @@
+-- What a leg does when it ends.
+use mathlib.Core.List.{List}
+use Prim.Native.Nat.{ℕ}
+use Rattle.tag.specs.declared.Space.{Space}
+use Rattle.tag.specs.declared.Space.the-variants.{User, System}
+use Rattle.tag.specs.declared.WireSide.{WireSide}
+use Rattle.tag.specs.Mailbox.{hostRead}
+use Rattle.tag.specs.Parts.{withMailbox, withWireCore}
+use Rattle.effect.specs.Effect.{LegResult, legResult}
+use Rattle.user_leg.specs.UserLeg.{userWritten}
+use Rattle.system_leg.specs.SystemLeg.{systemWritten}
+
+-- the bytes bs, one or more, all Acked, of a write leg in a space from address f
+unfoldable pub legWritten : Space → WireSide → List ℕ → ℕ → List ℕ → LegResult
+legWritten User w m f bs = userWritten w m f bs
+legWritten System w m f bs = systemWritten w m f bs
+
+-- how a leg ends
+pub data End : Type 0 where
+  stopped : End
+  started : End
+  powerLost : End
+
+-- what a leg has due at its end: nothing; RF_PUT cleared; or its bytes, from an address of a space, written
+pub data Due : Type 0 where
+  nothingDue : Due
+  clears : Due
+  writes : Space → ℕ → List ℕ → Due
+
+-- "Fetching the last byte of an RF message clears RF_PUT at the leg's end"
+abbrev pub lastFetched : WireSide → WireSide
+lastFetched w = withWireCore (withMailbox (hostRead (w .core .mailbox)) (w .core)) w
+
+-- "All of a leg's writes happen at the Stop; a Start or VCC off instead drops them (house)."
+unfoldable pub settle : End → Due → WireSide → List ℕ → LegResult
+settle stopped nothingDue w m = legResult w m
+settle stopped clears w m = legResult (lastFetched w) m
+settle stopped (writes s f bs) w m = legWritten s w m f bs
+settle started nothingDue w m = legResult w m
+settle started clears w m = legResult (lastFetched w) m
+settle started (writes s f bs) w m = legResult w m
+settle powerLost nothingDue w m = legResult w m
+settle powerLost clears w m = legResult w m
+settle powerLost (writes s f bs) w m = legResult w m

@@ -1,32 +1,24 @@
--- Commands that read blocks: 20, 23 Read; 2C Status.
+-- Commands that read blocks: 20, 23 Read.
 use mathlib.Core.Bool.{Bool, not, _||_}
-use mathlib.Core.List.{List, [], _∷_, _++_}
-use Prim.Native.Nat.{ℕ, zero, suc, _+_, _*_, _-_}
-use lib.Dec.{leb, ltb, eqb}
+use mathlib.Core.List.{List, [], _++_}
+use Prim.Native.Nat.{ℕ, zero, suc, _+_}
+use lib.Dec.{leb, eqb}
 use Rattle.parts.specs.Pick.{pick}
-use Rattle.parts.specs.Bytes.{bytesAt}
 use Rattle.registers.specs.declared.Ends.{Ends}
 use Rattle.registers.specs.declared.Registers.{Registers}
 use Rattle.areas.specs.declared.Side.the-variants.{Radio}
 use Rattle.areas.specs.Ends.{areaOfBlock}
-use Rattle.areas.specs.Rights.{mayRead, mayWrite}
+use Rattle.areas.specs.Rights.{mayRead}
 use Rattle.tag.specs.Layout.{blocks}
 use Rattle.errors.specs.declared.RadioError.the-variants.{NoSuchBlock, ReadLeavesArea, ReadProtected}
 use Rattle.reply.specs.declared.RadioSide.{RadioSide}
 use Rattle.reply.specs.Reply.{good}
 use Rattle.reply.specs.Outcome.{CommandResult, commandResult, fails}
+use Rattle.block_bytes.specs.Block.{blockOf}
 
 -- blocks first to last "leaves area or memory"
 unfoldable pub leavesArea : Ends → ℕ → ℕ → Bool
 leavesArea e first last = leb blocks last || not (eqb (areaOfBlock e first) (areaOfBlock e last))
-
--- "status byte .., as 2C": "1 exactly when 21 would give 12h"
-unfoldable pub statusOf : Registers → ℕ → ℕ → ℕ
-statusOf r session block = pick (mayWrite r (Radio session) block) 0 1
-
--- a block as a read gives it: with the option its status byte, then its four bytes
-unfoldable pub blockOf : Registers → ℕ → List ℕ → Bool → ℕ → List ℕ
-blockOf r session m option block = pick option (statusOf r session block ∷ []) [] ++ bytesAt m (4 * block) 4
 
 -- n blocks from the first on
 unfoldable pub blocksOf : Registers → ℕ → List ℕ → Bool → ℕ → ℕ → List ℕ
@@ -40,14 +32,3 @@ readOf s m option first more =
     (pick (leavesArea (s .core .registers .ends) first (first + more)) (fails ReadLeavesArea s m)
     (pick (not (mayRead (s .core .registers) (Radio (s .air .session)) first)) (fails ReadProtected s m)
     (commandResult (good (blocksOf (s .core .registers) (s .air .session) m option first (more + 1))) s m)))
-
--- the statuses of n blocks from the first on
-unfoldable pub statusesOf : Registers → ℕ → ℕ → ℕ → List ℕ
-statusesOf r session first zero = []
-statusesOf r session first (suc n) = statusesOf r session first n ++ statusOf r session (first + n) ∷ []
-
--- "2C Status: first, count-1; 10h; stops at block 127"
-unfoldable pub statusReply : RadioSide → List ℕ → ℕ → ℕ → CommandResult
-statusReply s m first more =
-    pick (leb blocks first) (fails NoSuchBlock s m)
-    (commandResult (good (statusesOf (s .core .registers) (s .air .session) first (pick (ltb (blocks - first) (more + 1)) (blocks - first) (more + 1)))) s m)

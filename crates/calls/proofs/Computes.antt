@@ -30,7 +30,9 @@ use Rattle.rule_list.specs.RuleList.{anyHolds, firstSays}
 use Rattle.commands.specs.Table.{commandTable, commandOf, isKnown, takesOption, sizeOf, paramBytes}
 use Rattle.silence.specs.Silence.{makerDiffers, uidDiffers, silenceHolds, receptionSilences, addressSilences, requestSilences, isSilent}
 use Rattle.judge.specs.Judge.{isMute, errorOf, shutOut, badFlags, wrongLength, errorHolds, ruleError, errorRules, judge}
-use Rattle.blocks.specs.Blocks.{leavesArea, statusOf, blockOf, blocksOf, readOf, statusesOf, statusReply}
+use Rattle.blocks.specs.Blocks.{leavesArea, blocksOf, readOf}
+use Rattle.block_status.specs.Status.{statusOf, statusesOf, statusReply}
+use Rattle.block_bytes.specs.Block.{blockOf}
 use Rattle.block_writes.specs.Writes.{mayWriteAll, writeOf, lockOf}
 use Rattle.config.specs.Config.{readConfigOf, mailboxAfterWrite, writtenCore, writeConfigOf, readDynamicOf, writeDynamicOf}
 use Rattle.message.specs.Message.{takesMessage, writeMessageOf, lengthOf, asked, mailboxAfterRead, readMessageOf}

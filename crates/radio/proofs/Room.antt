@@ -26,7 +26,9 @@ use Rattle.commands.specs.declared.CommandCode.the-variants.{Unknown, Known}
 use Rattle.judge.specs.declared.Verdict.{Verdict}
 use Rattle.judge.specs.declared.Verdict.the-variants.{Silence, Error, Request}
 use Rattle.judge.specs.Judge.{judge}
-use Rattle.blocks.specs.Blocks.{leavesArea, blockOf, blocksOf, readOf, statusOf, statusesOf, statusReply}
+use Rattle.blocks.specs.Blocks.{leavesArea, blocksOf, readOf}
+use Rattle.block_bytes.specs.Block.{blockOf}
+use Rattle.block_status.specs.Status.{statusOf, statusesOf, statusReply}
 use Rattle.block_writes.specs.Writes.{writeOf, lockOf}
 use Rattle.config.specs.Config.{readConfigOf, writeConfigOf, readDynamicOf, writeDynamicOf}
 use Rattle.message.specs.Message.{writeMessageOf, lengthOf, asked, readMessageOf}

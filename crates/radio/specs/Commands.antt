@@ -12,7 +12,8 @@ use Rattle.commands.specs.declared.CommandCode.{CommandCode}
 use Rattle.commands.specs.declared.CommandCode.the-variants.{Unknown, Known}
 use Rattle.commands.specs.Table.{commandOf}
 use Rattle.frame.specs.Fields.{command, optionFlag, paramPlace, ownUid, param}
-use Rattle.blocks.specs.Blocks.{readOf, statusReply}
+use Rattle.blocks.specs.Blocks.{readOf}
+use Rattle.block_status.specs.Status.{statusReply}
 use Rattle.block_writes.specs.Writes.{writeOf, lockOf}
 use Rattle.config.specs.Config.{readConfigOf, writeConfigOf, readDynamicOf, writeDynamicOf}
 use Rattle.message.specs.Message.{writeMessageOf, lengthOf, readMessageOf}

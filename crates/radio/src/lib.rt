@@ -63,7 +63,7 @@ fn serve_command(
         Command::WriteSingleBlock => block_writes::write(t, m, out, first, 0, s, at + 1),
         Command::WriteMultipleBlocks => block_writes::write(t, m, out, first, second, s, at + 2),
         Command::LockBlock => block_writes::lock(t, m, out, first),
-        Command::GetMultipleBlockSecurityStatus => blocks::status(t, m, out, first, second),
+        Command::GetMultipleBlockSecurityStatus => block_status::status(t, m, out, first, second),
         Command::ReadConfiguration => config::read(t, m, out, first),
         Command::WriteConfiguration => config::write(t, m, out, first, second),
         Command::ReadDynamicConfiguration => config::read_dynamic(t, m, out, first),

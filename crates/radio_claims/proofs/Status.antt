@@ -26,8 +26,11 @@ use Rattle.rule_list.specs.RuleList.{firstSays}
 use Rattle.commands.specs.Table.{commandTable, commandOf}
 use Rattle.judge.specs.declared.Verdict.{Verdict}
 use Rattle.frame.specs.Fields.{command, optionFlag, paramPlace, param}
-use Rattle.blocks.specs.Blocks.{leavesArea, statusOf, blockOf, blocksOf, readOf, statusesOf, statusReply}
-use Rattle.blocks.proofs.Runs.{block-with, length-with, length-statuses}
+use Rattle.blocks.specs.Blocks.{leavesArea, blocksOf, readOf}
+use Rattle.block_status.specs.Status.{statusOf, statusesOf, statusReply}
+use Rattle.block_bytes.specs.Block.{blockOf}
+use Rattle.block_bytes.proofs.Block.{block-with, length-with}
+use Rattle.block_status.proofs.Statuses.{length-statuses}
 use Rattle.block_writes.specs.Writes.{mayWriteAll, writeOf}
 use Rattle.radio.specs.Commands.{requestOf, serveCommand, serveOf}
 use Rattle.radio.proofs.Rows.{known-row}

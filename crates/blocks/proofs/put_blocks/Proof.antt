@@ -6,8 +6,10 @@ use mathlib.Core.List.{List}
 use lib.ListN.{length}
 use lib.Seq.{sets}
 use Rattle.parts.proofs.Lists.{sets-append}
-use Rattle.blocks.specs.Blocks.{blockOf, blocksOf}
-use Rattle.blocks.proofs.Runs.{block-le, blocks-more, blocks-length, blocks-le}
+use Rattle.block_bytes.specs.Block.{blockOf}
+use Rattle.blocks.specs.Blocks.{blocksOf}
+use Rattle.block_bytes.proofs.Block.{block-le}
+use Rattle.blocks.proofs.Runs.{blocks-more, blocks-length, blocks-le}
 use Rattle.blocks.proofs.put_blocks.Statement.{statement}
 use Rattle.blocks.proofs.put_blocks.Tie as tie
 

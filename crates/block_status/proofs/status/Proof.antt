@@ -2,16 +2,16 @@ use Rattle.parts.proofs.Picks.{picks}
 use Rattle.errors.specs.declared.RadioError.the-variants.{NoSuchBlock}
 use Rattle.reply.specs.Reply.{good, fault}
 use Rattle.reply.proofs.Finish.{said}
-use Rattle.blocks.specs.Blocks.{statusesOf, statusReply}
+use Rattle.block_status.specs.Status.{statusesOf, statusReply}
 use Rattle.reply.proofs.Finish.{good-run}
-use Rattle.blocks.proofs.Runs.{length-statuses}
+use Rattle.block_status.proofs.Statuses.{length-statuses}
 use mathlib.Core.Path.{sym, ap, _∙_}
 use mathlib.Core.List.{List}
 use Prim.Native.Nat.{ℕ, _+_}
 use lib.Seq.{sets}
 use borrow.Author.Needs.{needs}
-use Rattle.blocks.proofs.status.Statement.{statement}
-use Rattle.blocks.proofs.status.Tie as tie
+use Rattle.block_status.proofs.status.Statement.{statement}
+use Rattle.block_status.proofs.status.Tie as tie
 
 error-requires : tie.Need-error-requires
 error-requires c κs = search needs

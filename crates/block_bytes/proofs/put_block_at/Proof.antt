@@ -3,12 +3,12 @@ use Prim.Native.Nat.{_-_}
 use native.Mathlib.Omega.{arith}
 use lib.ListN.{length}
 use borrow.Rule.Slice.PartMut.{putMid}
-use Rattle.blocks.specs.Blocks.{blockOf}
-use Rattle.blocks.proofs.Part.{sets-past, part-sets}
-use Rattle.blocks.proofs.Runs.{length-with, length-plain}
+use Rattle.block_bytes.specs.Block.{blockOf}
+use Rattle.block_bytes.proofs.Part.{sets-past, part-sets}
+use Rattle.block_bytes.proofs.Block.{length-with, length-plain}
 use borrow.Author.Needs.{needs}
-use Rattle.blocks.proofs.put_block_at.Statement.{statement}
-use Rattle.blocks.proofs.put_block_at.Tie as tie
+use Rattle.block_bytes.proofs.put_block_at.Statement.{statement}
+use Rattle.block_bytes.proofs.put_block_at.Tie as tie
 
 returns : tie.Need-returns
 returns c =

@@ -1,9 +1,9 @@
 use mathlib.Core.Path.{refl, sym, _∙_}
 use Rattle.parts.proofs.Picks.{pick-true, pick-false}
-use Rattle.blocks.specs.Blocks.{statusOf}
+use Rattle.block_status.specs.Status.{statusOf}
 use borrow.Author.Needs.{needs}
-use Rattle.blocks.proofs.status_of.Statement.{statement}
-use Rattle.blocks.proofs.status_of.Tie as tie
+use Rattle.block_status.proofs.status_of.Statement.{statement}
+use Rattle.block_status.proofs.status_of.Tie as tie
 
 may-write-requires : tie.Need-may-write-requires
 may-write-requires c κs = search needs

@@ -6,10 +6,10 @@ use mathlib.Core.List.{List}
 use lib.ListN.{length, set}
 use lib.Seq.{sets}
 use Rattle.parts.proofs.Lists.{sets-snoc}
-use Rattle.blocks.specs.Blocks.{statusOf, statusesOf}
-use Rattle.blocks.proofs.Runs.{statuses-more, length-statuses}
-use Rattle.blocks.proofs.put_statuses.Statement.{statement}
-use Rattle.blocks.proofs.put_statuses.Tie as tie
+use Rattle.block_status.specs.Status.{statusOf, statusesOf}
+use Rattle.block_status.proofs.Statuses.{statuses-more, length-statuses}
+use Rattle.block_status.proofs.put_statuses.Statement.{statement}
+use Rattle.block_status.proofs.put_statuses.Tie as tie
 
 abbrev Inv-loop : tie.InvT-loop
 Inv-loop out₀ r session first n k₀ out k = (k ≤ n) × ((out ≡ sets out₀ 1 (statusesOf r session first k)) × (length out ≡ length out₀))

@@ -1,9 +1,9 @@
 use mathlib.Core.Path.{sym, ap, _∙_}
 use lib.Seq.{sets}
-use Rattle.blocks.proofs.Runs.{block-with, block-plain, length-with, length-plain}
+use Rattle.block_bytes.proofs.Block.{block-with, block-plain, length-with, length-plain}
 use borrow.Author.Needs.{needs}
-use Rattle.blocks.proofs.put_block.Statement.{statement}
-use Rattle.blocks.proofs.put_block.Tie as tie
+use Rattle.block_bytes.proofs.put_block.Statement.{statement}
+use Rattle.block_bytes.proofs.put_block.Tie as tie
 
 mul-at : tie.Need-mul-at
 mul-at c = search needs

@@ -1,0 +1,28 @@
+-- The status of a block, and 2C Status.
+use mathlib.Core.List.{List, [], _∷_, _++_}
+use Prim.Native.Nat.{ℕ, zero, suc, _+_, _-_}
+use lib.Dec.{leb, ltb}
+use Rattle.parts.specs.Pick.{pick}
+use Rattle.registers.specs.declared.Registers.{Registers}
+use Rattle.areas.specs.declared.Side.the-variants.{Radio}
+use Rattle.areas.specs.Rights.{mayWrite}
+use Rattle.tag.specs.Layout.{blocks}
+use Rattle.errors.specs.declared.RadioError.the-variants.{NoSuchBlock}
+use Rattle.reply.specs.declared.RadioSide.{RadioSide}
+use Rattle.reply.specs.Reply.{good}
+use Rattle.reply.specs.Outcome.{CommandResult, commandResult, fails}
+
+-- "status byte .., as 2C": "1 exactly when 21 would give 12h"
+unfoldable pub statusOf : Registers → ℕ → ℕ → ℕ
+statusOf r session block = pick (mayWrite r (Radio session) block) 0 1
+
+-- the statuses of n blocks from the first on
+unfoldable pub statusesOf : Registers → ℕ → ℕ → ℕ → List ℕ
+statusesOf r session first zero = []
+statusesOf r session first (suc n) = statusesOf r session first n ++ statusOf r session (first + n) ∷ []
+
+-- "2C Status: first, count-1; 10h; stops at block 127"
+unfoldable pub statusReply : RadioSide → List ℕ → ℕ → ℕ → CommandResult
+statusReply s m first more =
+    pick (leb blocks first) (fails NoSuchBlock s m)
+    (commandResult (good (statusesOf (s .core .registers) (s .air .session) first (pick (ltb (blocks - first) (more + 1)) (blocks - first) (more + 1)))) s m)

@@ -13,9 +13,11 @@ use Rattle.tag.specs.Mailbox.{controlByte, lengthByte, enabled, controlled}
 use Rattle.tag.specs.Radio.{isQuiet, isSelected, deselected, fieldAt}
 use Rattle.tag.specs.Supply.{vccAt, freshTag}
 use Rattle.ranges.specs.Ranges.{registersInRange, airInRange, mailboxInRange, suppliedInRange, hostInRange, coreInRange, wireInRange, inRange}
-use Rattle.rule.specs.Rule.{memoryAcked, mailboxAcked, userAcked, writtenAll, registerAcked, passwordAcked, systemAcked, spaceAcked, acked}
+use Rattle.user_rule.specs.UserRule.{memoryAcked, mailboxAcked, userAcked}
+use Rattle.system_rule.specs.SystemRule.{writtenAll, registerAcked, passwordAcked, systemAcked}
+use Rattle.rule.specs.Rule.{spaceAcked, acked}
 use Rattle.page.specs.PageRange.{pageAcked, busInRange}
-use Rattle.rule.specs.Select.{selectOf, choose, firstOf}
+use Rattle.select.specs.Select.{selectOf, choose, firstOf}
 use Rattle.user_leg.specs.UserLeg.{userWritten}
 use Rattle.system_leg.specs.SystemLeg.{passwordWritten, systemWritten}
 use Rattle.leg.specs.Leg.{legWritten, settle}
@@ -38,7 +40,7 @@ use Rattle.config.specs.Config.{readConfigOf, mailboxAfterWrite, writtenCore, w
 use Rattle.message.specs.Message.{takesMessage, writeMessageOf, lengthOf, asked, mailboxAfterRead, readMessageOf}
 use Rattle.password.specs.Password.{presentOf, writePasswordOf}
 use Rattle.radio_state.specs.RadioState.{stayQuietOf, selectUidOf, resetToReadyOf}
-use Rattle.radio.specs.Commands.{serveCommand, serveCode, serveOf}
+use Rattle.serve.specs.Commands.{serveCommand, serveCode, serveOf}
 use Rattle.radio.specs.Radio.{verdictResult, radioOf}
 use Rattle.refusals.specs.Signals.{topValue, signalInRange}
 use Rattle.model.specs.Signals.{signalBy}

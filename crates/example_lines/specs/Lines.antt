@@ -11,7 +11,7 @@ use Rattle.text.specs.Decimal.{decimal}
 use Rattle.text.specs.Line.{lineLength}
 use Rattle.tag.specs.declared.Uid.{Uid}
 use Rattle.tag.specs.Layout.{memoryBytes}
-use Rattle.rule.specs.Select.{address}
+use Rattle.select.specs.Select.{address}
 
 -- the UID of the examples' tags
 abbrev pub exampleUid : Uid

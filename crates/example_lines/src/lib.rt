@@ -63,7 +63,7 @@ pub fn next_at(s: &[u8], at: usize) -> usize
 pub fn word_at(s: &[u8], i: usize) -> u16
     ensures { λ r. ⌜ r ≡ wordAt (now (s .entry)) i ⌝ }
 {
-    rule::address(parts::byte_at(s, i), parts::byte_in(s, i, 1))
+    select::address(parts::byte_at(s, i), parts::byte_in(s, i, 1))
 }
 
 // Clears the memory.

@@ -26,8 +26,9 @@ use Rattle.config.specs.Config.{writtenCore, readConfigOf, writeConfigOf, readD
 use Rattle.message.specs.Message.{writeMessageOf, lengthOf, readMessageOf}
 use Rattle.password.specs.Password.{presentOf, writePasswordOf}
 use Rattle.radio_state.specs.RadioState.{stayQuietOf, selectUidOf, resetToReadyOf}
-use Rattle.radio.specs.declared.RequestFields.{RequestFields}
-use Rattle.radio.specs.Commands.{requestOf, serveCommand, serveCode, serveOf}
+use Rattle.request.specs.declared.RequestFields.{RequestFields}
+use Rattle.request.specs.Request.{requestOf}
+use Rattle.serve.specs.Commands.{serveCommand, serveCode, serveOf}
 use Rattle.radio.specs.Radio.{verdictResult, radioOf}
 use Rattle.state.specs.Claims.{PasswordsFit}
 use Rattle.state.proofs.Decoded.{eight-run}

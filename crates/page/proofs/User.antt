@@ -18,7 +18,8 @@ use Rattle.areas.proofs.Runs.{area-between, unlocked}
 use Rattle.tag.specs.declared.Core.{Core}
 use Rattle.tag.specs.declared.Space.the-variants.{User}
 use Rattle.tag.specs.Layout.{page}
-use Rattle.rule.specs.Rule.{memoryAcked, mailboxAcked, userAcked, spaceAcked, acked}
+use Rattle.user_rule.specs.UserRule.{memoryAcked, mailboxAcked, userAcked}
+use Rattle.rule.specs.Rule.{spaceAcked, acked}
 use Rattle.rule.proofs.AckedByte.{acked-room, acked-space}
 use Rattle.page.specs.PageRange.{pageAcked}
 use Rattle.page.proofs.Acks.{page-before, page-last, one-more}

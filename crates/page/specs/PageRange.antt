@@ -8,7 +8,7 @@ use Rattle.tag.specs.declared.Core.{Core}
 use Rattle.tag.specs.declared.Bus.{Bus}
 use Rattle.tag.specs.declared.Bus.the-variants.{Idle, Started, ReadLeg, WriteLeg, LowAddress, DataLeg}
 use Rattle.tag.specs.Layout.{pagePlace, page}
-use Rattle.rule.specs.Select.{firstOf}
+use Rattle.select.specs.Select.{firstOf}
 use Rattle.rule.specs.Rule.{acked}
 
 -- each of the page's k bytes would be Acked at its place

@@ -17,13 +17,13 @@ fn user_page(c: Core, session: bool, f: u16, k: u16) -> bool
         return true;
     }
     let last = k - 1;
-    let first_acked = rule::user_acked(c, session, f, 0);
-    let last_acked = rule::user_acked(c, session, f, last);
+    let first_acked = user_rule::user_acked(c, session, f, 0);
+    let last_acked = user_rule::user_acked(c, session, f, last);
     let both = (last < 256) & first_acked & last_acked;
     if last < 4 {
         return both;
     }
-    both & rule::user_acked(c, session, f, 4)
+    both & user_rule::user_acked(c, session, f, 4)
 }
 
 // A page of system space, byte for byte. It stops at the first that would not be Acked.
@@ -65,6 +65,13 @@ pub fn bus_in_range(b: Bus, counter: u16, c: Core, session: bool, m: &[u8]) -> b
             space,
             count,
             spoiled,
-        } => page_acked(space, c, session, m, rule::first_of(counter, count), count),
+        } => page_acked(
+            space,
+            c,
+            session,
+            m,
+            select::first_of(counter, count),
+            count,
+        ),
     }
 }

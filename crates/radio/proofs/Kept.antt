@@ -46,9 +46,10 @@ use Rattle.config.specs.Config.{mailboxByRule, mailboxAfterWrite, writtenCore, 
 use Rattle.message.specs.Message as message
 use Rattle.password.specs.Password.{presentOf, writePasswordOf}
 use Rattle.radio_state.specs.RadioState.{stayQuietOf, selectUidOf, resetToReadyOf}
-use Rattle.radio.specs.declared.RequestFields.{RequestFields}
+use Rattle.request.specs.declared.RequestFields.{RequestFields}
 use Rattle.radio.specs.Claims.{radioInRange, FrameKeepsRange}
-use Rattle.radio.specs.Commands.{requestOf, serveCommand, serveCode, serveOf}
+use Rattle.request.specs.Request.{requestOf}
+use Rattle.serve.specs.Commands.{serveCommand, serveCode, serveOf}
 use Rattle.radio.specs.Radio.{verdictResult, radioOf}
 
 -- ---- the ranges as facts

@@ -1,4 +1,3 @@
-pub mod Rows
 pub mod ShutOut
 pub mod Kept
 pub mod Room

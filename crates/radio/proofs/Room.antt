@@ -34,9 +34,10 @@ use Rattle.config.specs.Config.{readConfigOf, writeConfigOf, readDynamicOf, wri
 use Rattle.message.specs.Message.{writeMessageOf, lengthOf, asked, readMessageOf}
 use Rattle.password.specs.Password.{presentOf, writePasswordOf}
 use Rattle.radio_state.specs.RadioState.{stayQuietOf, selectUidOf, resetToReadyOf}
-use Rattle.radio.specs.declared.RequestFields.{RequestFields}
+use Rattle.request.specs.declared.RequestFields.{RequestFields}
 use Rattle.radio.specs.Claims.{replySize, RepliesFit}
-use Rattle.radio.specs.Commands.{requestOf, serveCommand, serveCode, serveOf}
+use Rattle.request.specs.Request.{requestOf}
+use Rattle.serve.specs.Commands.{serveCommand, serveCode, serveOf}
 use Rattle.radio.specs.Radio.{verdictResult, radioOf}
 
 abbrev Small : CommandResult → Type 0

@@ -9,7 +9,8 @@ use Rattle.reply.specs.Outcome.{CommandResult, commandResult, fails}
 use Rattle.judge.specs.declared.Verdict.{Verdict}
 use Rattle.judge.specs.declared.Verdict.the-variants.{Silence, Error, Request}
 use Rattle.judge.specs.Judge.{judge}
-use Rattle.radio.specs.Commands.{requestOf, serveOf}
+use Rattle.request.specs.Request.{requestOf}
+use Rattle.serve.specs.Commands.{serveOf}
 
 -- what each verdict comes to: silence, 01h and the code, or the command
 unfoldable pub verdictResult : Verdict → RadioSide → Uid → Bool → List ℕ → List ℕ → CommandResult

@@ -31,9 +31,10 @@ use Rattle.config.specs.Config.{readConfigOf, writeConfigOf, readDynamicOf, wri
 use Rattle.message.specs.Message.{writeMessageOf, lengthOf, readMessageOf}
 use Rattle.password.specs.Password.{presentOf, writePasswordOf}
 use Rattle.radio_state.specs.RadioState.{stayQuietOf, selectUidOf, resetToReadyOf}
-use Rattle.radio.specs.declared.RequestFields.{RequestFields}
-use Rattle.radio.specs.Commands.{requestOf, serveCommand, serveCode, serveOf}
-use Rattle.radio.proofs.Rows.{known-row}
+use Rattle.request.specs.declared.RequestFields.{RequestFields}
+use Rattle.request.specs.Request.{requestOf}
+use Rattle.serve.specs.Commands.{serveCommand, serveCode, serveOf}
+use Rattle.serve.proofs.Rows.{known-row}
 use Rattle.radio.specs.Radio.{verdictResult, radioOf}
 use Rattle.radio_claims.specs.Claims.{ErrorsChangeNothing, isRequest, presentsWrong, sessionClosed, errorLeaves, ErrorsLeave}
 

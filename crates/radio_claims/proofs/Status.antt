@@ -32,8 +32,9 @@ use Rattle.block_bytes.specs.Block.{blockOf}
 use Rattle.block_bytes.proofs.Block.{block-with, length-with}
 use Rattle.block_status.proofs.Statuses.{length-statuses}
 use Rattle.block_writes.specs.Writes.{mayWriteAll, writeOf}
-use Rattle.radio.specs.Commands.{requestOf, serveCommand, serveOf}
-use Rattle.radio.proofs.Rows.{known-row}
+use Rattle.request.specs.Request.{requestOf}
+use Rattle.serve.specs.Commands.{serveCommand, serveOf}
+use Rattle.serve.proofs.Rows.{known-row}
 use Rattle.radio.specs.Radio.{verdictResult, radioOf}
 use Rattle.radio_claims.proofs.Errors.{first-same}
 use Rattle.radio_claims.specs.Claims.{Asks, StatusAgrees, StatusAsWrite, OptionStatusAsWrite}

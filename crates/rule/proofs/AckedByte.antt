@@ -1,16 +1,13 @@
--- What a data byte's Ack says, and the first address of a leg. Assumes nothing.
+-- What a data byte's Ack says. Assumes nothing.
 use mathlib.Core.Path.{_≡_}
 use mathlib.Core.Bool.{Bool, true}
 use mathlib.Core.List.{List}
-use Prim.Native.Nat.{ℕ, suc, _<_}
-use native.Mathlib.Omega.{arith}
+use Prim.Native.Nat.{ℕ, _<_}
 use lib.Dec.{ltb}
 use borrow.Author.Tests.{ltb-true}
 use Rattle.parts.proofs.Bools.{and-left, and-right}
 use Rattle.tag.specs.declared.Space.{Space}
 use Rattle.tag.specs.declared.Core.{Core}
-use Rattle.tag.specs.Bus.{nextAddress}
-use Rattle.rule.specs.Select.{firstOf}
 use Rattle.rule.specs.Rule.{spaceAcked, acked}
 
 module _ (s : Space) (c : Core) (session : Bool) (f : ℕ) where
@@ -22,8 +19,3 @@ module _ (s : Space) (c : Core) (session : Bool) (f : ℕ) where
   pub acked-space : (k : ℕ) (e : List ℕ) (x : ℕ) → acked s c session f k e x ≡ true → spaceAcked s c session f k e x ≡ true
   unfolding acked
   acked-space k e x h = and-right (ltb k 256) (spaceAcked s c session f k e x) h
-
--- an Acked byte leaves the leg's first address
-pub first-next : (c k : ℕ) → k < 256 → firstOf (nextAddress c) (suc k) ≡ firstOf c k
-unfolding firstOf
-first-next c k h = omega arith

@@ -1,2 +1,1 @@
-pub mod Select
 pub mod Rule

@@ -10,9 +10,9 @@ use Rattle.tag.specs.declared.Bus.the-variants.{Idle, Started, ReadLeg, WriteLe
 use Rattle.tag.specs.declared.WireSide.{WireSide}
 use Rattle.tag.specs.Layout.{pagePlace, page}
 use Rattle.tag.specs.Bus.{nextAddress}
-use Rattle.rule.specs.declared.Choice.{Choice}
-use Rattle.rule.specs.declared.Choice.the-variants.{NotAcked, Reading, Writing}
-use Rattle.rule.specs.Select.{choose, address, firstOf}
+use Rattle.select.specs.declared.Choice.{Choice}
+use Rattle.select.specs.declared.Choice.the-variants.{NotAcked, Reading, Writing}
+use Rattle.select.specs.Select.{choose, address, firstOf}
 use Rattle.rule.specs.Rule.{acked}
 use Rattle.signal.specs.declared.WireAnswer.the-variants.{Ack, NoAck}
 use Rattle.signal.specs.Signal.{WireResult, wireResult, sideBus, sideLine}

@@ -2,11 +2,11 @@
 ghost use mathlib.Core.Path.{_≡_};
 ghost use mathlib.Core.Bool.{false};
 ghost use Rattle.tag.specs.declared.Bus.the-variants.{DataLeg};
-ghost use Rattle.rule.specs.Select.{choose, address};
+ghost use Rattle.select.specs.Select.{choose, address};
 ghost use Rattle.signal.specs.declared.WireAnswer.the-variants.{NoAck};
 ghost use Rattle.signal.specs.Signal.{wireResult, sideLine};
 ghost use Rattle.send.specs.Send.{selectBy, dataOf, sendAt};
-use rule::Choice;
+use select::Choice;
 use signal::WireAnswer;
 use signal::WireOutcome;
 use tag::Bus;
@@ -17,7 +17,7 @@ use tag::WireSide;
 fn select(w: WireSide, m: &[u8], x: u8) -> WireOutcome
     ensures { λ r. ⌜ wireResult (r .answer) (r .side) (now (m .entry)) ≡ selectBy (choose (w .host .vcc) (w .host .programming) x) w (now (m .entry)) ⌝ }
 {
-    match rule::choose(w.host.vcc, w.host.programming, x) {
+    match select::choose(w.host.vcc, w.host.programming, x) {
         Choice::NotAcked => WireOutcome {
             answer: WireAnswer::NoAck,
             side: signal::with_bus(w, Bus::Idle),
@@ -45,7 +45,7 @@ fn data(space: Space, k: u16, w: WireSide, m: &mut [u8], x: u8) -> WireOutcome
     ensures { λ r. ⌜ wireResult (r .answer) (r .side) (now (m .exit)) ≡ dataOf space k w (now (m .entry)) x ⌝ }
 {
     let counter = w.host.counter;
-    let first = rule::first_of(counter, k);
+    let first = select::first_of(counter, k);
     if rule::acked(space, w.core, w.host.session, m, first, k, x) {
         parts::put_in(m, tag::PAGE_AT, k as usize, x);
         let next = tag::next_address(counter);
@@ -102,7 +102,7 @@ fn low_address(space: Space, high: u8, w: WireSide, x: u8) -> WireSide
         count: 0,
         spoiled: false,
     };
-    signal::with_line(w, rule::address(high, x), leg)
+    signal::with_line(w, select::address(high, x), leg)
 }
 
 // A byte sent.

@@ -10,7 +10,7 @@ use Rattle.tag.specs.declared.WireSide.{WireSide}
 use Rattle.tag.specs.Layout.{page}
 use Rattle.tag.specs.Parts.{withCounter, withBus, withHost}
 use Rattle.tag.specs.Bus.{isOpen}
-use Rattle.rule.specs.Select.{firstOf}
+use Rattle.select.specs.Select.{firstOf}
 use Rattle.leg.specs.Leg.{stopped, started, Due, nothingDue, clears, writes, settle}
 use Rattle.signal.specs.declared.WireAnswer.{WireAnswer}
 use Rattle.signal.specs.declared.WireAnswer.the-variants.{Nothing}

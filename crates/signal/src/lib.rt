@@ -109,7 +109,7 @@ fn stop_write(w: WireSide, m: &mut [u8], space: Space, count: u16, spoiled: bool
     if spoiled | (count == 0) {
         return w;
     }
-    let first = rule::first_of(w.host.counter, count);
+    let first = select::first_of(w.host.counter, count);
     leg::leg_written(space, w, m, first, count)
 }
 

@@ -17,9 +17,10 @@ use Rattle.tag.specs.declared.WireSide.{WireSide}
 use Rattle.tag.specs.declared.Uid.{Uid}
 use Rattle.tag.specs.Bus.{nextAddress}
 use Rattle.tag.specs.Layout.{page}
-use Rattle.rule.specs.Select.{firstOf}
+use Rattle.select.specs.Select.{firstOf}
 use Rattle.rule.specs.Rule.{acked}
-use Rattle.rule.proofs.AckedByte.{acked-room, first-next}
+use Rattle.rule.proofs.AckedByte.{acked-room}
+use Rattle.select.proofs.First.{first-next}
 use Rattle.signal.specs.declared.WireAnswer.the-variants.{Ack, NoAck}
 use Rattle.signal.specs.Signal.{wireResult, sideLine}
 use Rattle.send.specs.Send.{dataOf, sendAt}

@@ -18,11 +18,12 @@ use Rattle.tag.specs.declared.WireSide.{WireSide}
 use Rattle.tag.specs.declared.Uid.{Uid}
 use Rattle.tag.specs.Bus.{nextAddress}
 use Rattle.tag.specs.Layout.{page}
-use Rattle.rule.specs.declared.Choice.{Choice}
-use Rattle.rule.specs.declared.Choice.the-variants.{NotAcked, Reading, Writing}
-use Rattle.rule.specs.Select.{choose, address, firstOf}
+use Rattle.select.specs.declared.Choice.{Choice}
+use Rattle.select.specs.declared.Choice.the-variants.{NotAcked, Reading, Writing}
+use Rattle.select.specs.Select.{choose, address, firstOf}
 use Rattle.rule.specs.Rule.{acked}
-use Rattle.rule.proofs.AckedByte.{acked-room, first-next}
+use Rattle.rule.proofs.AckedByte.{acked-room}
+use Rattle.select.proofs.First.{first-next}
 use Rattle.leg.specs.Leg.{nothingDue, writes}
 use Rattle.signal.specs.declared.WireAnswer.the-variants.{Ack, NoAck, Byte}
 use Rattle.signal.specs.Signal.{WireResult, wireResult, sideBus, sideLine, dueOf}

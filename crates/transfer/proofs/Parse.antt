@@ -4,7 +4,7 @@ use mathlib.Core.Bool.{Bool, true, false, false≢true}
 use mathlib.Core.List.{List, [], _∷_, _++_}
 use Prim.Native.Nat.{ℕ}
 use Rattle.parts.specs.Pick.{pick}
-use Rattle.rule.specs.Select.{selectOf}
+use Rattle.select.specs.Select.{selectOf}
 use Rattle.transfer.specs.Legs.{Noted, NotedStart, NotedSend, NotedFetch, NotedStop, NotedVccOff, selectRefused, ends, fresher, isEmpty, finished, Move, moveSend, moveFetch, Finish, atStop, atVccOff, atRefusal, Legs, leg, last, push, parse}
 use Rattle.transfer.proofs.Run.{signals}
 

@@ -14,9 +14,9 @@ use Rattle.tag.specs.declared.WireSide.{WireSide}
 use Rattle.tag.specs.declared.Uid.{Uid}
 use Rattle.tag.specs.Bus.{isOpen}
 use Rattle.tag.specs.Supply.{vccOff, vccAt}
-use Rattle.rule.specs.declared.Choice.{Choice}
-use Rattle.rule.specs.declared.Choice.the-variants.{NotAcked, Reading, Writing}
-use Rattle.rule.specs.Select.{selectOf, choose}
+use Rattle.select.specs.declared.Choice.{Choice}
+use Rattle.select.specs.declared.Choice.the-variants.{NotAcked, Reading, Writing}
+use Rattle.select.specs.Select.{selectOf, choose}
 use Rattle.effect.specs.Effect.{LegResult, legResult}
 use Rattle.leg.specs.Leg.{stopped, started, powerLost, Due, nothingDue, clears, writes, settle}
 use Rattle.signal.specs.declared.WireAnswer.the-variants.{Nothing, NoAck}

@@ -14,9 +14,9 @@ use Rattle.tag.specs.Layout.{pagePlace}
 use Rattle.tag.specs.Bus.{nextAddress}
 use Rattle.tag.specs.Supply.{vccOff}
 use Rattle.tag.specs.Parts.{withCounter, withBus, withHost}
-use Rattle.rule.specs.declared.Choice.{Choice}
-use Rattle.rule.specs.declared.Choice.the-variants.{NotAcked, Reading, Writing}
-use Rattle.rule.specs.Select.{choose, address}
+use Rattle.select.specs.declared.Choice.{Choice}
+use Rattle.select.specs.declared.Choice.the-variants.{NotAcked, Reading, Writing}
+use Rattle.select.specs.Select.{choose, address}
 use Rattle.rule.specs.Rule.{acked}
 use Rattle.fetch.specs.Fetch.{fetched, isLast}
 use Rattle.leg.specs.Leg.{stopped, started, powerLost, Due, nothingDue, clears, writes, settle}

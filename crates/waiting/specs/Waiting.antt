@@ -9,7 +9,7 @@ use Rattle.tag.specs.declared.Bus.the-variants.{Idle, Started, ReadLeg, WriteLe
 use Rattle.tag.specs.declared.Host.{Host}
 use Rattle.tag.specs.Radio.{fieldAt}
 use Rattle.tag.specs.Parts.{wireSide, withWire, withTagAir}
-use Rattle.rule.specs.Select.{choose}
+use Rattle.select.specs.Select.{choose}
 use Rattle.signal.specs.declared.WireAnswer.{WireAnswer}
 use Rattle.signal.specs.declared.WireSignal.the-variants.{Start as SignalStart, Send, Fetch, Stop as SignalStop, Vcc, ProgrammingEnd}
 use Rattle.transfer.specs.Legs.{Noted, NotedStart, NotedSend, NotedFetch, NotedStop, NotedVccOff, selectRefused, finished}

@@ -31,11 +31,14 @@ use Rattle.tag.specs.Parts.{withRegisters, withMailbox, withPasswords, withWire
 use Rattle.ranges.specs.Ranges.{registersInRange, mailboxInRange, coreInRange, hostInRange, suppliedInRange, wireInRange}
 use Rattle.ranges.proofs.MailboxKept.{empty-kept, host-read-kept, host-put-kept, controlled-kept}
 use Rattle.ranges.proofs.RegistersKept.{dynamic-kept, reload-kept}
-use Rattle.rule.specs.declared.Choice.{Choice}
-use Rattle.rule.specs.declared.Choice.the-variants.{NotAcked, Reading, Writing}
-use Rattle.rule.specs.Select.{choose, selectOf, firstOf}
-use Rattle.rule.specs.Rule.{mailboxAcked, userAcked, spaceAcked, acked, writtenAll}
-use Rattle.rule.proofs.AckedByte.{acked-room, acked-space, first-next}
+use Rattle.select.specs.declared.Choice.{Choice}
+use Rattle.select.specs.declared.Choice.the-variants.{NotAcked, Reading, Writing}
+use Rattle.select.specs.Select.{choose, selectOf, firstOf}
+use Rattle.user_rule.specs.UserRule.{mailboxAcked, userAcked}
+use Rattle.rule.specs.Rule.{spaceAcked, acked}
+use Rattle.system_rule.specs.SystemRule.{writtenAll}
+use Rattle.rule.proofs.AckedByte.{acked-room, acked-space}
+use Rattle.select.proofs.First.{first-next}
 use Rattle.page.specs.PageRange.{pageAcked, busInRange}
 use Rattle.page.proofs.Acks.{page-last}
 use Rattle.effect.specs.Effect.{LegResult, legResult, sideSession, programming}

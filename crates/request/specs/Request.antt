@@ -1,0 +1,12 @@
+-- A request's fields, as the commands take them.
+use mathlib.Core.List.{List}
+use Prim.Native.Nat.{ℕ}
+use Rattle.tag.specs.declared.Uid.{Uid}
+use Rattle.commands.specs.Table.{commandOf}
+use Rattle.frame.specs.Fields.{command, optionFlag, paramPlace, ownUid, param}
+use Rattle.request.specs.declared.RequestFields.{RequestFields}
+
+-- a frame's fields: command, first two parameter bytes, option, whether its UID is the tag's, the place of its parameters
+abbrev pub requestOf : List ℕ → Uid → RequestFields
+requestOf s u =
+    record { command = commandOf (command s); first = param s 0; second = param s 1; option = optionFlag s; own = ownUid s u; at = paramPlace s }

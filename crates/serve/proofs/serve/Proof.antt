@@ -1,0 +1,46 @@
+use Rattle.reply.proofs.Finish.{silent}
+use Rattle.serve.specs.Commands.{serveCode, serveOf}
+use Rattle.serve.proofs.Rows.{known-row}
+use borrow.Author.Needs.{needs}
+use Rattle.serve.proofs.serve.Statement.{statement}
+use Rattle.serve.proofs.serve.Tie as tie
+
+enum-told : tie.Need-enum-told
+enum-told c = search needs
+
+enum-known-code : tie.Need-enum-known-code
+enum-known-code c = search needs
+
+serve-command-requires : tie.Need-serve-command-requires
+serve-command-requires c κs = search needs
+
+returns : tie.Need-returns
+unfolding serveCode serveOf
+returns c =
+    let a = c .before .before .before .before .before .args in
+    silent (serveOf (a .q) (a .t) (a .vcc) (a .m .now) (a .s .now)) (rw (c .enum-told .given .1))
+
+same-length : tie.Need-same-length
+same-length c = search needs
+
+same-length-2 : tie.Need-same-length-2
+same-length-2 c = search needs
+
+returns-2 : tie.Need-returns-2
+returns-2 c =
+    let call = c .before .before .before .before in
+    let told = call .before .before .before .before in
+    let a = told .before .before .before .before .before .args in
+    rw (known-row (a .q) (a .t) (a .vcc) (a .m .now) (a .s .now) _ (told .code .given .1)) (call .serve-command .ensures)
+
+pub serve-spec : {M : Type 1} → statement M
+serve-spec =
+    tie.close
+    (tie.spec
+    enum-told
+    enum-known-code
+    serve-command-requires
+    returns
+    same-length
+    same-length-2
+    returns-2)

@@ -1,0 +1,36 @@
+-- Whether a data byte is Acked in system space: byte x, the leg's data byte k (from 0), of a write leg from address f, after its earlier bytes e.
+use mathlib.Core.Bool.{Bool, not, _&&_, _||_}
+use mathlib.Core.List.{List, [], _∷_}
+use Prim.Native.Nat.{ℕ, _+_}
+use lib.Dec.{ltb, eqb}
+use Rattle.parts.specs.Pick.{pick}
+use Rattle.registers.specs.declared.Registers.{Registers}
+use Rattle.registers.specs.Table.{isWritable}
+use Rattle.registers.specs.Map.{written}
+use Rattle.areas.specs.Ends.{endAllows}
+use Rattle.tag.specs.declared.Core.{Core}
+
+-- the registers after bytes from address f on were written, the lowest first
+unfoldable pub writtenAll : Registers → ℕ → List ℕ → Registers
+writtenAll r f [] = r
+writtenAll r f (x ∷ xs) = writtenAll (written r f x) (f + 1) xs
+
+-- "system, MB_EN is 0, session open, register writable, ENDA rule met with the leg's earlier bytes taken as written"
+unfoldable pub registerAcked : Core → Bool → ℕ → ℕ → List ℕ → ℕ → Bool
+registerAcked c session f k e x =
+    not (c .mailbox .enabled)
+    && session
+    && isWritable (f + k)
+    && endAllows (writtenAll (c .registers) f e .ends) (f + k) x
+
+-- "Password leg, AEh, 0900h, 17 bytes: eight, a code, eight again. Code 09h presents .. Code 07h writes: Acked only with the session open and MB_EN 0
+-- .. Another code, or an 18th byte, is NoAcked."
+unfoldable pub passwordAcked : Core → Bool → ℕ → ℕ → Bool
+passwordAcked c session k x =
+    pick (eqb k 8) (eqb x 0x09 || (eqb x 0x07 && session && not (c .mailbox .enabled)))
+    (ltb k 17)
+
+unfoldable pub systemAcked : Core → Bool → ℕ → ℕ → List ℕ → ℕ → Bool
+systemAcked c session f k e x =
+    pick (eqb f 0x0900) (passwordAcked c session k x)
+    (registerAcked c session f k e x)

@@ -1,0 +1,39 @@
+// Whether a data byte is Acked in user space.
+ghost use mathlib.Core.Path.{_≡_};
+ghost use Rattle.user_rule.specs.UserRule.{memoryAcked, mailboxAcked, userAcked};
+use areas::Side;
+use tag::Core;
+use tag::Mailbox;
+
+fn memory_acked(c: Core, session: bool, f: u16, k: u16) -> bool
+    ensures { λ r. ⌜ r ≡ memoryAcked c session f k ⌝ }
+{
+    let at = f as u32 + k as u32;
+    if 512 <= at {
+        return false;
+    }
+    let a = at as u16;
+    let first = areas::area_of_byte(c.registers.ends, f);
+    let area = areas::area_of_byte(c.registers.ends, a);
+    let may = areas::may_write(c.registers, Side::Wire(session), a / 4);
+    !c.mailbox.enabled & (first == area) & may
+}
+
+fn mailbox_acked(b: Mailbox, f: u16) -> bool
+    ensures { λ r. ⌜ r ≡ mailboxAcked b f ⌝ }
+{
+    (f == 0x2008) & b.enabled & !b.host.put & !b.rf.put
+}
+
+// The Ack of data byte k in user space: it depends on no byte of the leg.
+pub fn user_acked(c: Core, session: bool, f: u16, k: u16) -> bool
+    ensures { λ r. ⌜ r ≡ userAcked c session f k ⌝ }
+{
+    if f < 512 {
+        return memory_acked(c, session, f, k);
+    }
+    if (f == 0x2003) | (f == 0x2006) {
+        return k == 0;
+    }
+    mailbox_acked(c.mailbox, f)
+}

@@ -4,8 +4,8 @@ use Prim.Native.Nat.{ℕ, zero, suc, _+_, _-_}
 use lib.Dec.{leb, ltb}
 use Rattle.parts.specs.Pick.{pick}
 use Rattle.registers.specs.declared.Registers.{Registers}
-use Rattle.areas.specs.declared.Side.the-variants.{Radio}
-use Rattle.areas.specs.Rights.{mayWrite}
+use Rattle.rights.specs.declared.Side.the-variants.{Radio}
+use Rattle.rights.specs.Rights.{mayWrite}
 use Rattle.tag.specs.Layout.{blocks}
 use Rattle.errors.specs.declared.RadioError.the-variants.{NoSuchBlock}
 use Rattle.reply.specs.declared.RadioSide.{RadioSide}

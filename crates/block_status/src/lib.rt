@@ -6,17 +6,17 @@ ghost use lib.Seq.{sets};
 ghost use Rattle.parts.specs.Pick.{pick};
 ghost use Rattle.reply.specs.Outcome.{radioResult, finish};
 ghost use Rattle.block_status.specs.Status.{statusOf, statusesOf, statusReply};
-use areas::Side;
 use errors::RadioError;
 use registers::Registers;
 use reply::RadioOutcome;
 use reply::RadioSide;
+use rights::Side;
 
 // The status byte of a block: 1 where the radio may not write it.
 pub fn status_of(r: Registers, session: u8, block: u16) -> u8
     ensures { λ b. ⌜ b ≡ statusOf r session block ⌝ }
 {
-    if areas::may_write(r, Side::Radio(session), block) {
+    if rights::may_write(r, Side::Radio(session), block) {
         return 0;
     }
     1

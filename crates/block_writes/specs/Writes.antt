@@ -11,8 +11,8 @@ use Rattle.registers.specs.declared.Registers.{Registers}
 use Rattle.registers.specs.declared.Register.the-variants.{Ccfile}
 use Rattle.registers.specs.Table.{lockCcFileBits}
 use Rattle.registers.specs.Map.{writtenTo}
-use Rattle.areas.specs.declared.Side.the-variants.{Radio}
-use Rattle.areas.specs.Rights.{isLocked, mayWrite}
+use Rattle.rights.specs.declared.Side.the-variants.{Radio}
+use Rattle.rights.specs.Rights.{isLocked, mayWrite}
 use Rattle.tag.specs.Layout.{blocks}
 use Rattle.errors.specs.declared.RadioError.the-variants.{TooManyBlocks, NoSuchBlock, WriteLeavesArea, WriteForbidden, NotLockable, AlreadyLocked}
 use Rattle.reply.specs.declared.RadioSide.{RadioSide}

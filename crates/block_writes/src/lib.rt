@@ -3,13 +3,13 @@ ghost use mathlib.Core.Path.{_≡_};
 ghost use Prim.Native.Nat.{_≤_};
 ghost use Rattle.reply.specs.Outcome.{radioResult, finish};
 ghost use Rattle.block_writes.specs.Writes.{mayWriteAll, writeOf, lockOf};
-use areas::Side;
 use errors::RadioError;
 use registers::LockCcFile;
 use registers::Register;
 use registers::Registers;
 use reply::RadioOutcome;
 use reply::RadioSide;
+use rights::Side;
 
 // Whether the radio may write n blocks from the first on.
 fn may_write_all(r: Registers, session: u8, first: u8, n: u16) -> bool
@@ -19,7 +19,7 @@ fn may_write_all(r: Registers, session: u8, first: u8, n: u16) -> bool
     let mut all = true;
     let mut k: u16 = 0;
     while k < n {
-        let one = areas::may_write(r, Side::Radio(session), first as u16 + k);
+        let one = rights::may_write(r, Side::Radio(session), first as u16 + k);
         all = all & one;
         k += 1;
     }
@@ -70,7 +70,7 @@ pub fn lock(s: RadioSide, m: &[u8], out: &mut [u8], block: u8) -> RadioOutcome
         let answer = reply::error(out, RadioError::NotLockable);
         return RadioOutcome { answer, side: s };
     }
-    if areas::is_locked(r.ccfile, block as u16) {
+    if rights::is_locked(r.ccfile, block as u16) {
         let answer = reply::error(out, RadioError::AlreadyLocked);
         return RadioOutcome { answer, side: s };
     }

@@ -6,9 +6,9 @@ use lib.Dec.{leb, eqb}
 use Rattle.parts.specs.Pick.{pick}
 use Rattle.registers.specs.declared.Ends.{Ends}
 use Rattle.registers.specs.declared.Registers.{Registers}
-use Rattle.areas.specs.declared.Side.the-variants.{Radio}
+use Rattle.rights.specs.declared.Side.the-variants.{Radio}
 use Rattle.areas.specs.Ends.{areaOfBlock}
-use Rattle.areas.specs.Rights.{mayRead}
+use Rattle.rights.specs.Rights.{mayRead}
 use Rattle.tag.specs.Layout.{blocks}
 use Rattle.errors.specs.declared.RadioError.the-variants.{NoSuchBlock, ReadLeavesArea, ReadProtected}
 use Rattle.reply.specs.declared.RadioSide.{RadioSide}

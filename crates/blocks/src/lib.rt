@@ -5,12 +5,12 @@ ghost use lib.Seq.{sets};
 ghost use lib.ListN.{length};
 ghost use Rattle.reply.specs.Outcome.{radioResult, finish};
 ghost use Rattle.blocks.specs.Blocks.{leavesArea, blocksOf, readOf};
-use areas::Side;
 use errors::RadioError;
 use registers::Ends;
 use registers::Registers;
 use reply::RadioOutcome;
 use reply::RadioSide;
+use rights::Side;
 
 // Whether blocks first to last leave an area or the memory.
 pub fn leaves_area(e: Ends, first: u16, last: u16) -> bool
@@ -69,7 +69,7 @@ pub fn read(
         let answer = reply::error(out, RadioError::ReadLeavesArea);
         return RadioOutcome { answer, side: s };
     }
-    if !areas::may_read(r, Side::Radio(session), start) {
+    if !rights::may_read(r, Side::Radio(session), start) {
         let answer = reply::error(out, RadioError::ReadProtected);
         return RadioOutcome { answer, side: s };
     }

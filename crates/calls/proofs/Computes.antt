@@ -6,7 +6,7 @@ use Rattle.registers.specs.Defined.{definedIn, definedOnly, freshRegisters}
 use Rattle.registers.specs.Table.{rowIn, rowOf}
 use Rattle.registers.specs.Map.{registerAt, withArea, withEnd, written}
 use Rattle.areas.specs.Ends.{areaOfBlock, areaOfByte, endsInRange, laterLargest, exceedsBefore, endAccepted, endAllows}
-use Rattle.areas.specs.Rights.{securityOf, sessionOpens, radioWrites, radioReads, wireBits, wireWrites, wireReads, isLocked, readRight, writeRight, mayRead, mayWrite}
+use Rattle.rights.specs.Rights.{securityOf, sessionOpens, radioWrites, radioReads, wireBits, wireWrites, wireReads, isLocked, readRight, writeRight, mayRead, mayWrite}
 use Rattle.tag.specs.Bus.{isOpen, isActive, pageBytes}
 use Rattle.tag.specs.Keys.{radioPassword, withRadioPassword, freshPasswords}
 use Rattle.tag.specs.Mailbox.{controlByte, lengthByte, enabled, controlled}
@@ -36,8 +36,10 @@ use Rattle.blocks.specs.Blocks.{leavesArea, blocksOf, readOf}
 use Rattle.block_status.specs.Status.{statusOf, statusesOf, statusReply}
 use Rattle.block_bytes.specs.Block.{blockOf}
 use Rattle.block_writes.specs.Writes.{mayWriteAll, writeOf, lockOf}
-use Rattle.config.specs.Config.{readConfigOf, mailboxAfterWrite, writtenCore, writeConfigOf, readDynamicOf, writeDynamicOf}
-use Rattle.message.specs.Message.{takesMessage, writeMessageOf, lengthOf, asked, mailboxAfterRead, readMessageOf}
+use Rattle.config.specs.Config.{readConfigOf, mailboxAfterWrite, writtenCore, writeConfigOf}
+use Rattle.dynamic_config.specs.DynamicConfig.{readDynamicOf, writeDynamicOf}
+use Rattle.message_writes.specs.WriteMessage.{takesMessage, writeMessageOf}
+use Rattle.message.specs.Message.{lengthOf, asked, mailboxAfterRead, readMessageOf}
 use Rattle.password.specs.Password.{presentOf, writePasswordOf}
 use Rattle.radio_state.specs.RadioState.{stayQuietOf, selectUidOf, resetToReadyOf}
 use Rattle.serve.specs.Commands.{serveCommand, serveCode, serveOf}

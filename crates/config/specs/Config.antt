@@ -1,8 +1,8 @@
--- Commands on registers: A0, A1 Config; AD, AE Dynamic.
-use mathlib.Core.Bool.{Bool, not, _&&_, _||_}
+-- Commands on the system registers: A0, A1 Config.
+use mathlib.Core.Bool.{not, _||_}
 use mathlib.Core.List.{List, [], _∷_}
 use Prim.Native.Nat.{ℕ}
-use lib.Dec.{leb, eqb}
+use lib.Dec.{eqb}
 use Rattle.parts.specs.Pick.{pick}
 use Rattle.parts.specs.Bits.{isSet}
 use Rattle.registers.specs.declared.WriteRule.{WriteRule}
@@ -12,12 +12,12 @@ use Rattle.registers.specs.Map.{registerAt, written}
 use Rattle.areas.specs.Ends.{endAllows}
 use Rattle.tag.specs.declared.Mailbox.{Mailbox}
 use Rattle.tag.specs.declared.Core.{Core}
-use Rattle.tag.specs.Mailbox.{controlByte, disabled, controlled}
+use Rattle.tag.specs.Mailbox.{disabled}
 use Rattle.tag.specs.Parts.{withRegisters, withMailbox}
-use Rattle.errors.specs.declared.RadioError.the-variants.{NoSuchRegister, ConfigurationClosed, EndRefused, NoSuchDynamicRegister}
+use Rattle.errors.specs.declared.RadioError.the-variants.{NoSuchRegister, ConfigurationClosed, EndRefused}
 use Rattle.reply.specs.declared.RadioSide.{RadioSide}
 use Rattle.reply.specs.Reply.{good}
-use Rattle.reply.specs.Outcome.{CommandResult, commandResult, fails, withRadioCore, sideMailbox}
+use Rattle.reply.specs.Outcome.{CommandResult, commandResult, fails, withRadioCore}
 
 -- "A0 Config": the register's byte
 unfoldable pub readConfigOf : RadioSide → List ℕ → ℕ → CommandResult
@@ -44,14 +44,3 @@ writeConfigOf s m p x =
     (pick (isSet 1 (s .core .registers .config .bits) || not (eqb (s .air .session) 1)) (fails ConfigurationClosed s m)
     (pick (not (endAllows (s .core .registers .ends) p x)) (fails EndRefused s m)
     (commandResult (good []) (withRadioCore (writtenCore (s .core) p x) s) m)))
-
--- "AD, AE Dynamic: pointer 0D, else 10h; as MB_CTRL_Dyn"
-unfoldable pub readDynamicOf : RadioSide → List ℕ → ℕ → CommandResult
-readDynamicOf s m p =
-    pick (not (eqb p 0x0D)) (fails NoSuchDynamicRegister s m)
-    (commandResult (good (controlByte (s .core .mailbox) ∷ [])) s m)
-
-unfoldable pub writeDynamicOf : RadioSide → List ℕ → Bool → ℕ → ℕ → CommandResult
-writeDynamicOf s m vcc p x =
-    pick (not (eqb p 0x0D)) (fails NoSuchDynamicRegister s m)
-    (commandResult (good []) (sideMailbox (controlled x (s .core .registers .mode) vcc (s .core .mailbox)) s) m)

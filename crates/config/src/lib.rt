@@ -1,7 +1,7 @@
-// Commands on registers, static and dynamic.
+// Commands on the system registers.
 ghost use mathlib.Core.Path.{_≡_};
 ghost use Rattle.reply.specs.Outcome.{radioResult, finish};
-ghost use Rattle.config.specs.Config.{readConfigOf, mailboxAfterWrite, writtenCore, writeConfigOf, readDynamicOf, writeDynamicOf};
+ghost use Rattle.config.specs.Config.{readConfigOf, mailboxAfterWrite, writtenCore, writeConfigOf};
 use errors::RadioError;
 use registers::WriteRule;
 use reply::RadioOutcome;
@@ -82,48 +82,6 @@ pub fn write(s: RadioSide, m: &[u8], out: &mut [u8], p: u8, x: u8) -> RadioOutco
     let core = written_core(s.core, p, x);
     let mut next = s;
     next.core = core;
-    RadioOutcome {
-        answer: reply::done(out),
-        side: next,
-    }
-}
-
-// AD.
-pub fn read_dynamic(s: RadioSide, m: &[u8], out: &mut [u8], p: u8) -> RadioOutcome
-    ensures { λ r. ⌜ radioResult r (now (m .entry)) (now (out .exit)) ≡ finish (readDynamicOf s (now (m .entry)) p) (now (out .entry)) ⌝ }
-{
-    if p != 0x0D {
-        return RadioOutcome {
-            answer: reply::error(out, RadioError::NoSuchDynamicRegister),
-            side: s,
-        };
-    }
-    let x = s.core.mailbox.control_byte();
-    RadioOutcome {
-        answer: reply::byte(out, x),
-        side: s,
-    }
-}
-
-// AE.
-pub fn write_dynamic(
-    s: RadioSide,
-    m: &[u8],
-    out: &mut [u8],
-    vcc: bool,
-    p: u8,
-    x: u8,
-) -> RadioOutcome
-    ensures { λ r. ⌜ radioResult r (now (m .entry)) (now (out .exit)) ≡ finish (writeDynamicOf s (now (m .entry)) vcc p x) (now (out .entry)) ⌝ }
-{
-    if p != 0x0D {
-        return RadioOutcome {
-            answer: reply::error(out, RadioError::NoSuchDynamicRegister),
-            side: s,
-        };
-    }
-    let mode = s.core.registers.mode;
-    let next = s.with_mailbox(s.core.mailbox.control(x, mode, vcc));
     RadioOutcome {
         answer: reply::done(out),
         side: next,

@@ -6,8 +6,8 @@ use lib.Dec.{leb, ltb, eqb}
 use lib.ListN.{getD}
 use Rattle.parts.specs.Pick.{pick}
 use Rattle.registers.specs.Map.{registerAt}
-use Rattle.areas.specs.declared.Side.the-variants.{Wire}
-use Rattle.areas.specs.Rights.{mayRead}
+use Rattle.rights.specs.declared.Side.the-variants.{Wire}
+use Rattle.rights.specs.Rights.{mayRead}
 use Rattle.tag.specs.declared.Space.{Space}
 use Rattle.tag.specs.declared.Space.the-variants.{User, System}
 use Rattle.tag.specs.declared.Mailbox.{Mailbox}

@@ -2,7 +2,7 @@
 ghost use mathlib.Core.Path.{_≡_};
 ghost use Prim.Native.Nat.{_-_};
 ghost use Rattle.fetch.specs.Fetch.{memoryByte, mailboxByte, userByte, systemByte, fetched, isLast};
-use areas::Side;
+use rights::Side;
 use tag::Core;
 use tag::Mailbox;
 use tag::Space;
@@ -11,7 +11,7 @@ use tag::Uid;
 fn memory_byte(c: Core, session: bool, m: &[u8], a: u16) -> u8
     ensures { λ r. ⌜ r ≡ memoryByte c session (now (m .entry)) a ⌝ }
 {
-    if areas::may_read(c.registers, Side::Wire(session), a / 4) {
+    if rights::may_read(c.registers, Side::Wire(session), a / 4) {
         return parts::byte_at(m, a as usize);
     }
     0xFF

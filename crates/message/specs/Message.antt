@@ -1,29 +1,17 @@
--- Commands on the mailbox: AA Write Message, AB Length, AC Read.
-use mathlib.Core.Bool.{Bool, not, _&&_, _||_}
+-- Commands that read the mailbox: AB Length, AC Read.
+use mathlib.Core.Bool.{not, _&&_, _||_}
 use mathlib.Core.List.{List, [], _∷_}
 use Prim.Native.Nat.{ℕ, _+_}
 use lib.Dec.{ltb, eqb}
-use lib.Seq.{sets}
 use Rattle.parts.specs.Pick.{pick}
 use Rattle.parts.specs.Bytes.{bytesAt}
-use Rattle.tag.specs.declared.Message.{Message}
 use Rattle.tag.specs.declared.Mailbox.{Mailbox}
 use Rattle.tag.specs.Layout.{mailboxPlace}
-use Rattle.tag.specs.Mailbox.{lengthByte, radioPut, radioRead}
-use Rattle.errors.specs.declared.RadioError.the-variants.{MailboxUnavailable, MailboxDisabled, PastMessage}
+use Rattle.tag.specs.Mailbox.{lengthByte, radioRead}
+use Rattle.errors.specs.declared.RadioError.the-variants.{MailboxDisabled, PastMessage}
 use Rattle.reply.specs.declared.RadioSide.{RadioSide}
 use Rattle.reply.specs.Reply.{good}
 use Rattle.reply.specs.Outcome.{CommandResult, commandResult, fails, sideMailbox}
-
--- "MB_EN and no PUT"
-unfoldable pub takesMessage : Mailbox → Bool
-takesMessage b = b .enabled && not (b .host .put) && not (b .rf .put)
-
--- "AA Write Message: length-1, data; 0Fh unless MB_EN and no PUT"; more is length-1, the data stand at place `at` of the frame
-unfoldable pub writeMessageOf : RadioSide → List ℕ → ℕ → List ℕ → ℕ → CommandResult
-writeMessageOf s m more frame at =
-    pick (not (takesMessage (s .core .mailbox))) (fails MailboxUnavailable s m)
-    (commandResult (good []) (sideMailbox (radioPut (more + 1) (s .core .mailbox)) s) (sets m mailboxPlace (bytesAt frame at (more + 1))))
 
 -- "AB Length: 0Fh if MB_EN is 0; MB_LEN_Dyn"
 unfoldable pub lengthOf : RadioSide → List ℕ → CommandResult

@@ -10,11 +10,11 @@ use borrow.Author.Tests.{leb-false, lt-leb, ltb-true, ltb-false, lt-ltb, eqb-tru
 use Rattle.parts.specs.Pick.{pick}
 use Rattle.parts.proofs.Bools.{and-left, and-right, and-both}
 use Rattle.parts.proofs.Picks.{pick-case}
-use Rattle.areas.specs.declared.Side.the-variants.{Wire}
+use Rattle.rights.specs.declared.Side.the-variants.{Wire}
 use Rattle.areas.specs.Ends.{areaOfBlock, areaOfByte}
-use Rattle.areas.specs.Rights.{isLocked, writeRight, mayWrite}
+use Rattle.rights.specs.Rights.{isLocked, writeRight, mayWrite}
 use Rattle.areas.proofs.Kept.{byte-in-blocks-area}
-use Rattle.areas.proofs.Runs.{area-between, unlocked}
+use Rattle.rights.proofs.Runs.{area-between, unlocked}
 use Rattle.tag.specs.declared.Core.{Core}
 use Rattle.tag.specs.declared.Space.the-variants.{User}
 use Rattle.tag.specs.Layout.{page}

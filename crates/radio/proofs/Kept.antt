@@ -42,8 +42,10 @@ use Rattle.judge.specs.Judge.{judge}
 use Rattle.blocks.specs.Blocks.{readOf}
 use Rattle.block_status.specs.Status.{statusReply}
 use Rattle.block_writes.specs.Writes.{writeOf, lockOf}
-use Rattle.config.specs.Config.{mailboxByRule, mailboxAfterWrite, writtenCore, readConfigOf, writeConfigOf, readDynamicOf, writeDynamicOf}
+use Rattle.config.specs.Config.{mailboxByRule, mailboxAfterWrite, writtenCore, readConfigOf, writeConfigOf}
+use Rattle.dynamic_config.specs.DynamicConfig.{readDynamicOf, writeDynamicOf}
 use Rattle.message.specs.Message as message
+use Rattle.message_writes.specs.WriteMessage.{takesMessage, writeMessageOf}
 use Rattle.password.specs.Password.{presentOf, writePasswordOf}
 use Rattle.radio_state.specs.RadioState.{stayQuietOf, selectUidOf, resetToReadyOf}
 use Rattle.request.specs.declared.RequestFields.{RequestFields}
@@ -204,8 +206,8 @@ module _ (vcc : Bool) (t : RadioSide) (m : List ℕ) (f : Fits vcc t) where
   unfolding message.lengthOf
   length-kept = pick-case K _ _ _ (λ h. same _) (λ h. same _)
 
-  write-message-kept : (more : ℕ) (frame : List ℕ) (at : ℕ) → more < 256 → K (message.writeMessageOf t m more frame at)
-  unfolding message.writeMessageOf message.takesMessage
+  write-message-kept : (more : ℕ) (frame : List ℕ) (at : ℕ) → more < 256 → K (writeMessageOf t m more frame at)
+  unfolding writeMessageOf takesMessage
   write-message-kept more frame at l =
       let b = t .core .mailbox in
       pick-case K (not (b .enabled && not (b .host .put) && not (b .rf .put))) _ _ (λ h. same _)

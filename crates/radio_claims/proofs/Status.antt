@@ -14,9 +14,9 @@ use Rattle.parts.specs.Bytes.{bytesAt}
 use Rattle.parts.proofs.Picks.{pick-case, pick-false}
 use Rattle.registers.specs.declared.Ends.{Ends}
 use Rattle.registers.specs.declared.Registers.{Registers}
-use Rattle.areas.specs.declared.Side.the-variants.{Radio}
+use Rattle.rights.specs.declared.Side.the-variants.{Radio}
 use Rattle.areas.specs.Ends.{areaOfBlock}
-use Rattle.areas.specs.Rights.{mayWrite}
+use Rattle.rights.specs.Rights.{mayWrite}
 use Rattle.tag.specs.declared.Uid.{Uid}
 use Rattle.errors.specs.declared.RadioError.the-variants.{WriteForbidden}
 use Rattle.reply.specs.declared.RadioSide.{RadioSide}

@@ -3,9 +3,9 @@ use mathlib.Core.Bool.{Bool, false, not, _&&_, _||_}
 use Prim.Native.Nat.{ℕ, _+_, _/_}
 use lib.Dec.{leb, ltb, eqb}
 use Rattle.parts.specs.Pick.{pick}
-use Rattle.areas.specs.declared.Side.the-variants.{Wire}
+use Rattle.rights.specs.declared.Side.the-variants.{Wire}
 use Rattle.areas.specs.Ends.{areaOfByte}
-use Rattle.areas.specs.Rights.{mayWrite}
+use Rattle.rights.specs.Rights.{mayWrite}
 use Rattle.tag.specs.declared.Mailbox.{Mailbox}
 use Rattle.tag.specs.declared.Core.{Core}
 use Rattle.tag.specs.Layout.{userBytes}

@@ -1,7 +1,7 @@
 // Whether a data byte is Acked in user space.
 ghost use mathlib.Core.Path.{_≡_};
 ghost use Rattle.user_rule.specs.UserRule.{memoryAcked, mailboxAcked, userAcked};
-use areas::Side;
+use rights::Side;
 use tag::Core;
 use tag::Mailbox;
 
@@ -15,7 +15,7 @@ fn memory_acked(c: Core, session: bool, f: u16, k: u16) -> bool
     let a = at as u16;
     let first = areas::area_of_byte(c.registers.ends, f);
     let area = areas::area_of_byte(c.registers.ends, a);
-    let may = areas::may_write(c.registers, Side::Wire(session), a / 4);
+    let may = rights::may_write(c.registers, Side::Wire(session), a / 4);
     !c.mailbox.enabled & (first == area) & may
 }
 

@@ -1,0 +1,24 @@
+-- AA Write Message.
+use mathlib.Core.Bool.{Bool, not, _&&_}
+use mathlib.Core.List.{List, []}
+use Prim.Native.Nat.{ℕ, _+_}
+use lib.Seq.{sets}
+use Rattle.parts.specs.Pick.{pick}
+use Rattle.parts.specs.Bytes.{bytesAt}
+use Rattle.tag.specs.declared.Mailbox.{Mailbox}
+use Rattle.tag.specs.Layout.{mailboxPlace}
+use Rattle.tag.specs.Mailbox.{radioPut}
+use Rattle.errors.specs.declared.RadioError.the-variants.{MailboxUnavailable}
+use Rattle.reply.specs.declared.RadioSide.{RadioSide}
+use Rattle.reply.specs.Reply.{good}
+use Rattle.reply.specs.Outcome.{CommandResult, commandResult, fails, sideMailbox}
+
+-- "MB_EN and no PUT"
+unfoldable pub takesMessage : Mailbox → Bool
+takesMessage b = b .enabled && not (b .host .put) && not (b .rf .put)
+
+-- "AA Write Message: length-1, data; 0Fh unless MB_EN and no PUT"; more is length-1, the data stand at place `at` of the frame
+unfoldable pub writeMessageOf : RadioSide → List ℕ → ℕ → List ℕ → ℕ → CommandResult
+writeMessageOf s m more frame at =
+    pick (not (takesMessage (s .core .mailbox))) (fails MailboxUnavailable s m)
+    (commandResult (good []) (sideMailbox (radioPut (more + 1) (s .core .mailbox)) s) (sets m mailboxPlace (bytesAt frame at (more + 1))))

@@ -1,0 +1,80 @@
+-- Rights and locks: who may read and who may write an area or a block.
+use mathlib.Core.Bool.{Bool, true, false, not, _&&_, _||_}
+use Prim.Native.Nat.{ℕ, _+_, _/_, _%_}
+use lib.Dec.{ltb, eqb}
+use Rattle.parts.specs.Pick.{pick}
+use Rattle.parts.specs.Bits.{isSet}
+use Rattle.registers.specs.declared.RfaSs.{RfaSs}
+use Rattle.registers.specs.declared.I2cSs.{I2cSs}
+use Rattle.registers.specs.declared.LockCcFile.{LockCcFile}
+use Rattle.registers.specs.declared.Security.{Security}
+use Rattle.registers.specs.declared.Registers.{Registers}
+use Rattle.rights.specs.declared.Side.{Side}
+use Rattle.rights.specs.declared.Side.the-variants.{Wire, Radio}
+use Rattle.areas.specs.Ends.{areaOfBlock}
+
+-- RFAiSS of an area, 1 to 4
+unfoldable pub securityOf : Security → ℕ → RfaSs
+securityOf s area =
+    pick (eqb area 1) (s .area1)
+    (pick (eqb area 2) (s .area2)
+    (pick (eqb area 3) (s .area3)
+    (s .area4)))
+
+-- "RFAiSS bits 1-0 name password 1 to 3 (0: none opens it)"; "radio session 0 none, 1 to 4 for passwords 0 to 3"
+unfoldable pub sessionOpens : RfaSs → ℕ → Bool
+sessionOpens s session = not (eqb (s .bits % 4) 0) && eqb session (s .bits % 4 + 1)
+
+-- "Bits 3-2: 0 read and write free; 1 write needs the session; 2 read and write need it; 3 read needs it, write never."
+abbrev pub setting : RfaSs → ℕ
+setting s = s .bits / 4 % 4
+
+unfoldable pub radioWrites : RfaSs → ℕ → Bool
+radioWrites s session =
+    pick (eqb (setting s) 0) true
+    (pick (eqb (setting s) 3) false
+    (sessionOpens s session))
+
+-- "Area 1 is always readable."
+unfoldable pub radioReads : RfaSs → ℕ → ℕ → Bool
+radioReads s area session =
+    pick (eqb area 1) true
+    (pick (ltb (setting s) 2) true
+    (sessionOpens s session))
+
+-- "I2CSS has two bits an area, area 1 lowest"
+unfoldable pub wireBits : I2cSs → ℕ → ℕ
+wireBits s area =
+    pick (eqb area 1) (s .bits % 4)
+    (pick (eqb area 2) (s .bits / 4 % 4)
+    (pick (eqb area 3) (s .bits / 16 % 4)
+    (s .bits / 64 % 4)))
+
+-- "low bit, write needs the I2C session"
+unfoldable pub wireWrites : I2cSs → ℕ → Bool → Bool
+wireWrites s area session = session || not (isSet 1 (wireBits s area))
+
+-- "high bit, read needs it, ignored in area 1"
+unfoldable pub wireReads : I2cSs → ℕ → Bool → Bool
+wireReads s area session = session || eqb area 1 || not (isSet 2 (wireBits s area))
+
+-- "LOCK_CCFILE bits 0 and 1 lock blocks 0 and 1 against writing by either side."
+unfoldable pub isLocked : LockCcFile → ℕ → Bool
+isLocked s block = (eqb block 0 && isSet 1 (s .bits)) || (eqb block 1 && isSet 2 (s .bits))
+
+-- a side, with the session that it has open, may read or write an area
+unfoldable pub readRight : Registers → Side → ℕ → Bool
+readRight r (Wire session) area = wireReads (r .i2css) area session
+readRight r (Radio session) area = radioReads (securityOf (r .security) area) area session
+
+unfoldable pub writeRight : Registers → Side → ℕ → Bool
+writeRight r (Wire session) area = wireWrites (r .i2css) area session
+writeRight r (Radio session) area = radioWrites (securityOf (r .security) area) session
+
+-- whether a side may read a block
+unfoldable pub mayRead : Registers → Side → ℕ → Bool
+mayRead r by block = readRight r by (areaOfBlock (r .ends) block)
+
+-- whether a side may write a block: the one place that decides it
+unfoldable pub mayWrite : Registers → Side → ℕ → Bool
+mayWrite r by block = not (isLocked (r .ccfile) block) && writeRight r by (areaOfBlock (r .ends) block)

@@ -1,0 +1,132 @@
+// The rights and locks of both sides.
+ghost use mathlib.Core.Path.{_≡_};
+ghost use Rattle.rights.specs.Rights.{securityOf, sessionOpens, radioWrites, radioReads, wireBits, wireWrites, wireReads, isLocked, readRight, writeRight, mayRead, mayWrite};
+use registers::I2cSs;
+use registers::LockCcFile;
+use registers::Registers;
+use registers::RfaSs;
+use registers::Security;
+
+// RFAiSS of an area.
+pub fn security_of(s: Security, area: u8) -> RfaSs
+    ensures { λ r. ⌜ r ≡ securityOf s area ⌝ }
+{
+    if area == 1 {
+        return s.area1;
+    }
+    if area == 2 {
+        return s.area2;
+    }
+    if area == 3 {
+        return s.area3;
+    }
+    s.area4
+}
+
+// Whether the open radio session is the one that an area names.
+fn session_opens(s: RfaSs, session: u8) -> bool
+    ensures { λ r. ⌜ r ≡ sessionOpens s session ⌝ }
+{
+    (s.bits % 4 != 0) & (session == s.bits % 4 + 1)
+}
+
+fn radio_writes(s: RfaSs, session: u8) -> bool
+    ensures { λ r. ⌜ r ≡ radioWrites s session ⌝ }
+{
+    if s.bits / 4 % 4 == 0 {
+        return true;
+    }
+    if s.bits / 4 % 4 == 3 {
+        return false;
+    }
+    session_opens(s, session)
+}
+
+fn radio_reads(s: RfaSs, area: u8, session: u8) -> bool
+    ensures { λ r. ⌜ r ≡ radioReads s area session ⌝ }
+{
+    if area == 1 {
+        return true;
+    }
+    if s.bits / 4 % 4 < 2 {
+        return true;
+    }
+    session_opens(s, session)
+}
+
+// The two bits of I2CSS of an area.
+fn wire_bits(s: I2cSs, area: u8) -> u8
+    ensures { λ r. ⌜ r ≡ wireBits s area ⌝ }
+{
+    if area == 1 {
+        return s.bits % 4;
+    }
+    if area == 2 {
+        return s.bits / 4 % 4;
+    }
+    if area == 3 {
+        return s.bits / 16 % 4;
+    }
+    s.bits / 64 % 4
+}
+
+fn wire_writes(s: I2cSs, area: u8, session: bool) -> bool
+    ensures { λ r. ⌜ r ≡ wireWrites s area session ⌝ }
+{
+    let bits = wire_bits(s, area);
+    session | !(bits / 1 % 2 == 1)
+}
+
+fn wire_reads(s: I2cSs, area: u8, session: bool) -> bool
+    ensures { λ r. ⌜ r ≡ wireReads s area session ⌝ }
+{
+    let bits = wire_bits(s, area);
+    session | (area == 1) | !(bits / 2 % 2 == 1)
+}
+
+// Whether LOCK_CCFILE locks a block.
+pub fn is_locked(s: LockCcFile, block: u16) -> bool
+    ensures { λ r. ⌜ r ≡ isLocked s block ⌝ }
+{
+    ((block == 0) & (s.bits / 1 % 2 == 1)) | ((block == 1) & (s.bits / 2 % 2 == 1))
+}
+
+// The side that asks, with its open session: on the wire whether, on the radio which.
+pub enum Side {
+    Wire(bool),
+    Radio(u8),
+}
+
+// Whether a side may read an area.
+pub fn read_right(r: Registers, by: Side, area: u8) -> bool
+    ensures { λ b. ⌜ b ≡ readRight r by area ⌝ }
+{
+    match by {
+        Side::Wire(session) => wire_reads(r.i2css, area, session),
+        Side::Radio(session) => radio_reads(security_of(r.security, area), area, session),
+    }
+}
+
+// Whether a side may write an area.
+pub fn write_right(r: Registers, by: Side, area: u8) -> bool
+    ensures { λ b. ⌜ b ≡ writeRight r by area ⌝ }
+{
+    match by {
+        Side::Wire(session) => wire_writes(r.i2css, area, session),
+        Side::Radio(session) => radio_writes(security_of(r.security, area), session),
+    }
+}
+
+// Whether a side may read a block.
+pub fn may_read(r: Registers, by: Side, block: u16) -> bool
+    ensures { λ b. ⌜ b ≡ mayRead r by block ⌝ }
+{
+    read_right(r, by, areas::area_of_block(r.ends, block))
+}
+
+// Whether a side may write a block: all that write ask here.
+pub fn may_write(r: Registers, by: Side, block: u16) -> bool
+    ensures { λ b. ⌜ b ≡ mayWrite r by block ⌝ }
+{
+    !is_locked(r.ccfile, block) & write_right(r, by, areas::area_of_block(r.ends, block))
+}

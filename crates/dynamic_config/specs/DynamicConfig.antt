@@ -4,6 +4,7 @@ use mathlib.Core.List.{List, [], _∷_}
 use Prim.Native.Nat.{ℕ}
 use lib.Dec.{eqb}
 use Rattle.parts.specs.Pick.{pick}
+use Rattle.dynamic.specs.Dynamic.{mbCtrlPointer}
 use Rattle.tag.specs.Mailbox.{controlByte, controlled}
 use Rattle.errors.specs.declared.RadioError.the-variants.{NoSuchDynamicRegister}
 use Rattle.reply.specs.declared.RadioSide.{RadioSide}
@@ -13,10 +14,10 @@ use Rattle.reply.specs.Outcome.{CommandResult, commandResult, fails, sideMailbo
 -- "AD, AE Dynamic: pointer 0D, else 10h; as MB_CTRL_Dyn"
 unfoldable pub readDynamicOf : RadioSide → List ℕ → ℕ → CommandResult
 readDynamicOf s m p =
-    pick (not (eqb p 0x0D)) (fails NoSuchDynamicRegister s m)
+    pick (not (eqb p mbCtrlPointer)) (fails NoSuchDynamicRegister s m)
     (commandResult (good (controlByte (s .core .mailbox) ∷ [])) s m)
 
 unfoldable pub writeDynamicOf : RadioSide → List ℕ → Bool → ℕ → ℕ → CommandResult
 writeDynamicOf s m vcc p x =
-    pick (not (eqb p 0x0D)) (fails NoSuchDynamicRegister s m)
+    pick (not (eqb p mbCtrlPointer)) (fails NoSuchDynamicRegister s m)
     (commandResult (good []) (sideMailbox (controlled x (s .core .registers .mode) vcc (s .core .mailbox)) s) m)

@@ -10,7 +10,7 @@ use reply::RadioSide;
 pub fn read_dynamic(s: RadioSide, m: &[u8], out: &mut [u8], p: u8) -> RadioOutcome
     ensures { λ r. ⌜ radioResult r (now (m .entry)) (now (out .exit)) ≡ finish (readDynamicOf s (now (m .entry)) p) (now (out .entry)) ⌝ }
 {
-    if p != 0x0D {
+    if p != dynamic::MB_CTRL_POINTER {
         return RadioOutcome {
             answer: reply::error(out, RadioError::NoSuchDynamicRegister),
             side: s,
@@ -34,7 +34,7 @@ pub fn write_dynamic(
 ) -> RadioOutcome
     ensures { λ r. ⌜ radioResult r (now (m .entry)) (now (out .exit)) ≡ finish (writeDynamicOf s (now (m .entry)) vcc p x) (now (out .entry)) ⌝ }
 {
-    if p != 0x0D {
+    if p != dynamic::MB_CTRL_POINTER {
         return RadioOutcome {
             answer: reply::error(out, RadioError::NoSuchDynamicRegister),
             side: s,

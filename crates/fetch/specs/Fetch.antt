@@ -16,6 +16,7 @@ use Rattle.tag.specs.declared.Uid.{Uid}
 use Rattle.tag.specs.Layout.{userBytes, mailboxPlace}
 use Rattle.tag.specs.Mailbox.{controlByte, lengthByte}
 use Rattle.tag.specs.Keys.{uidByte}
+use Rattle.dynamic.specs.Dynamic.{rfMngtDyn, i2cSsoDyn, mbCtrlDyn, mbLenDyn, dynamicAt, mailboxFirst, mailboxLast}
 
 -- "FFh where .. read-protected"
 unfoldable pub memoryByte : Core → Bool → List ℕ → ℕ → ℕ
@@ -23,17 +24,17 @@ memoryByte c session m a = pick (mayRead (c .registers) (Wire session) (a / 4)) 
 
 -- "FFh .. in the mailbox past the length or with MB_EN 0"
 unfoldable pub mailboxByte : Mailbox → List ℕ → ℕ → ℕ
-mailboxByte b m a = pick (b .enabled && ltb (a - 0x2008) (b .length)) (getD m (mailboxPlace + (a - 0x2008)) 0) 0xFF
+mailboxByte b m a = pick (b .enabled && ltb (a - mailboxFirst) (b .length)) (getD m (mailboxPlace + (a - mailboxFirst)) 0) 0xFF
 
 -- "user space: 0000h-01FFh memory; 2003h RF_MNGT_Dyn; 2004h I2C_SSO_Dyn; 2006h MB_CTRL_Dyn; 2007h MB_LEN_Dyn; 2008h-2107h mailbox"
 unfoldable pub userByte : Core → Bool → List ℕ → ℕ → ℕ
 userByte c session m a =
     pick (ltb a userBytes) (memoryByte c session m a)
-    (pick (eqb a 0x2003) (c .registers .dynamic .bits)
-    (pick (eqb a 0x2004) (pick session 1 0)
-    (pick (eqb a 0x2006) (controlByte (c .mailbox))
-    (pick (eqb a 0x2007) (lengthByte (c .mailbox))
-    (pick (leb 0x2008 a && leb a 0x2107) (mailboxByte (c .mailbox) m a)
+    (pick (eqb a (dynamicAt rfMngtDyn)) (c .registers .dynamic .bits)
+    (pick (eqb a (dynamicAt i2cSsoDyn)) (pick session 1 0)
+    (pick (eqb a (dynamicAt mbCtrlDyn)) (controlByte (c .mailbox))
+    (pick (eqb a (dynamicAt mbLenDyn)) (lengthByte (c .mailbox))
+    (pick (leb mailboxFirst a && leb a mailboxLast) (mailboxByte (c .mailbox) m a)
     0xFF)))))
 
 -- "0018h-001Fh UID (read only)"; the other registers, and FFh where unmapped and at 0900h-0907h
@@ -46,5 +47,5 @@ fetched System c session u m a = systemByte c u a
 
 -- a is the last byte of an RF message
 unfoldable pub isLast : Space → Mailbox → ℕ → Bool
-isLast User b a = b .rf .current && eqb (a + 1) (0x2008 + b .length)
+isLast User b a = b .rf .current && eqb (a + 1) (mailboxFirst + b .length)
 isLast System b a = false

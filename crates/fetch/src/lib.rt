@@ -1,6 +1,7 @@
 // The bytes that fetches give, and whether one is the last of an RF message.
 ghost use mathlib.Core.Path.{_≡_};
 ghost use Prim.Native.Nat.{_-_};
+ghost use Rattle.dynamic.specs.Dynamic.{mailboxFirst};
 ghost use Rattle.fetch.specs.Fetch.{memoryByte, mailboxByte, userByte, systemByte, fetched, isLast};
 use rights::Side;
 use tag::Core;
@@ -19,12 +20,12 @@ fn memory_byte(c: Core, session: bool, m: &[u8], a: u16) -> u8
 
 // The place in the mailbox of an address.
 fn mailbox_place(a: u16) -> u16
-    ensures { λ r. ⌜ r ≡ a - 0x2008 ⌝ }
+    ensures { λ r. ⌜ r ≡ a - mailboxFirst ⌝ }
 {
-    if a < 0x2008 {
+    if a < dynamic::MAILBOX_FIRST {
         return 0;
     }
-    a - 0x2008
+    a - dynamic::MAILBOX_FIRST
 }
 
 fn mailbox_byte(b: Mailbox, m: &[u8], a: u16) -> u8
@@ -44,22 +45,22 @@ fn user_byte(c: Core, session: bool, m: &[u8], a: u16) -> u8
     if a < 512 {
         return memory_byte(c, session, m, a);
     }
-    if a == 0x2003 {
+    if a == dynamic::RF_MNGT_DYN {
         return c.registers.dynamic.bits;
     }
-    if a == 0x2004 {
+    if a == dynamic::I2C_SSO_DYN {
         if session {
             return 1;
         }
         return 0;
     }
-    if a == 0x2006 {
+    if a == dynamic::MB_CTRL_DYN {
         return c.mailbox.control_byte();
     }
-    if a == 0x2007 {
+    if a == dynamic::MB_LEN_DYN {
         return c.mailbox.length_byte();
     }
-    if (0x2008 <= a) & (a <= 0x2107) {
+    if (dynamic::MAILBOX_FIRST <= a) & (a <= dynamic::MAILBOX_LAST) {
         return mailbox_byte(c.mailbox, m, a);
     }
     0xFF
@@ -90,7 +91,8 @@ pub fn is_last(s: Space, b: Mailbox, a: u16) -> bool
     ensures { λ r. ⌜ r ≡ isLast s b a ⌝ }
 {
     match s {
-        Space::User => b.rf.current & (a as u32 + 1 == 0x2008 + b.length as u32),
+        Space::User => b.rf.current
+            & (a as u32 + 1 == dynamic::MAILBOX_FIRST as u32 + b.length as u32),
         Space::System => false,
     }
 }

@@ -11,12 +11,13 @@ use Rattle.tag.specs.declared.WireSide.{WireSide}
 use Rattle.tag.specs.Layout.{userBytes, mailboxPlace}
 use Rattle.tag.specs.Mailbox.{controlled, hostPut}
 use Rattle.tag.specs.Parts.{withRegisters, withMailbox, withWireCore}
+use Rattle.dynamic.specs.Dynamic.{rfMngtDyn, mbCtrlDyn, dynamicAt}
 use Rattle.effect.specs.Effect.{LegResult, legResult, programming}
 
 -- user space: memory; RF_MNGT_Dyn; MB_CTRL_Dyn, "using bit 0 only"; the mailbox, a put by the host
 unfoldable pub userWritten : WireSide → List ℕ → ℕ → List ℕ → LegResult
 userWritten w m f bs =
     pick (ltb f userBytes) (legResult (programming w) (sets m f bs))
-    (pick (eqb f 0x2003) (legResult (withWireCore (withRegisters (withDynamic (rfMngt (getD bs 0 0)) (w .core .registers)) (w .core)) w) m)
-    (pick (eqb f 0x2006) (legResult (withWireCore (withMailbox (controlled (getD bs 0 0) (w .core .registers .mode) (w .host .vcc) (w .core .mailbox)) (w .core)) w) m)
+    (pick (eqb f (dynamicAt rfMngtDyn)) (legResult (withWireCore (withRegisters (withDynamic (rfMngt (getD bs 0 0)) (w .core .registers)) (w .core)) w) m)
+    (pick (eqb f (dynamicAt mbCtrlDyn)) (legResult (withWireCore (withMailbox (controlled (getD bs 0 0) (w .core .registers .mode) (w .host .vcc) (w .core .mailbox)) (w .core)) w) m)
     (legResult (withWireCore (withMailbox (hostPut (length bs) (w .core .mailbox)) (w .core)) w) (sets m mailboxPlace bs))))

@@ -25,12 +25,12 @@ pub fn user_written(w: WireSide, m: &mut [u8], f: u16, k: u16) -> WireSide
         parts::copy_bytes(m, f as usize, tag::PAGE_AT, k as usize);
         return effect::start_programming(w);
     }
-    if f == 0x2003 {
+    if f == dynamic::RF_MNGT_DYN {
         let registers = c.registers.with_dynamic(page_byte(m, k, 0));
         c.registers = registers;
         return effect::with_core(w, c);
     }
-    if f == 0x2006 {
+    if f == dynamic::MB_CTRL_DYN {
         let mailbox = c.mailbox
             .control(page_byte(m, k, 0), c.registers.mode, w.host.vcc);
         c.mailbox = mailbox;

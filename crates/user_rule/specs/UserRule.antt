@@ -9,6 +9,7 @@ use Rattle.rights.specs.Rights.{mayWrite}
 use Rattle.tag.specs.declared.Mailbox.{Mailbox}
 use Rattle.tag.specs.declared.Core.{Core}
 use Rattle.tag.specs.Layout.{userBytes}
+use Rattle.dynamic.specs.Dynamic.{mailboxFirst, hostWrites}
 
 -- "user memory, MB_EN is 0, the byte lies in the first byte's area, no lock, rights hold"
 unfoldable pub memoryAcked : Core → Bool → ℕ → ℕ → Bool
@@ -20,11 +21,11 @@ memoryAcked c session f k =
 
 -- "mailbox, first byte at 2008h, MB_EN 1, neither PUT set"
 unfoldable pub mailboxAcked : Mailbox → ℕ → Bool
-mailboxAcked b f = eqb f 0x2008 && b .enabled && not (b .host .put) && not (b .rf .put)
+mailboxAcked b f = eqb f mailboxFirst && b .enabled && not (b .host .put) && not (b .rf .put)
 
 -- user space; "RF_MNGT_Dyn and MB_CTRL_Dyn, always": the byte after either is read only
 unfoldable pub userAcked : Core → Bool → ℕ → ℕ → Bool
 userAcked c session f k =
     pick (ltb f userBytes) (memoryAcked c session f k)
-    (pick (eqb f 0x2003 || eqb f 0x2006) (eqb k 0)
+    (pick (hostWrites f) (eqb k 0)
     (mailboxAcked (c .mailbox) f))

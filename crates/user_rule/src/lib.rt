@@ -22,7 +22,7 @@ fn memory_acked(c: Core, session: bool, f: u16, k: u16) -> bool
 fn mailbox_acked(b: Mailbox, f: u16) -> bool
     ensures { λ r. ⌜ r ≡ mailboxAcked b f ⌝ }
 {
-    (f == 0x2008) & b.enabled & !b.host.put & !b.rf.put
+    (f == dynamic::MAILBOX_FIRST) & b.enabled & !b.host.put & !b.rf.put
 }
 
 // The Ack of data byte k in user space: it depends on no byte of the leg.
@@ -32,7 +32,7 @@ pub fn user_acked(c: Core, session: bool, f: u16, k: u16) -> bool
     if f < 512 {
         return memory_acked(c, session, f, k);
     }
-    if (f == 0x2003) | (f == 0x2006) {
+    if (f == dynamic::RF_MNGT_DYN) | (f == dynamic::MB_CTRL_DYN) {
         return k == 0;
     }
     mailbox_acked(c.mailbox, f)

@@ -12,6 +12,9 @@ add-result c = search needs
 cast-result : tie.Need-cast-result
 cast-result c = search needs
 
+cast-result-2 : tie.Need-cast-result-2
+cast-result-2 c = search needs
+
 add-result-2 : tie.Need-add-result-2
 add-result-2 c = search needs
 
@@ -29,4 +32,4 @@ returns-2 c = rw (c .enum-told2 .given .1)
 pub is-last-spec : {M : Type 1} → statement M
 is-last-spec =
     tie.close
-    (tie.spec enum-told add-result cast-result add-result-2 enum-told-2 returns returns-2)
+    (tie.spec enum-told add-result cast-result cast-result-2 add-result-2 enum-told-2 returns returns-2)

@@ -1,5 +1,5 @@
-//! The scripts of the example programs `wire_examples` and `entry_examples`, answered by the reference.
-//! What both have: M, bytes of the lent memory; T, bytes of the state; Z, the state.
+//! The script of the example program `entry_examples`, answered by the reference.
+//! M: bytes of the lent memory; T: bytes of the state; Z: the state.
 
 use std::io::{Read, Result, Write};
 
@@ -8,7 +8,6 @@ use crate::state;
 use crate::tag::Tag;
 
 pub mod entry;
-pub mod wire;
 
 const LONGEST_LINE: usize = 4096;
 const MOST_BYTES: usize = LONGEST_LINE / 2;

@@ -1,20 +1,18 @@
-//! The answers that the example programs must print are the reference's.
+//! The answers that the example program must print are the reference's.
 
 use std::fs;
 use std::io::Result;
 use std::path::Path;
 
-use reference::examples::{entry, wire};
+use reference::examples::entry;
 
-/// The first line that differs, if any does.
-fn compare(program: &str, run: impl Fn(&[u8], &mut Vec<u8>) -> Result<()>) -> Result<()> {
-    let folder = Path::new(env!("CARGO_MANIFEST_DIR"))
-        .join("../crates")
-        .join(program);
+#[test]
+fn entry_examples() -> Result<()> {
+    let folder = Path::new(env!("CARGO_MANIFEST_DIR")).join("../crates/entry_examples");
     let script = fs::read(folder.join("stdin"))?;
     let expected = fs::read(folder.join("stdout"))?;
     let mut answers = Vec::new();
-    run(&script, &mut answers)?;
+    entry::run(&script[..], &mut answers)?;
     let lines = |text: &[u8]| -> Vec<String> {
         let lines = text.split(|&byte| byte == b'\n');
         lines
@@ -23,22 +21,8 @@ fn compare(program: &str, run: impl Fn(&[u8], &mut Vec<u8>) -> Result<()>) -> Re
     };
     let (answers, expected) = (lines(&answers), lines(&expected));
     for (answer, expected) in answers.iter().zip(&expected) {
-        assert_eq!(answer, expected, "{program}");
+        assert_eq!(answer, expected);
     }
-    assert_eq!(answers.len(), expected.len(), "{program}");
+    assert_eq!(answers.len(), expected.len());
     Ok(())
-}
-
-#[test]
-fn wire_examples() -> Result<()> {
-    compare("wire_examples", |script, answers| {
-        wire::run(script, answers)
-    })
-}
-
-#[test]
-fn entry_examples() -> Result<()> {
-    compare("entry_examples", |script, answers| {
-        entry::run(script, answers)
-    })
 }

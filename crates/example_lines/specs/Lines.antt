@@ -1,16 +1,15 @@
--- Lines of the example programs' scripts, and what all of these programs do with them.
+-- Lines of the example program's script, and what it does with them.
 use mathlib.Core.Bool.{Bool, true, false}
 use mathlib.Core.List.{List, [], _∷_, _++_}
 use Prim.Native.Nat.{ℕ, _+_, _-_, min}
 use lib.Dec.{ltb}
-use lib.ListN.{getD, length, take, drop, replicate}
+use lib.ListN.{getD, length, take, drop}
 use lib.Seq.{sets}
 use Rattle.parts.specs.Pick.{pick}
 use Rattle.parts.specs.Bytes.{bytesAt}
 use Rattle.text.specs.Decimal.{decimal}
 use Rattle.text.specs.Line.{lineLength}
 use Rattle.tag.specs.declared.Uid.{Uid}
-use Rattle.tag.specs.Layout.{memoryBytes}
 use Rattle.select.specs.Select.{address}
 
 -- the UID of the examples' tags
@@ -28,10 +27,6 @@ nextAt s at = min (at + lineLength (drop at s) + 1) (length s)
 -- what stands before a line's answer
 abbrev pub numberText : ℕ → List ℕ
 numberText n = decimal n ++ 9 ∷ []
-
--- the memory of a fresh tag
-abbrev pub zeroed : List ℕ → List ℕ
-zeroed m = sets m 0 (replicate memoryBytes 0)
 
 -- two bytes from a place on, high first
 abbrev pub wordAt : List ℕ → ℕ → ℕ

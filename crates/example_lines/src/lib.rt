@@ -1,4 +1,4 @@
-// What the example programs share: a script from standard input, its lines, and the lines that answer them.
+// For the example program: a script from standard input, its lines, and the lines that answer them.
 ghost use mathlib.Core.Path.{_≡_};
 ghost use lib.ListN.{set};
 ghost use Rattle.io.specs.Counts.{Counts};
@@ -6,12 +6,12 @@ ghost use Rattle.text.specs.Place.{stored, textAt};
 ghost use Rattle.text.specs.Hex.{hexText};
 ghost use Rattle.state.specs.Layout.{bytesOf};
 ghost use Rattle.example_lines.specs.States.{patchedOf};
-ghost use Rattle.example_lines.specs.Lines.{exampleUid, scriptLine, nextAt, numberText, zeroed, wordAt, placed, placedOf};
+ghost use Rattle.example_lines.specs.Lines.{exampleUid, scriptLine, nextAt, numberText, wordAt, placed, placedOf};
 use tag::Tag;
 use tag::Uid;
 
 // More bytes than a script has.
-pub const SCRIPT: usize = 262144;
+pub const SCRIPT: usize = 524288;
 
 // More bytes than a line's answer has.
 pub const ANSWER: usize = 1500;
@@ -64,14 +64,6 @@ pub fn word_at(s: &[u8], i: usize) -> u16
     ensures { λ r. ⌜ r ≡ wordAt (now (s .entry)) i ⌝ }
 {
     select::address(parts::byte_at(s, i), parts::byte_in(s, i, 1))
-}
-
-// Clears the memory.
-pub fn clear(m: &mut [u8])
-    ensures { λ _. ⌜ now (m .exit) ≡ zeroed (now (m .entry)) ⌝ }
-{
-    let zeros = [0u8; 1024];
-    parts::put_bytes(m, 0, &zeros, 0, tag::MEMORY_BYTES);
 }
 
 // Stores a line's bytes at the place that its first two name, and says whether they lie in the memory. Else none is.

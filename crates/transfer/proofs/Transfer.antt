@@ -21,6 +21,7 @@ use Rattle.effect.specs.Effect.{LegResult, legResult}
 use Rattle.leg.specs.Leg.{stopped, started, powerLost, Due, nothingDue, clears, writes, settle}
 use Rattle.signal.specs.declared.WireAnswer.the-variants.{Nothing, NoAck}
 use Rattle.signal.specs.Signal.{WireResult, wireResult, sideBus, dueOf, startAt, startOf, stopAt}
+use Rattle.signal.proofs.Ended.{start-host}
 use Rattle.send.specs.Send.{selectBy, sendAt}
 use Rattle.wire.specs.Wire.{fetchAt, signalOf}
 use Rattle.transfer.specs.Legs.{Noted, NotedStart, NotedSend, NotedFetch, NotedStop, NotedVccOff, wireSignal, selectRefused, Move, moveSend, moveFetch, Finish, atStop, atVccOff, atRefusal, Legs, leg, last, parse}
@@ -37,12 +38,6 @@ unfolding settle
 start-bus nothingDue b w m = refl
 start-bus clears b w m = refl
 start-bus (writes s f xs) b w m = refl
-
-start-host : (d : Due) (w : WireSide) (m : List ℕ) → settle started d w m .side .host ≡ w .host
-unfolding settle
-start-host nothingDue w m = refl
-start-host clears w m = refl
-start-host (writes s f xs) w m = refl
 
 start-memory : (d : Due) (w : WireSide) (m : List ℕ) → settle started d w m .memory ≡ m
 unfolding settle

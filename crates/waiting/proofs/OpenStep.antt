@@ -3,31 +3,25 @@ use mathlib.Core.Path.{_≡_, refl, sym, ap, subst, _∙_}
 use mathlib.Core.Bool.{Bool, true, false, not, _&&_, false≢true}
 use mathlib.Core.List.{List}
 use Prim.Native.Nat.{ℕ}
-use lib.Dec.{ltb, eqb}
-use lib.ListN.{length, getD}
 use borrow.Author.Tests.{not-true}
 use Rattle.parts.specs.Pick.{pick}
 use Rattle.parts.proofs.Picks.{pick-false, pick-case}
 use Rattle.tag.specs.declared.Space.{Space}
-use Rattle.tag.specs.declared.Space.the-variants.{User, System}
 use Rattle.tag.specs.declared.Bus.{Bus}
 use Rattle.tag.specs.declared.Bus.the-variants.{Idle, Started, ReadLeg, WriteLeg, LowAddress, DataLeg}
 use Rattle.tag.specs.declared.Host.{Host}
 use Rattle.tag.specs.declared.WireSide.{WireSide}
 use Rattle.tag.specs.declared.Uid.{Uid}
 use Rattle.tag.specs.Bus.{isOpen}
-use Rattle.tag.specs.Keys.{passwordAt, samePassword}
 use Rattle.tag.specs.Supply.{vccAt}
 use Rattle.select.specs.declared.Choice.{Choice}
 use Rattle.select.specs.declared.Choice.the-variants.{NotAcked, Reading, Writing}
 use Rattle.select.specs.Select.{selectOf, choose}
-use Rattle.effect.specs.Effect.{LegResult}
-use Rattle.leg.specs.Leg.{Due, nothingDue, clears, writes, started, stopped, settle, legWritten}
-use Rattle.user_leg.specs.UserLeg.{userWritten}
-use Rattle.system_leg.specs.SystemLeg.{systemWritten, passwordWritten}
+use Rattle.leg.specs.Leg.{started}
 use Rattle.signal.specs.declared.WireSignal.{WireSignal}
 use Rattle.signal.specs.declared.WireSignal.the-variants.{Start as SignalStart, Send, Fetch, Stop as SignalStop, Vcc, ProgrammingEnd}
-use Rattle.signal.specs.Signal.{WireResult, sideBus, dueOf, startAt, startOf, stopAt}
+use Rattle.signal.specs.Signal.{WireResult, sideBus, dueOf, startAt, startOf}
+use Rattle.signal.proofs.Ended.{start-host, stop-shut}
 use Rattle.send.specs.Send.{selectBy, dataOf, sendAt}
 use Rattle.wire.specs.Wire.{fetchAt, signalOf}
 use Rattle.transfer.specs.Legs.{Noted, NotedStart, NotedSend, NotedFetch, NotedStop, NotedVccOff, wireSignal, selectRefused, ends, fresher}
@@ -105,12 +99,6 @@ by-fetch (LowAddress s h) w u m a e o = on-at false (NotedFetch a) _ refl o (ap 
 by-fetch (DataLeg s k spoiled) w u m a e o = on-at false (NotedFetch a) _ refl o (ap isStarted e)
 
 -- ---- a Start
-start-host : (d : Due) (w : WireSide) (m : List ℕ) → settle started d w m .side .host ≡ w .host
-unfolding settle
-start-host nothingDue w m = refl
-start-host clears w m = refl
-start-host (writes s f xs) w m = refl
-
 started-host : (w : WireSide) (m : List ℕ) → startAt (w .host .bus) w m .side .host ≡ sideBus (Started (isOpen (w .host .bus))) w .host
 unfolding startAt
 started-host w m = start-host (dueOf (w .host .bus) (w .host .counter) m) (sideBus (Started (isOpen (w .host .bus))) w) m
@@ -123,39 +111,7 @@ by-start w m o =
     (on-at (isStarted (w .host .bus)) NotedStart _ refl (record { vcc = o .vcc; still = o .still; bus = o .bus }) refl))
     (λ t. absurd (false≢true (sym t ∙ o .vcc)))
 
--- ---- a Stop, VCC off
-module _ (w : WireSide) (m : List ℕ) where
-  abbrev Same : LegResult → Type 0
-  Same d = d .side .host .bus ≡ w .host .bus
-
-  user-bus : (f : ℕ) (bs : List ℕ) → Same (userWritten w m f bs)
-  unfolding userWritten
-  user-bus f bs =
-      pick-case Same (ltb f 512) _ _ (λ h. refl)
-      (λ h. pick-case Same (eqb f 0x2003) _ _ (λ h. refl) (λ h. pick-case Same (eqb f 0x2006) _ _ (λ h. refl) (λ h. refl)))
-
-  password-bus : (bs : List ℕ) → Same (passwordWritten w m bs)
-  unfolding passwordWritten
-  password-bus bs =
-      pick-case Same (ltb (length bs) 17) _ _ (λ h. refl)
-      (λ h. pick-case Same (eqb (getD bs 8 0) 0x09) _ _ (λ h. refl)
-      (λ h. pick-case Same (samePassword (passwordAt bs 0) (passwordAt bs 9)) _ _ (λ h. refl) (λ h. refl)))
-
-  leg-bus : (s : Space) (f : ℕ) (bs : List ℕ) → Same (legWritten s w m f bs)
-  unfolding legWritten systemWritten
-  leg-bus User f bs = user-bus f bs
-  leg-bus System f bs = pick-case Same (eqb f 0x0900) _ _ (λ h. password-bus bs) (λ h. refl)
-
-  settle-bus : (d : Due) → Same (settle stopped d w m)
-  unfolding settle
-  settle-bus nothingDue = refl
-  settle-bus clears = refl
-  settle-bus (writes s f bs) = leg-bus s f bs
-
-stop-shut : (w : WireSide) (m : List ℕ) → isOpen (stopAt (w .host .bus) w m .side .host .bus) ≡ false
-unfolding stopAt isOpen
-stop-shut w m = ap isOpen (settle-bus (sideBus Idle w) m (dueOf (w .host .bus) (w .host .counter) m))
-
+-- ---- VCC off
 off-shut : (w : WireSide) → w .host .vcc ≡ true → isOpen (vccAt false w .host .bus) ≡ false
 unfolding vccAt isOpen
 off-shut w v =

@@ -4,73 +4,25 @@ use mathlib.Core.Bool.{Bool, true, false, _||_, false≢true}
 use mathlib.Core.List.{List}
 use Prim.Native.Nat.{ℕ, _%_, _<_}
 use native.Mathlib.Omega.{arith}
-use lib.Dec.{ltb, eqb}
-use lib.ListN.{length, getD}
 use Rattle.parts.proofs.Picks.{pick-case}
 use Rattle.tag.specs.declared.Space.{Space}
-use Rattle.tag.specs.declared.Space.the-variants.{User, System}
 use Rattle.tag.specs.declared.Bus.{Bus}
 use Rattle.tag.specs.declared.Bus.the-variants.{Idle, Started, ReadLeg, WriteLeg, LowAddress, DataLeg}
+use Rattle.tag.specs.declared.Host.{Host}
 use Rattle.tag.specs.declared.WireSide.{WireSide}
 use Rattle.tag.specs.declared.Uid.{Uid}
 use Rattle.tag.specs.Bus.{isOpen, isActive}
-use Rattle.tag.specs.Keys.{passwordAt, samePassword}
 use Rattle.tag.specs.Supply.{vccAt}
 use Rattle.ranges.specs.Ranges.{suppliedInRange}
 use Rattle.select.specs.declared.Choice.{Choice}
 use Rattle.select.specs.declared.Choice.the-variants.{NotAcked, Reading, Writing}
-use Rattle.effect.specs.Effect.{LegResult}
-use Rattle.leg.specs.Leg.{Due, nothingDue, clears, writes, started, stopped, settle, legWritten}
-use Rattle.user_leg.specs.UserLeg.{userWritten}
-use Rattle.system_leg.specs.SystemLeg.{systemWritten, passwordWritten}
 use Rattle.signal.specs.declared.WireSignal.the-variants.{Start, Send, Fetch, Stop, Vcc, ProgrammingEnd}
 use Rattle.signal.specs.Signal.{WireResult, sideBus, dueOf, startAt, startOf, stopAt}
+use Rattle.signal.proofs.Ended.{start-host, start-registers, stop-line, stop-shut}
 use Rattle.send.specs.Send.{selectBy, dataOf, sendAt}
 use Rattle.wire.specs.Wire.{fetchAt, signalOf}
 use Rattle.wire_claims.specs.Claims.{KeepsCounter, RegistersStay}
 use Rattle.wire_claims.proofs.Kept.{inactive}
-
--- ---- the end of a leg
-module _ (w : WireSide) (m : List ℕ) where
-  -- the line is as it was
-  abbrev Same : LegResult → Type 0
-  Same d = (d .side .host .bus ≡ w .host .bus) × (d .side .host .counter ≡ w .host .counter)
-
-  user-same : (f : ℕ) (bs : List ℕ) → Same (userWritten w m f bs)
-  unfolding userWritten
-  user-same f bs =
-      pick-case Same (ltb f 512) _ _ (λ h. (refl, refl))
-      (λ h. pick-case Same (eqb f 0x2003) _ _ (λ h. (refl, refl)) (λ h. pick-case Same (eqb f 0x2006) _ _ (λ h. (refl, refl)) (λ h. (refl, refl))))
-
-  password-same : (bs : List ℕ) → Same (passwordWritten w m bs)
-  unfolding passwordWritten
-  password-same bs =
-      pick-case Same (ltb (length bs) 17) _ _ (λ h. (refl, refl))
-      (λ h. pick-case Same (eqb (getD bs 8 0) 0x09) _ _ (λ h. (refl, refl))
-      (λ h. pick-case Same (samePassword (passwordAt bs 0) (passwordAt bs 9)) _ _ (λ h. (refl, refl)) (λ h. (refl, refl))))
-
-  leg-same : (s : Space) (f : ℕ) (bs : List ℕ) → Same (legWritten s w m f bs)
-  unfolding legWritten systemWritten
-  leg-same User f bs = user-same f bs
-  leg-same System f bs = pick-case Same (eqb f 0x0900) _ _ (λ h. password-same bs) (λ h. (refl, refl))
-
-  stop-same : (d : Due) → Same (settle stopped d w m)
-  unfolding settle
-  stop-same nothingDue = (refl, refl)
-  stop-same clears = (refl, refl)
-  stop-same (writes s f bs) = leg-same s f bs
-
-  start-same : (d : Due) → Same (settle started d w m)
-  unfolding settle
-  start-same nothingDue = (refl, refl)
-  start-same clears = (refl, refl)
-  start-same (writes s f bs) = (refl, refl)
-
-  start-registers : (d : Due) → settle started d w m .side .core .registers ≡ w .core .registers
-  unfolding settle
-  start-registers nothingDue = refl
-  start-registers clears = refl
-  start-registers (writes s f bs) = refl
 
 -- ---- the counter
 below : (n : ℕ) → n % 65536 < 65536
@@ -116,11 +68,11 @@ module _ (w : WireSide) (m : List ℕ) (h : w .host .counter < 65536) where
 
   start-counter : C (startAt (w .host .bus) w m)
   unfolding startAt
-  start-counter = subst (λ (n : ℕ). n < 65536) (sym (start-same (sideBus (Started (isOpen (w .host .bus))) w) m (dueOf (w .host .bus) (w .host .counter) m) .1)) h
+  start-counter = subst (λ (n : ℕ). n < 65536) (sym (ap (λ (h : Host). h .counter) (start-host (dueOf (w .host .bus) (w .host .counter) m) (sideBus (Started (isOpen (w .host .bus))) w) m))) h
 
   stop-counter : C (stopAt (w .host .bus) w m)
   unfolding stopAt
-  stop-counter = subst (λ (n : ℕ). n < 65536) (sym (stop-same (sideBus Idle w) m (dueOf (w .host .bus) (w .host .counter) m) .1)) h
+  stop-counter = subst (λ (n : ℕ). n < 65536) (sym (stop-line (sideBus Idle w) m (dueOf (w .host .bus) (w .host .counter) m) .1)) h
 
 pub keeps-counter : KeepsCounter
 unfolding signalOf startOf
@@ -166,14 +118,9 @@ module _ (w : WireSide) (m : List ℕ) where
 
   start-stays : R (startAt (w .host .bus) w m)
   unfolding startAt
-  start-stays = start-registers (sideBus (Started (isOpen (w .host .bus))) w) m (dueOf (w .host .bus) (w .host .counter) m)
+  start-stays = start-registers (dueOf (w .host .bus) (w .host .counter) m) (sideBus (Started (isOpen (w .host .bus))) w) m
 
-  -- a Stop leaves no transfer open
-  stop-shut : isOpen (stopAt (w .host .bus) w m .side .host .bus) ≡ false
-  unfolding stopAt isOpen
-  stop-shut = ap isOpen (stop-same (sideBus Idle w) m (dueOf (w .host .bus) (w .host .counter) m) .0)
-
-  -- nor does VCC off; and VCC on from off finds none
+  -- VCC off leaves no transfer open; and VCC on from off finds none
   open-active : (b : Bus) → isOpen b ≡ true → isActive b ≡ true
   unfolding isOpen isActive
   open-active Idle h = h

@@ -11,10 +11,11 @@ use lib.Seq.{take-all, append-snoc}
 use Rattle.parts.specs.Pick.{pick}
 use Rattle.parts.proofs.Picks.{pick-case}
 use Rattle.text.specs.Line.{lineLength}
-use Rattle.script.specs.Line.{ScriptLine, longest}
+use Rattle.reading.specs.Line.{ScriptLine, longest}
 use Rattle.script.specs.Bench.{LineResult, lineResult, benchOf}
 use Rattle.script.specs.Lines.{BenchState, lineFrom, benchAfter}
-use Rattle.script.proofs.Fits.{text-fits, line-cut}
+use Rattle.script.proofs.Fits.{text-fits}
+use Rattle.reading.proofs.LineLaws.{line-cut}
 use Rattle.stream.specs.Step.{PieceResult, pieceResult, ahead, keptMost, keep, textRoom, noRoom, pieceBy}
 
 -- ---- lists

@@ -9,7 +9,7 @@ use borrow.Author.Tests.{lt-ltb, leb-false}
 use borrow.Rule.Slice.PartMut.{putMid, post-is, same-len-mid}
 use lib.ListN.{length, take, drop, length-append, length-take, length-drop, take-append-drop}
 use lib.Seq.{sets, sets-eq, take-all, take-at, drop-at, drop-drop, drop-length}
-use Rattle.script.specs.declared.Bench.{Bench}
+use Rattle.bench_start.specs.declared.Bench.{Bench}
 use Rattle.text.specs.Line.{lineLength}
 use Rattle.script.specs.Bench.{LineResult, LineBuffers, lineBuffers, putLine}
 use Rattle.script.specs.Lines.{BenchState, benchState, lineFrom, benchAfter}

@@ -5,7 +5,7 @@ use lib.Dec.{eqb, ltb}
 use lib.ListN.{length as size, take}
 use lib.Seq.{sets}
 use Rattle.parts.specs.Pick.{pick}
-use Rattle.script.specs.declared.Bench.{Bench}
+use Rattle.bench_start.specs.declared.Bench.{Bench}
 use Rattle.script.specs.Lines.{BenchState, benchState, lineFrom, benchAfter}
 
 -- what a call leaves: what is carried, the unfinished line, how many bytes of the piece it used, the texts it wrote

@@ -8,7 +8,7 @@ ghost use Rattle.parts.specs.Pick.{pick};
 ghost use Rattle.script.specs.Bench.{lineBuffers, putLine};
 ghost use Rattle.script.specs.Lines.{benchState, lineFrom};
 ghost use Rattle.stream.specs.Step.{keptMost, keep, textRoom, pieceBy, endOf, streamBuffers, puts};
-use script::Bench;
+use bench_start::Bench;
 use script::LineOutcome;
 
 // What a step leaves beside the lent buffers: the unfinished line has `have` bytes.

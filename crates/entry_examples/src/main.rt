@@ -177,8 +177,8 @@ fn act(r: EntryRun, s: &[u8], m: &mut [u8], out: &mut [u8], bytes: &mut [u8]) ->
     if s.len() == 1 {
         return alone(r, kind, m);
     }
-    if text::has_bytes(s) {
-        let n = text::line_bytes(s, bytes);
+    if lines::has_bytes(s) {
+        let n = lines::line_bytes(s, bytes);
         if bytes.len() < n {
             return bad(r);
         }
@@ -198,15 +198,15 @@ fn put_answer(text: &mut [u8], at: usize, a: Answer, out: &[u8]) -> usize {
         Answer::Nothing => text::put_mark(text, at, b'-'),
         Answer::Ack => text::put_mark(text, at, b'A'),
         Answer::NoAck => text::put_mark(text, at, b'N'),
-        Answer::Byte(x) => text::put_byte(text, at, x),
+        Answer::Byte(x) => hex::put_byte(text, at, x),
         Answer::Silence => text::put_mark(text, at, b'.'),
-        Answer::Reply(n) => text::put_hex(text, at, out, n),
+        Answer::Reply(n) => hex::put_hex(text, at, out, n),
     }
 }
 
 fn put_crcs(text: &mut [u8], at: usize, m: &[u8], out: &[u8]) -> usize {
-    let second = text::put_word(text, at, crc::crc(m));
-    text::put_word(text, second, crc::crc(out))
+    let second = hex::put_word(text, at, crc::crc(m));
+    hex::put_word(text, second, crc::crc(out))
 }
 
 fn put_said(text: &mut [u8], at: usize, said: EntryPrint, t: Tag, m: &[u8], out: &[u8]) -> usize {

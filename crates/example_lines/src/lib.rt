@@ -3,7 +3,7 @@ ghost use mathlib.Core.Path.{_≡_};
 ghost use lib.ListN.{set};
 ghost use Rattle.io.specs.Counts.{Counts};
 ghost use Rattle.text.specs.Place.{stored, textAt};
-ghost use Rattle.text.specs.Hex.{hexText};
+ghost use Rattle.hex.specs.Hex.{hexText};
 ghost use Rattle.state.specs.Layout.{bytesOf};
 ghost use Rattle.example_lines.specs.States.{patchedOf};
 ghost use Rattle.example_lines.specs.Lines.{exampleUid, scriptLine, nextAt, numberText, zeroed, wordAt, placed, placedOf};
@@ -44,7 +44,7 @@ pub fn line_at<'a>(s: &'a [u8], at: usize) -> &'a [u8]
     if s.len() < at {
         return &s[0..0];
     }
-    let end = text::line_end(s, at);
+    let end = lines::line_end(s, at);
     &s[at..end]
 }
 
@@ -52,7 +52,7 @@ pub fn line_at<'a>(s: &'a [u8], at: usize) -> &'a [u8]
 pub fn next_at(s: &[u8], at: usize) -> usize
     ensures { λ r. ⌜ r ≡ nextAt (now (s .entry)) at ⌝ }
 {
-    let end = text::line_end(s, at);
+    let end = lines::line_end(s, at);
     if end < s.len() {
         return end + 1;
     }
@@ -126,7 +126,7 @@ pub fn put_state(text: &mut [u8], at: usize, t: Tag) -> usize
 {
     let mut s = [0u8; state::STATE_BYTES];
     state::encode(t, &mut s);
-    text::put_hex(text, at, &s, state::STATE_BYTES)
+    hex::put_hex(text, at, &s, state::STATE_BYTES)
 }
 
 // Stores a line's number and a tab, and gives the place of its answer.

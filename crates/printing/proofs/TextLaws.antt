@@ -5,9 +5,9 @@ use Prim.Native.Nat.{ℕ, _+_, _-_, _≤_}
 use native.Mathlib.Omega.{arith}
 use lib.ListN.{length, take, length-append, length-take}
 use lib.Seq.{append-snoc}
-use Rattle.text.specs.Hex.{hexText}
+use Rattle.hex.specs.Hex.{hexText}
 use Rattle.text.specs.Decimal.{decimal}
-use Rattle.text.proofs.HexLaws.{length-hex-text}
+use Rattle.hex.proofs.HexLaws.{length-hex-text}
 use Rattle.model.specs.declared.Answer.{Answer}
 use Rattle.model.specs.declared.Answer.the-variants.{Refused, Nothing, Ack, NoAck, Byte, Silence, Reply}
 use Rattle.printing.specs.Text.{answerText, lineText}

@@ -4,7 +4,7 @@ use Prim.Native.Nat.{ℕ, _-_}
 use lib.ListN.{take}
 use Rattle.model.specs.declared.Answer.{Answer}
 use Rattle.model.specs.declared.Answer.the-variants.{Refused, Nothing, Ack, NoAck, Byte, Silence, Reply}
-use Rattle.text.specs.Hex.{hexText}
+use Rattle.hex.specs.Hex.{hexText}
 use Rattle.text.specs.Decimal.{decimal}
 
 -- "?"

@@ -26,9 +26,9 @@ fn put_answer(a: Answer, out: &[u8], text: &mut [u8], at: usize) -> usize
         Answer::Nothing => text::put_mark(text, at, b'-'),
         Answer::Ack => text::put_mark(text, at, b'A'),
         Answer::NoAck => text::put_mark(text, at, b'N'),
-        Answer::Byte(x) => text::put_byte(text, at, x),
+        Answer::Byte(x) => hex::put_byte(text, at, x),
         Answer::Silence => text::put_mark(text, at, b'-'),
-        Answer::Reply(n) => text::put_hex(text, at, out, shown_bytes(n)),
+        Answer::Reply(n) => hex::put_hex(text, at, out, shown_bytes(n)),
     }
 }
 

@@ -100,7 +100,7 @@ fn bad(run: RadioRun) -> RadioLineOutcome {
 
 // The host puts a message, as a transfer would.
 fn host_message(r: RadioRun, s: &[u8], m: &mut [u8], frame: &mut [u8]) -> RadioLineOutcome {
-    let n = text::line_bytes(s, frame);
+    let n = lines::line_bytes(s, frame);
     if FRAME < n {
         return bad(r);
     }
@@ -130,7 +130,7 @@ fn ask(
     out: &mut [u8],
     close: bool,
 ) -> RadioLineOutcome {
-    let sent = text::line_bytes(s, frame);
+    let sent = lines::line_bytes(s, frame);
     if FRAME < sent {
         return bad(r);
     }
@@ -190,8 +190,8 @@ fn signal(
 fn put_said(text: &mut [u8], at: usize, said: RadioPrint, out: &[u8]) -> usize {
     match said {
         RadioPrint::Nothing => text::put_mark(text, at, b'-'),
-        RadioPrint::Reply(n) => text::put_hex(text, at, out, n),
-        RadioPrint::Crc(w) => text::put_word(text, at, w),
+        RadioPrint::Reply(n) => hex::put_hex(text, at, out, n),
+        RadioPrint::Crc(w) => hex::put_word(text, at, w),
         RadioPrint::Bad => text::put_mark(text, at, b'?'),
     }
 }

@@ -10,7 +10,7 @@ use lib.ListN.{length, take, drop, getD, length-drop, length-take}
 use lib.Seq.{take-all}
 use Rattle.parts.proofs.Picks.{pick-case, pick-true}
 use Rattle.parts.proofs.Bools.{and-left}
-use Rattle.text.specs.Hex.{allHex}
+use Rattle.hex.specs.Hex.{allHex}
 use Rattle.reading.specs.Line.{ScriptLine, badLine, signalLine, frameLine, longest, alone, level, byteSent, frameSent, tabbed, lineOf}
 use Rattle.reading.specs.Claims.{LineCut}
 

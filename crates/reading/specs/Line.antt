@@ -7,7 +7,7 @@ use lib.ListN.{length, getD, drop}
 use Rattle.parts.specs.Pick.{pick}
 use Rattle.reading.specs.declared.Reading.{Reading}
 use Rattle.reading.specs.declared.Reading.the-variants.{Bad, Signal, Frame}
-use Rattle.text.specs.Hex.{allHex, hexByte, hexBytes}
+use Rattle.hex.specs.Hex.{allHex, hexByte, hexBytes}
 
 -- a bad line, a signal's code and value, or a frame without CRC
 pub data ScriptLine : Type 0 where

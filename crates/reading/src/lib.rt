@@ -44,8 +44,8 @@ fn byte_sent(s: &[u8]) -> Reading
     if s.len() != 2 {
         return Reading::Bad;
     }
-    if text::all_hex(s) {
-        let x = text::hex_byte(parts::byte_at(s, 0), parts::byte_at(s, 1));
+    if hex::all_hex(s) {
+        let x = hex::hex_byte(parts::byte_at(s, 0), parts::byte_at(s, 1));
         return Reading::Signal {
             code: 4,
             value: x as u16,
@@ -58,7 +58,7 @@ fn byte_sent(s: &[u8]) -> Reading
 fn frame_sent(s: &[u8]) -> Reading
     ensures { λ r. ⌜ lineBy r (now (s .entry)) ≡ frameSent (now (s .entry)) ⌝ }
 {
-    let hex = text::all_hex(s);
+    let hex = hex::all_hex(s);
     if (2 <= s.len()) & (s.len() % 2 == 0) & hex {
         return Reading::Frame;
     }

@@ -11,8 +11,8 @@ use Rattle.model.specs.declared.Answer.{Answer}
 use Rattle.model.specs.declared.Answer.the-variants.{Refused, Nothing, Ack, NoAck, Byte, Silence, Reply}
 use Rattle.model.specs.Step.{stepOf, replyFits}
 use Rattle.model.proofs.RepliesFit.{steps-fit}
-use Rattle.text.specs.Hex.{hexText}
-use Rattle.text.proofs.HexLaws.{length-hex-text}
+use Rattle.hex.specs.Hex.{hexText}
+use Rattle.hex.proofs.HexLaws.{length-hex-text}
 use Rattle.text.proofs.DecimalLaws.{digits-most}
 use Rattle.bench_start.specs.declared.Bench.{Bench}
 use Rattle.reading.specs.Line.{ScriptLine, badLine, signalLine, frameLine, lineOf}

@@ -35,8 +35,8 @@ use Rattle.model.proofs.Acts.{fit-acts}
 use Rattle.model.proofs.Served.{act-served}
 use Rattle.model.specs.Claims.{Fit}
 use Rattle.model.proofs.Kept.{keeps, fresh-fits}
-use Rattle.text.specs.Hex.{allHex, hexByte, hexBytes}
-use Rattle.text.proofs.HexLaws.{value-small}
+use Rattle.hex.specs.Hex.{allHex, hexByte, hexBytes}
+use Rattle.hex.proofs.HexLaws.{value-small}
 use Rattle.reading.specs.Line.{ScriptLine, badLine, signalLine, frameLine, longest, alone, level, byteSent, frameSent, tabbed, lineOf}
 use Rattle.printing.specs.Text.{badText, answerText, lineText}
 use Rattle.bench_start.specs.Start.{nextLine, benchUid, benchStartOf}

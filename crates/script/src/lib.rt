@@ -5,7 +5,7 @@ ghost use Prim.Native.Nat.{ℕ, _≤_};
 ghost use lib.ListN.{length, take};
 ghost use lib.Seq.{sets};
 ghost use Rattle.crc.specs.Crc.{closed};
-ghost use Rattle.text.specs.Hex.{hexBytes};
+ghost use Rattle.hex.specs.Hex.{hexBytes};
 ghost use Rattle.bench_start.specs.declared.Bench.{Bench};
 ghost use Rattle.reading.specs.Line.{lineOf};
 ghost use Rattle.printing.specs.Text.{badText};
@@ -53,7 +53,7 @@ fn put_frame(s: &[u8], frame: &mut [u8; 602]) -> usize
     ensures { λ r. ⌜ r ≤ length (now (frame .exit)) ⌝ }
     ensures { λ _. ⌜ now (frame .exit) ≡ sets (now (frame .entry)) 0 (closed (hexBytes (now (s .entry)))) ⌝ }
 {
-    let n = text::decode(s, frame);
+    let n = hex::decode(s, frame);
     crc::close(frame, n);
     n + 2
 }

@@ -112,7 +112,7 @@ pub fn step(
     let mut n = kept_count(kept, have);
     let mut from = 0;
     let mut at = 0;
-    let mut end = text::line_end(s, 0);
+    let mut end = lines::line_end(s, 0);
     while (end < s.len()) & (1304 <= out.len() - at) {
         let o = end_line(
             bench,
@@ -128,7 +128,7 @@ pub fn step(
         at += o.length;
         n = 0;
         from = end + 1;
-        end = text::line_end(s, from);
+        end = lines::line_end(s, from);
     }
     let rest = hold(kept, n, &s[from..end]);
     StreamOutcome {

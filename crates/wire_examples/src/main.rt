@@ -178,11 +178,11 @@ fn signal(r: WireRun, s: &[u8], m: &mut [u8], bytes: &mut [u8]) -> WireLineOutco
     if s.len() == 1 {
         return alone(r, kind, m);
     }
-    if text::is_level(s) {
+    if lines::is_level(s) {
         return level(r, kind, parts::byte_at(s, 2) == b'1', m);
     }
-    if text::has_bytes(s) {
-        let n = text::line_bytes(s, bytes);
+    if lines::has_bytes(s) {
+        let n = lines::line_bytes(s, bytes);
         if bytes.len() < n {
             return bad(r);
         }
@@ -196,7 +196,7 @@ fn put_answer(text: &mut [u8], at: usize, a: WireAnswer) -> usize {
         WireAnswer::Nothing => text::put_mark(text, at, b'-'),
         WireAnswer::Ack => text::put_mark(text, at, b'A'),
         WireAnswer::NoAck => text::put_mark(text, at, b'N'),
-        WireAnswer::Byte(x) => text::put_byte(text, at, x),
+        WireAnswer::Byte(x) => hex::put_byte(text, at, x),
     }
 }
 
@@ -212,7 +212,7 @@ fn put_said(text: &mut [u8], at: usize, said: WirePrint, t: Tag) -> usize {
         WirePrint::Bad => text::put_mark(text, at, b'?'),
         WirePrint::Answer(a) => put_answer(text, at, a),
         WirePrint::Flag(b) => text::put_mark(text, at, flag_mark(b)),
-        WirePrint::Crc(w) => text::put_word(text, at, w),
+        WirePrint::Crc(w) => hex::put_word(text, at, w),
         WirePrint::State => example_lines::put_state(text, at, t),
     }
 }

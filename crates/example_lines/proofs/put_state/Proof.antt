@@ -3,7 +3,7 @@ use mathlib.Core.List.{List}
 use Prim.Native.Nat.{ℕ}
 use lib.ListN.{take}
 use Rattle.text.specs.Place.{textAt}
-use Rattle.text.specs.Hex.{hexText}
+use Rattle.hex.specs.Hex.{hexText}
 use Rattle.state.specs.Layout.{stateBytes}
 use Rattle.example_lines.proofs.States.{encoded, all-bytes}
 use borrow.Author.Needs.{needs}

@@ -7,7 +7,7 @@ use lib.Seq.{sets, take-all}
 use Rattle.crc.specs.Crc.{closed}
 use Rattle.script.specs.Bench.{benchCall, lineResult, closedFrame, benchOf}
 use Rattle.reading.specs.Line.{ScriptLine, lineOf, lineBy}
-use Rattle.text.specs.Hex.{hexBytes}
+use Rattle.hex.specs.Hex.{hexBytes}
 use Rattle.bench_start.specs.declared.Bench.{Bench}
 use Rattle.reading.specs.declared.Reading.{Reading}
 use Rattle.reading.proofs.LineLaws.{framed, Framed}

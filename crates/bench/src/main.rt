@@ -6,7 +6,7 @@ ghost use Prim.Native.Nat.{_≤_};
 ghost use lib.ListN.{length, take};
 ghost use Rattle.script.specs.Lines.{benchState};
 ghost use Rattle.stream.specs.Step.{textRoom};
-ghost use Rattle.stream.specs.Flow.{flowOf, Reaches};
+ghost use Rattle.stream_claims.specs.Flow.{flowOf, Reaches};
 use bench_start::Bench;
 
 // Where a run stands: the tag and the number of lines, how many bytes of an unfinished line are kept, and whether to

@@ -1,4 +1,4 @@
--- Lengths of lines, and a memory of zeros. Assumes nothing.
+-- Lengths of lines. Assumes nothing.
 use mathlib.Core.Path.{_≡_, refl}
 use mathlib.Core.Bool.{Bool, true, _&&_}
 use mathlib.Core.List.{List, []}
@@ -6,8 +6,7 @@ use Prim.Native.Nat.{ℕ, zero, suc, _≤_, _<_, _-_}
 use native.Mathlib.Omega.{arith}
 use borrow.Author.Tests.{ltb-true}
 use lib.Dec.{ltb}
-use lib.ListN.{length, take, drop, replicate, length-drop, drop-of-length-le}
-use Rattle.parts.specs.Bytes.{bytesAt}
+use lib.ListN.{length, take, drop, length-drop, drop-of-length-le}
 use Rattle.parts.proofs.Bools.{and-left}
 use Rattle.lines.specs.Line.{lineLength}
 use Rattle.example_lines.specs.Lines.{scriptLine, nextAt}
@@ -28,7 +27,3 @@ take-nothing (suc n) = refl
 -- past the end there is no byte
 pub no-line : (s : List ℕ) (at : ℕ) → length s ≤ at → scriptLine s at ≡ []
 no-line s at h = rw (drop-of-length-le s {i = at} h) (take-nothing (lineLength []))
-
-pub zeros-read : bytesAt (replicate 1024 0) 0 1024 ≡ replicate 1024 0
-unfolding bytesAt
-zeros-read = refl

@@ -80,7 +80,7 @@ fn level(r: RadioRun, kind: u8, on: bool) -> RadioRun {
 }
 
 fn start_again(r: RadioRun, m: &mut [u8]) -> RadioRun {
-    example_lines::clear(m);
+    example_states::clear(m);
     fresh(r.number)
 }
 

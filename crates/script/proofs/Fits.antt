@@ -9,8 +9,9 @@ use lib.ListN.{length, take, length-take}
 use Rattle.reply.specs.Reply.{nothing}
 use Rattle.model.specs.declared.Answer.{Answer}
 use Rattle.model.specs.declared.Answer.the-variants.{Refused, Nothing, Ack, NoAck, Byte, Silence, Reply}
-use Rattle.model.specs.Step.{stepOf, replyFits}
-use Rattle.model.proofs.RepliesFit.{steps-fit}
+use Rattle.model.specs.Step.{stepOf}
+use Rattle.replies_fit.specs.Claims.{replyFits}
+use Rattle.replies_fit.proofs.RepliesFit.{steps-fit}
 use Rattle.hex.specs.Hex.{hexText}
 use Rattle.hex.proofs.HexLaws.{length-hex-text}
 use Rattle.text.proofs.DecimalLaws.{digits-most}

@@ -16,7 +16,8 @@ use Rattle.script.specs.Bench.{LineResult, lineResult, benchOf}
 use Rattle.script.specs.Lines.{BenchState, lineFrom, benchAfter}
 use Rattle.script.proofs.Fits.{text-fits}
 use Rattle.reading.proofs.LineLaws.{line-cut}
-use Rattle.stream.specs.Step.{PieceResult, pieceResult, ahead, keptMost, keep, textRoom, noRoom, pieceBy}
+use Rattle.stream.specs.Step.{PieceResult, pieceResult, ahead, textRoom, noRoom, pieceBy}
+use Rattle.unfinished.specs.Kept.{keptMost, keep}
 use Rattle.lines.proofs.Scan.{length-lf, length-byte}
 
 -- ---- lists

@@ -13,7 +13,8 @@ use Rattle.bench_start.specs.declared.Bench.{Bench}
 use Rattle.lines.specs.Line.{lineLength}
 use Rattle.script.specs.Bench.{LineResult, LineBuffers, lineBuffers, putLine}
 use Rattle.script.specs.Lines.{BenchState, benchState, lineFrom, benchAfter}
-use Rattle.stream.specs.Step.{PieceResult, pieceResult, ahead, keptMost, keep, pieceBy, StreamBuffers, streamBuffers, puts}
+use Rattle.stream.specs.Step.{PieceResult, pieceResult, ahead, pieceBy, StreamBuffers, streamBuffers, puts}
+use Rattle.unfinished.specs.Kept.{keptMost, keep}
 use Rattle.stream.proofs.Steps.{ahead-ahead, lineAt, line-step, stop-step}
 use Rattle.lines.proofs.Scan.{line-le}
 

@@ -83,7 +83,7 @@ fn step(r: WireRun, m: &mut [u8], s: WireSignal) -> WireLineOutcome {
 }
 
 fn start_again(r: WireRun, m: &mut [u8]) -> WireLineOutcome {
-    example_lines::clear(m);
+    example_states::clear(m);
     nothing(fresh(r.number))
 }
 
@@ -146,14 +146,14 @@ fn till_message(r: WireRun, m: &mut [u8], bytes: &[u8]) -> WireLineOutcome {
 }
 
 fn memory(r: WireRun, m: &mut [u8], bytes: &[u8]) -> WireLineOutcome {
-    if example_lines::store(m, bytes) {
+    if example_states::store(m, bytes) {
         return nothing(r);
     }
     bad(r)
 }
 
 fn patch(r: WireRun, bytes: &[u8]) -> WireLineOutcome {
-    let p = example_lines::patch(r.tag, bytes);
+    let p = example_states::patch(r.tag, bytes);
     if !p.fits {
         return bad(r);
     }
@@ -213,7 +213,7 @@ fn put_said(text: &mut [u8], at: usize, said: WirePrint, t: Tag) -> usize {
         WirePrint::Answer(a) => put_answer(text, at, a),
         WirePrint::Flag(b) => text::put_mark(text, at, flag_mark(b)),
         WirePrint::Crc(w) => hex::put_word(text, at, w),
-        WirePrint::State => example_lines::put_state(text, at, t),
+        WirePrint::State => example_states::put_state(text, at, t),
     }
 }
 

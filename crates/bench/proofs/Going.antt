@@ -8,9 +8,9 @@ use lib.ListN.{length, take, drop, length-drop, drop-of-length-le}
 use lib.Seq.{take-all, drop-drop}
 use Rattle.script.specs.Lines.{BenchState}
 use Rattle.stream.specs.Step.{StreamBuffers, puts, textRoom, pieceBy}
-use Rattle.stream.specs.Flow.{flowOf, Reaches}
+use Rattle.stream_claims.specs.Flow.{flowOf, Reaches}
 use Rattle.stream.proofs.Steps.{goes-on}
-use Rattle.stream.proofs.Flow.{carried-left, held-left}
+use Rattle.stream_claims.proofs.Flow.{carried-left, held-left}
 
 -- c₀ and h₀ are carried and held before the piece s, c and h from its place `at` on
 pub record Going (c₀ : BenchState) (h₀ s out₀ : List ℕ) (c : BenchState) (h out : List ℕ) (at : ℕ) : Type 0 where

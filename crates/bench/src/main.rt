@@ -6,8 +6,8 @@ ghost use Prim.Native.Nat.{_≤_};
 ghost use lib.ListN.{length, take};
 ghost use Rattle.script.specs.Lines.{benchState};
 ghost use Rattle.stream.specs.Step.{textRoom};
-ghost use Rattle.stream.specs.Flow.{flowOf, Reaches};
-use script::Bench;
+ghost use Rattle.stream_claims.specs.Flow.{flowOf, Reaches};
+use bench_start::Bench;
 
 // Where a run stands: the tag and the number of lines, how many bytes of an unfinished line are kept, and whether to
 // go on.
@@ -158,6 +158,6 @@ fn main() {
     let mut kept = [0u8; 1201];
     let mut input = io::large_buffer();
     let mut out = io::large_buffer();
-    let bench = script::start(&mut m);
+    let bench = bench_start::start(&mut m);
     all(bench, &mut m, &mut reply, &mut kept, &mut input, &mut out);
 }

@@ -3,22 +3,26 @@ use mathlib.Core.Path.{_≡_}
 use mathlib.Core.List.{List}
 use Prim.Native.Nat.{ℕ}
 use Rattle.tag.specs.Keys.{uidAt}
-use Rattle.state.specs.Layout.{tagOf}
+use lib.ListN.{length}
+use Rattle.state.specs.Layout.{stateBytes, tagOf}
 use Rattle.refusals.specs.declared.Judgement.the-variants.{NoRefusal}
 use Rattle.refusals.specs.Refusals.{judgement, unlessRefused}
 use Rattle.model.specs.Step.{StepResult, FreshResult, stepOf, freshOf}
-use Rattle.capi.specs.Interface.{answerNumber, stateAfter, callResult, stepRules, stepCall, freshCallResult, freshCallRules, freshCall}
+use Rattle.capi.specs.Interface.{answerNumber, callResult, stepCall, freshCallResult, freshCall}
+use Rattle.next_state.specs.After.{stateAfter}
+use Rattle.library_refusals.specs.Rules.{stepRules, freshCallRules}
+use Rattle.capi.proofs.Narrow.{whole, fresh-whole}
 
 pub stepped : (s m o : List ℕ) (code value : ℕ) (f : List ℕ) (e : StepResult) (n : ℕ) (s′ : List ℕ)
     → judgement (stepRules s m o code value) ≡ NoRefusal
-    → e ≡ stepOf (tagOf s) m o code value f → n ≡ answerNumber (e .answer) → s′ ≡ stateAfter s (e .answer) (e .tag)
+    → e ≡ stepOf (tagOf s) m o code value f → n ≡ answerNumber (e .answer) → (length s ≡ stateBytes → s′ ≡ stateAfter s (e .answer) (e .tag))
     → callResult n s′ (e .memory) (e .reply) ≡ stepCall s m o code value f
 unfolding stepCall unlessRefused
-stepped s m o code value f e n s′ none h p q = rw (p, q, none, h)
+stepped s m o code value f e n s′ none h p q = rw (p, q (whole s m o code value none), none, h)
 
 pub freshened : (u m s : List ℕ) (e : FreshResult) (n : ℕ) (s′ : List ℕ)
     → judgement (freshCallRules u m s) ≡ NoRefusal
-    → e ≡ freshOf (uidAt u 0) m → n ≡ answerNumber (e .answer) → s′ ≡ stateAfter s (e .answer) (e .tag)
+    → e ≡ freshOf (uidAt u 0) m → n ≡ answerNumber (e .answer) → (length s ≡ stateBytes → s′ ≡ stateAfter s (e .answer) (e .tag))
     → freshCallResult n s′ (e .memory) ≡ freshCall u m s
 unfolding freshCall unlessRefused
-freshened u m s e n s′ none h p q = rw (p, q, none, h)
+freshened u m s e n s′ none h p q = rw (p, q (fresh-whole u m s none), none, h)

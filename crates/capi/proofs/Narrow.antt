@@ -14,7 +14,7 @@ use Rattle.refusals.specs.declared.Judgement.the-variants.{NoRefusal}
 use Rattle.refusals.specs.Signals.{topValue, signalInRange}
 use Rattle.refusals.specs.Refusals.{judgement}
 use Rattle.refusals.proofs.Laws.{none-applies, NoneApplies}
-use Rattle.capi.specs.Interface.{stepRules, freshCallRules}
+use Rattle.library_refusals.specs.Rules.{stepRules, freshCallRules}
 
 top-small : (c : ℕ) → topValue c ≤ 255
 unfolding topValue

@@ -16,7 +16,8 @@ use Rattle.model.specs.declared.Answer.{Answer}
 use Rattle.model.specs.declared.Answer.the-variants.{Refused, Nothing, Ack, NoAck, Byte, Silence, Reply}
 use Rattle.model.specs.Signals.{signalBy}
 use Rattle.model.specs.Step.{StepResult, FreshResult, stepOf, freshOf, isRefused}
-use Rattle.capi.specs.Interface.{answerNumber, stateAfter, CallResult, callResult, stepCall, FreshCallResult, freshCallResult, freshCall}
+use Rattle.capi.specs.Interface.{answerNumber, CallResult, callResult, stepCall, FreshCallResult, freshCallResult, freshCall}
+use Rattle.next_state.specs.After.{stateAfter}
 use Rattle.capi.specs.Claims.{RefusedStepKeeps, RefusedFreshKeeps}
 
 -- a number below 0x100 is a refusal's

@@ -17,7 +17,9 @@ use Rattle.refusals.specs.Refusals.{rangeRule, callRules, judgement, unlessRefu
 use Rattle.refusals.proofs.Laws.{judgement-append, append-idle, NoneApplies}
 use Rattle.model.specs.Signals.{signalBy}
 use Rattle.model.specs.Step.{StepResult, isRefused, refused, actOf, stepOf}
-use Rattle.capi.specs.Interface.{answerNumber, stateAfter, CallResult, callResult, stateRule, decodesRule, stepCall}
+use Rattle.capi.specs.Interface.{answerNumber, CallResult, callResult, stepCall}
+use Rattle.next_state.specs.After.{stateAfter}
+use Rattle.library_refusals.specs.Rules.{stateRule, decodesRule}
 use Rattle.capi.specs.Claims.{StepsTheTag}
 
 -- bytes that decode have their length

@@ -6,7 +6,8 @@ use Rattle.tag.specs.declared.Tag.{Tag}
 use Rattle.state.specs.Layout.{bytesOf}
 use Rattle.state.specs.Claims.{Fits}
 use Rattle.model.specs.Step.{stepOf}
-use Rattle.capi.specs.Interface.{answerNumber, stateAfter, callResult, stepCall, freshCallResult, freshCall}
+use Rattle.capi.specs.Interface.{answerNumber, callResult, stepCall, freshCallResult, freshCall}
+use Rattle.next_state.specs.After.{stateAfter}
 
 -- a number below 0x100 is a refusal: every byte of every lent buffer is as before
 abbrev pub RefusedStepKeeps : Type 0

@@ -1,19 +1,15 @@
 -- What a program in C or Rust calls: numbers and lent bytes, the state among them.
-use mathlib.Core.Bool.{not}
-use mathlib.Core.List.{List, [], _∷_, _++_}
+use mathlib.Core.List.{List}
 use Prim.Native.Nat.{ℕ, _+_}
-use lib.Dec.{eqb}
-use lib.ListN.{length}
-use Rattle.parts.specs.Pick.{pick}
-use Rattle.tag.specs.declared.Tag.{Tag}
 use Rattle.tag.specs.Keys.{uidAt}
-use Rattle.state.specs.Layout.{stateBytes, bytesOf, decodes, tagOf}
+use Rattle.state.specs.Layout.{tagOf}
 use Rattle.refusals.specs.declared.Refusal.{Refusal}
-use Rattle.refusals.specs.declared.Refusal.the-variants.{OutOfRange, StateLength, UidLength}
-use Rattle.refusals.specs.Refusals.{number, RefusalRule, refusalRule, freshRules, callRules, judgement, unlessRefused}
+use Rattle.refusals.specs.Refusals.{number, judgement, unlessRefused}
 use Rattle.model.specs.declared.Answer.{Answer}
 use Rattle.model.specs.declared.Answer.the-variants.{Refused, Nothing, Ack, NoAck, Byte, Silence, Reply}
-use Rattle.model.specs.Step.{isRefused, stepOf, freshOf}
+use Rattle.model.specs.Step.{stepOf, freshOf}
+use Rattle.next_state.specs.After.{stateAfter}
+use Rattle.library_refusals.specs.Rules.{stepRules, freshCallRules}
 
 -- ---- the numbers
 -- of an answer; the n bytes of a reply include its CRC
@@ -26,10 +22,6 @@ answerNumber (Byte x) = 0x200 + x
 answerNumber Silence = 0x103
 answerNumber (Reply n) = 0x1000 + n
 
--- "After any refusal every byte of every lent buffer is as before, the state's too. Otherwise the state buffer holds the next state."
-unfoldable pub stateAfter : List ℕ → Answer → Tag → List ℕ
-stateAfter s a t = pick (isRefused a) s (bytesOf t)
-
 -- ---- one call
 -- the number, and each lent buffer at the return
 pub record CallResult : Type 0 where
@@ -40,24 +32,6 @@ pub record CallResult : Type 0 where
 
 abbrev pub callResult : ℕ → List ℕ → List ℕ → List ℕ → CallResult
 callResult n s m o = record { number = n; state = s; memory = m; reply = o }
-
--- ---- the library's own refusals; s is the state
--- the state buffer has not its 83 bytes
-abbrev pub stateRule : List ℕ → RefusalRule
-stateRule s = refusalRule (not (eqb (length s) stateBytes)) StateLength
-
--- bytes that decode to no state break a range
-abbrev pub decodesRule : List ℕ → RefusalRule
-decodesRule s = refusalRule (not (decodes s)) OutOfRange
-
--- the UID has not its 8 bytes
-abbrev pub uidRule : List ℕ → RefusalRule
-uidRule u = refusalRule (not (eqb (length u) 8)) UidLength
-
--- 1, 2 and 3 are judged without a state: each is given exactly when document 01 says. 13 comes right before the first refusal that reads the state,
--- which is 4: bytes that decode to no state, or (by the model) a tag that breaks a range.
-abbrev pub stepRules : List ℕ → List ℕ → List ℕ → ℕ → ℕ → List RefusalRule
-stepRules s m o code value = callRules m o code value ++ stateRule s ∷ decodesRule s ∷ []
 
 -- the model's step of the tag; f is the frame. After a refusal every lent byte is as before.
 unfoldable pub stepCall : List ℕ → List ℕ → List ℕ → ℕ → ℕ → List ℕ → CallResult
@@ -74,10 +48,6 @@ pub record FreshCallResult : Type 0 where
 
 abbrev pub freshCallResult : ℕ → List ℕ → List ℕ → FreshCallResult
 freshCallResult n s m = record { number = n; state = s; memory = m }
-
--- 1 without a state, as above; then 13, then 14; u is the UID
-abbrev pub freshCallRules : List ℕ → List ℕ → List ℕ → List RefusalRule
-freshCallRules u m s = freshRules m ++ stateRule s ∷ uidRule u ∷ []
 
 unfoldable pub freshCall : List ℕ → List ℕ → List ℕ → FreshCallResult
 freshCall u m s =

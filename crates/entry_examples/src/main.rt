@@ -100,7 +100,7 @@ fn call(r: EntryRun, m: &mut [u8], out: &mut [u8], bytes: &[u8]) -> EntryLineOut
         return bad(r);
     }
     let code = parts::byte_at(bytes, 0);
-    let value = example_lines::word_at(bytes, 1);
+    let value = example_states::word_at(bytes, 1);
     let t = r.tag;
     let o = model::step(
         t,
@@ -117,7 +117,7 @@ fn call(r: EntryRun, m: &mut [u8], out: &mut [u8], bytes: &[u8]) -> EntryLineOut
 
 // How much of a buffer of `most` bytes calls hand in from here on.
 fn lent(r: EntryRun, kind: u8, bytes: &[u8], most: usize) -> EntryLineOutcome {
-    let size = example_lines::word_at(bytes, 0) as usize;
+    let size = example_states::word_at(bytes, 0) as usize;
     if bytes.len() != 2 {
         return bad(r);
     }
@@ -134,14 +134,14 @@ fn lent(r: EntryRun, kind: u8, bytes: &[u8], most: usize) -> EntryLineOutcome {
 }
 
 fn memory(r: EntryRun, m: &mut [u8], bytes: &[u8]) -> EntryLineOutcome {
-    if example_lines::store(m, bytes) {
+    if example_states::store(m, bytes) {
         return nothing(r);
     }
     bad(r)
 }
 
 fn patch(r: EntryRun, bytes: &[u8]) -> EntryLineOutcome {
-    let p = example_lines::patch(r.tag, bytes);
+    let p = example_states::patch(r.tag, bytes);
     if !p.fits {
         return bad(r);
     }
@@ -177,8 +177,8 @@ fn act(r: EntryRun, s: &[u8], m: &mut [u8], out: &mut [u8], bytes: &mut [u8]) ->
     if s.len() == 1 {
         return alone(r, kind, m);
     }
-    if text::has_bytes(s) {
-        let n = text::line_bytes(s, bytes);
+    if lines::has_bytes(s) {
+        let n = lines::line_bytes(s, bytes);
         if bytes.len() < n {
             return bad(r);
         }
@@ -198,22 +198,22 @@ fn put_answer(text: &mut [u8], at: usize, a: Answer, out: &[u8]) -> usize {
         Answer::Nothing => text::put_mark(text, at, b'-'),
         Answer::Ack => text::put_mark(text, at, b'A'),
         Answer::NoAck => text::put_mark(text, at, b'N'),
-        Answer::Byte(x) => text::put_byte(text, at, x),
+        Answer::Byte(x) => hex::put_byte(text, at, x),
         Answer::Silence => text::put_mark(text, at, b'.'),
-        Answer::Reply(n) => text::put_hex(text, at, out, n),
+        Answer::Reply(n) => hex::put_hex(text, at, out, n),
     }
 }
 
 fn put_crcs(text: &mut [u8], at: usize, m: &[u8], out: &[u8]) -> usize {
-    let second = text::put_word(text, at, crc::crc(m));
-    text::put_word(text, second, crc::crc(out))
+    let second = hex::put_word(text, at, crc::crc(m));
+    hex::put_word(text, second, crc::crc(out))
 }
 
 fn put_said(text: &mut [u8], at: usize, said: EntryPrint, t: Tag, m: &[u8], out: &[u8]) -> usize {
     match said {
         EntryPrint::Bad => text::put_mark(text, at, b'?'),
         EntryPrint::Answer(a) => put_answer(text, at, a, out),
-        EntryPrint::State => example_lines::put_state(text, at, t),
+        EntryPrint::State => example_states::put_state(text, at, t),
         EntryPrint::Crcs => put_crcs(text, at, m, out),
     }
 }

@@ -1,27 +1,16 @@
--- Lengths of lines, and a memory of zeros. Assumes nothing.
+-- Lengths of lines. Assumes nothing.
 use mathlib.Core.Path.{_≡_, refl}
-use mathlib.Core.Bool.{Bool, true, false, _&&_}
-use mathlib.Core.List.{List, [], _∷_}
+use mathlib.Core.Bool.{Bool, true, _&&_}
+use mathlib.Core.List.{List, []}
 use Prim.Native.Nat.{ℕ, zero, suc, _≤_, _<_, _-_}
 use native.Mathlib.Omega.{arith}
 use borrow.Author.Tests.{ltb-true}
-use lib.Dec.{eqb, ltb}
-use lib.ListN.{length, take, drop, replicate, length-drop, drop-of-length-le}
-use Rattle.parts.specs.Pick.{pick}
-use Rattle.parts.specs.Bytes.{bytesAt}
+use lib.Dec.{ltb}
+use lib.ListN.{length, take, drop, length-drop, drop-of-length-le}
 use Rattle.parts.proofs.Bools.{and-left}
-use Rattle.text.specs.Line.{lineLength}
+use Rattle.lines.specs.Line.{lineLength}
 use Rattle.example_lines.specs.Lines.{scriptLine, nextAt}
-
-line-le-at : (b : ℕ) (s : List ℕ) (x : Bool) → eqb b 10 ≡ x → lineLength s ≤ length s → lineLength (b ∷ s) ≤ suc (length s)
-unfolding lineLength pick
-line-le-at b s true e h = rw e (omega arith)
-line-le-at b s false e h = rw e (omega arith)
-
-line-le : (s : List ℕ) → lineLength s ≤ length s
-unfolding lineLength
-line-le [] = omega arith
-line-le (b ∷ s) = line-le-at b s (eqb b 10) refl (line-le s)
+use Rattle.lines.proofs.Scan.{line-le}
 
 -- a line ends within its script
 pub line-within : (s : List ℕ) (at : ℕ) → lineLength (drop at s) ≤ length s - at
@@ -38,7 +27,3 @@ take-nothing (suc n) = refl
 -- past the end there is no byte
 pub no-line : (s : List ℕ) (at : ℕ) → length s ≤ at → scriptLine s at ≡ []
 no-line s at h = rw (drop-of-length-le s {i = at} h) (take-nothing (lineLength []))
-
-pub zeros-read : bytesAt (replicate 1024 0) 0 1024 ≡ replicate 1024 0
-unfolding bytesAt
-zeros-read = refl

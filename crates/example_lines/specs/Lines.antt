@@ -1,16 +1,10 @@
 -- Lines of the example program's script, and what it does with them.
-use mathlib.Core.Bool.{Bool, true, false}
 use mathlib.Core.List.{List, [], _∷_, _++_}
 use Prim.Native.Nat.{ℕ, _+_, _-_, min}
-use lib.Dec.{ltb}
-use lib.ListN.{getD, length, take, drop}
-use lib.Seq.{sets}
-use Rattle.parts.specs.Pick.{pick}
-use Rattle.parts.specs.Bytes.{bytesAt}
+use lib.ListN.{length, take, drop}
 use Rattle.text.specs.Decimal.{decimal}
-use Rattle.text.specs.Line.{lineLength}
+use Rattle.lines.specs.Line.{lineLength}
 use Rattle.tag.specs.declared.Uid.{Uid}
-use Rattle.select.specs.Select.{address}
 
 -- the UID of the examples' tags
 abbrev pub exampleUid : Uid
@@ -27,23 +21,3 @@ nextAt s at = min (at + lineLength (drop at s) + 1) (length s)
 -- what stands before a line's answer
 abbrev pub numberText : ℕ → List ℕ
 numberText n = decimal n ++ 9 ∷ []
-
--- two bytes from a place on, high first
-abbrev pub wordAt : List ℕ → ℕ → ℕ
-wordAt s i = address (getD s i 0) (getD s (i + 1) 0)
-
--- whether a line's bytes were taken, and the memory after it
-pub record Placed : Type 0 where
-  pub taken : Bool
-  pub memory : List ℕ
-
-abbrev pub placed : Bool → List ℕ → Placed
-placed b m = record { taken = b; memory = m }
-
--- a line's bytes: two of a place, and those that lie in the memory from there on, all or none
-unfoldable pub placedOf : List ℕ → List ℕ → Placed
-placedOf m b =
-    pick (ltb (length b) 2) (placed false m)
-    (pick (ltb (length m) (wordAt b 0)) (placed false m)
-    (pick (ltb (length m - wordAt b 0) (length b - 2)) (placed false m)
-    (placed true (sets m (wordAt b 0) (bytesAt b 2 (length b - 2))))))

@@ -3,11 +3,7 @@ ghost use mathlib.Core.Path.{_≡_};
 ghost use lib.ListN.{set};
 ghost use Rattle.io.specs.Counts.{Counts};
 ghost use Rattle.text.specs.Place.{stored, textAt};
-ghost use Rattle.text.specs.Hex.{hexText};
-ghost use Rattle.state.specs.Layout.{bytesOf};
-ghost use Rattle.example_lines.specs.States.{patchedOf};
-ghost use Rattle.example_lines.specs.Lines.{exampleUid, scriptLine, nextAt, numberText, wordAt, placed, placedOf};
-use tag::Tag;
+ghost use Rattle.example_lines.specs.Lines.{exampleUid, scriptLine, nextAt, numberText};
 use tag::Uid;
 
 // More bytes than a script has.
@@ -44,7 +40,7 @@ pub fn line_at<'a>(s: &'a [u8], at: usize) -> &'a [u8]
     if s.len() < at {
         return &s[0..0];
     }
-    let end = text::line_end(s, at);
+    let end = lines::line_end(s, at);
     &s[at..end]
 }
 
@@ -52,73 +48,11 @@ pub fn line_at<'a>(s: &'a [u8], at: usize) -> &'a [u8]
 pub fn next_at(s: &[u8], at: usize) -> usize
     ensures { λ r. ⌜ r ≡ nextAt (now (s .entry)) at ⌝ }
 {
-    let end = text::line_end(s, at);
+    let end = lines::line_end(s, at);
     if end < s.len() {
         return end + 1;
     }
     s.len()
-}
-
-// Two bytes from a place on, high first.
-pub fn word_at(s: &[u8], i: usize) -> u16
-    ensures { λ r. ⌜ r ≡ wordAt (now (s .entry)) i ⌝ }
-{
-    select::address(parts::byte_at(s, i), parts::byte_in(s, i, 1))
-}
-
-// Stores a line's bytes at the place that its first two name, and says whether they lie in the memory. Else none is.
-pub fn store(m: &mut [u8], b: &[u8]) -> bool
-    ensures { λ r. ⌜ placed r (now (m .exit)) ≡ placedOf (now (m .entry)) (now (b .entry)) ⌝ }
-{
-    if b.len() < 2 {
-        return false;
-    }
-    let at = word_at(b, 0) as usize;
-    if m.len() < at {
-        return false;
-    }
-    if m.len() - at < b.len() - 2 {
-        return false;
-    }
-    parts::put_bytes(m, at, b, 2, b.len() - 2);
-    true
-}
-
-// A tag after a line set bytes of its state, and whether they are a state's; else it is as it was.
-pub struct Patched {
-    pub fits: bool,
-    pub tag: Tag,
-}
-
-// Sets bytes of a tag's state from a line's bytes, of which the first two name the place.
-pub fn patch(t: Tag, b: &[u8]) -> Patched
-    ensures { λ r. ⌜ r ≡ patchedOf t (now (b .entry)) ⌝ }
-{
-    let mut s = [0u8; state::STATE_BYTES];
-    state::encode(t, &mut s);
-    let kept = Patched {
-        fits: false,
-        tag: t,
-    };
-    if !store(&mut s, b) {
-        return kept;
-    }
-    if !state::decodes(&s) {
-        return kept;
-    }
-    Patched {
-        fits: true,
-        tag: state::decode(&s),
-    }
-}
-
-// Stores the digits of the bytes of a tag's state.
-pub fn put_state(text: &mut [u8], at: usize, t: Tag) -> usize
-    ensures { λ r. ⌜ stored r (now (text .exit)) ≡ textAt (now (text .entry)) at (hexText (bytesOf t)) ⌝ }
-{
-    let mut s = [0u8; state::STATE_BYTES];
-    state::encode(t, &mut s);
-    text::put_hex(text, at, &s, state::STATE_BYTES)
 }
 
 // Stores a line's number and a tab, and gives the place of its answer.

@@ -28,7 +28,9 @@ use Rattle.refusals.specs.declared.Refusal.the-variants.{MemoryLength, ReplySho
 use Rattle.refusals.specs.Refusals.{number, tagInRange, judgement, unlessRefused}
 use Rattle.refusals.proofs.Laws.{judged-case, none-applies, NoneApplies}
 use Rattle.model.proofs.Kept.{fresh-fits}
-use Rattle.capi.specs.Interface.{answerNumber, stateAfter, FreshCallResult, freshCallResult, freshCallRules, freshCall}
+use Rattle.capi.specs.Interface.{answerNumber, FreshCallResult, freshCallResult, freshCall}
+use Rattle.next_state.specs.After.{stateAfter}
+use Rattle.library_refusals.specs.Rules.{freshCallRules}
 use Rattle.library_demand3.specs.Claim.{Starts, FreshStarts}
 
 -- ---- what the call leaves

@@ -18,7 +18,8 @@ use Rattle.model.specs.declared.Answer.the-variants.{Refused, Nothing, Ack, NoA
 use Rattle.model.specs.Signals.{signalBy}
 use Rattle.model.specs.Step.{StepResult, transferOpen, stepOf, isRefused}
 use Rattle.refusals.specs.Refusals.{number}
-use Rattle.capi.specs.Interface.{answerNumber, stateAfter, CallResult, callResult}
+use Rattle.capi.specs.Interface.{answerNumber, CallResult, callResult}
+use Rattle.next_state.specs.After.{stateAfter}
 use Rattle.refusals.proofs.Laws.{judged-case}
 use Rattle.model.proofs.Served.{act-served}
 use Rattle.calls.proofs.Laws.{first-fits, rest-fits}

@@ -19,7 +19,8 @@ use Rattle.model.specs.Step.{transferOpen, isRefused}
 use Rattle.refusals.specs.Refusals.{tagInRange}
 use Rattle.transfer.specs.Legs.{selectRefused, ends, fresher, isEmpty, finished, push, parse}
 use Rattle.transfer.specs.Whole.{bytesSent, replies, accepted, writeLeg, selectedLeg, legOf, lastLeg, legsOf, transferOf}
-use Rattle.capi.specs.Interface.{answerNumber, stateAfter, stepCall}
+use Rattle.capi.specs.Interface.{answerNumber, stepCall}
+use Rattle.next_state.specs.After.{stateAfter}
 use Rattle.calls.specs.Calls.{Call, Device, device, framesFit}
 use Rattle.calls.specs.Examples.{zeros, fieldTo, send, stop, programmingEnd, frame, uid, powered, _but_, radioState, radioSession, i2cSession, beingProgrammed, onBus, hostMessage}
 use Rattle.waiting.specs.Waiting.{fill, answered, isStarted, ackedSelect, whenClosed, note, frameAnswer, whenOpen, waitAct, waitStep, waitRun}

@@ -1,6 +1,5 @@
 pub mod Acts
 pub mod Kept
-pub mod RepliesFit
 pub mod Served
 pub mod Value
 pub mod Clear

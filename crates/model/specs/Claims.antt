@@ -10,7 +10,7 @@ use Rattle.tag.specs.declared.Tag.{Tag}
 use Rattle.tag.specs.Layout.{memoryBytes}
 use Rattle.tag.specs.Supply.{freshTag}
 use Rattle.refusals.specs.Refusals.{tagInRange}
-use Rattle.model.specs.Step.{replyFits, stepOf}
+use Rattle.model.specs.Step.{stepOf}
 
 -- the tag is in range, with 1,024 bytes
 pub record Fit (t : Tag) (m : List ℕ) : Type 0 where
@@ -25,7 +25,3 @@ StepKeepsFit = (t : Tag) (m o : List ℕ) (code value : ℕ) (s : List ℕ) → 
 -- the fresh tag has it
 abbrev pub FreshFits : Type 0
 FreshFits = (u : Uid) → Fit (freshTag u) (replicate memoryBytes 0)
-
--- every answer's reply fits the 643 bytes
-abbrev pub StepRepliesFit : Type 0
-StepRepliesFit = (t : Tag) (m o : List ℕ) (code value : ℕ) (s : List ℕ) → replyFits (stepOf t m o code value s .answer) ≡ true

@@ -3,10 +3,9 @@ use mathlib.Core.Bool.{Bool, true, false}
 use mathlib.Core.List.{List}
 use Prim.Native.Nat.{ℕ}
 use lib.ListN.{length, replicate}
-use lib.Dec.{leb}
 use Rattle.tag.specs.declared.Uid.{Uid}
 use Rattle.tag.specs.declared.Tag.{Tag}
-use Rattle.tag.specs.Layout.{memoryBytes, replyBytes}
+use Rattle.tag.specs.Layout.{memoryBytes}
 use Rattle.tag.specs.Parts.{withTagAir, wireSide, withWire}
 use Rattle.tag.specs.Bus.{isOpen}
 use Rattle.tag.specs.Radio.{fieldAt}
@@ -52,16 +51,6 @@ isRefused NoAck = false
 isRefused (Byte x) = false
 isRefused Silence = false
 isRefused (Reply n) = false
-
--- a reply has at most 643 bytes
-unfoldable pub replyFits : Answer → Bool
-replyFits (Refused why) = true
-replyFits Nothing = true
-replyFits Ack = true
-replyFits NoAck = true
-replyFits (Byte x) = true
-replyFits Silence = true
-replyFits (Reply n) = leb n replyBytes
 
 -- "A refusal returns the number and the state handed in; every lent byte stays."
 abbrev pub refused : Refusal → Tag → List ℕ → List ℕ → StepResult

@@ -1,28 +1,27 @@
 -- No text is longer than 1,304 bytes, and of a line that is too long 1,201 characters tell. Assumes nothing.
-use mathlib.Core.Path.{_≡_, refl, sym, ap, _∙_}
-use mathlib.Core.Bool.{Bool, true, false}
+use mathlib.Core.Path.{_≡_}
+use mathlib.Core.Bool.{true}
 use mathlib.Core.List.{List, []}
-use Prim.Native.Nat.{ℕ, _-_, _≤_, _<_}
+use Prim.Native.Nat.{ℕ, _-_, _≤_}
 use native.Mathlib.Omega.{arith}
-use lib.Dec.{ltb}
-use borrow.Author.Tests.{leb-true, ltb-true, ltb-false, lt-ltb}
+use borrow.Author.Tests.{leb-true}
 use lib.ListN.{length, take, length-take}
-use lib.Seq.{take-all}
-use Rattle.parts.proofs.Picks.{pick-true}
 use Rattle.reply.specs.Reply.{nothing}
 use Rattle.model.specs.declared.Answer.{Answer}
 use Rattle.model.specs.declared.Answer.the-variants.{Refused, Nothing, Ack, NoAck, Byte, Silence, Reply}
-use Rattle.model.specs.Step.{stepOf, replyFits}
-use Rattle.model.proofs.RepliesFit.{steps-fit}
-use Rattle.text.specs.Hex.{hexText}
-use Rattle.text.proofs.HexLaws.{length-hex-text}
+use Rattle.model.specs.Step.{stepOf}
+use Rattle.replies_fit.specs.Claims.{replyFits}
+use Rattle.replies_fit.proofs.RepliesFit.{steps-fit}
+use Rattle.hex.specs.Hex.{hexText}
+use Rattle.hex.proofs.HexLaws.{length-hex-text}
 use Rattle.text.proofs.DecimalLaws.{digits-most}
-use Rattle.script.specs.declared.Bench.{Bench}
-use Rattle.script.specs.Line.{ScriptLine, badLine, signalLine, frameLine, longest, lineOf}
-use Rattle.script.specs.Text.{badText, answerText, lineText}
-use Rattle.script.specs.Bench.{benchCall, lineResult, benchOf, nextLine, longestText}
-use Rattle.script.specs.Claims.{TextFits, LineCut}
-use Rattle.script.proofs.TextLaws.{length-line}
+use Rattle.bench_start.specs.declared.Bench.{Bench}
+use Rattle.reading.specs.Line.{ScriptLine, badLine, signalLine, frameLine, lineOf}
+use Rattle.printing.specs.Text.{badText, answerText, lineText}
+use Rattle.script.specs.Bench.{benchCall, lineResult, benchOf, longestText}
+use Rattle.bench_start.specs.Start.{nextLine}
+use Rattle.script.specs.Claims.{TextFits}
+use Rattle.printing.proofs.TextLaws.{length-line}
 
 -- ---- a text
 answer-fits : (a : Answer) (o : List ℕ) → replyFits a ≡ true → length (answerText a o) ≤ 1282
@@ -52,14 +51,3 @@ said-fits (frameLine f) b m o = calls-fit b m o 8 0 _
 pub text-fits : TextFits
 unfolding benchOf
 text-fits c s = said-fits (lineOf s) (c .bench) (c .memory) (c .reply)
-
--- ---- a line that is too long
-line-cut-at : (n : ℕ) → longest < n → (s : List ℕ) (b : Bool) → ltb longest (length s) ≡ b → lineOf (take n s) ≡ lineOf s
-unfolding lineOf
-line-cut-at n l s true h =
-    sym (pick-true _ _ _ (ltb longest (length (take n s))) (lt-ltb longest (length (take n s)) (omega (arith, length-take n s, ltb-true longest (length s) h))) refl)
-    ∙ pick-true _ _ _ (ltb longest (length s)) h refl
-line-cut-at n l s false h = ap lineOf (take-all n s (omega (arith, ltb-false longest (length s) h)))
-
-pub line-cut : LineCut
-line-cut n l s = line-cut-at n l s (ltb longest (length s)) refl

@@ -1,4 +1,3 @@
 pub mod LineLaws
-pub mod TextLaws
 pub mod Fits
 pub mod OnlyBad

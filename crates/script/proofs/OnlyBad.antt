@@ -1,14 +1,14 @@
 -- From the start on every line keeps the tag in range, and only a bad line prints ?. Assumes nothing.
 use mathlib.Core.Path.{_≡_, refl, sym, ap, subst, _∙_}
-use mathlib.Core.Bool.{Bool, true, false, _&&_, _||_, false≢true}
+use mathlib.Core.Bool.{Bool, true, _&&_, _||_}
 use mathlib.Core.Logic.{⊎-elim}
-use mathlib.Core.List.{List, [], _∷_, _++_, append-assoc}
+use mathlib.Core.List.{List, [], _∷_, _++_}
 use Prim.Native.Nat.{ℕ, _+_, _-_, _/_, _%_, _<_}
 use native.Mathlib.Omega.{arith}
 use lib.Dec.{T, leb, ltb, eqb}
 use lib.Pow.{areBytes as areAll}
-use lib.ListN.{length, take, drop, getD, replicate, length-append}
-use lib.Seq.{sets, length-sets, take-at, drop-at}
+use lib.ListN.{length, take, drop, getD, replicate}
+use lib.Seq.{sets, length-sets}
 use borrow.Author.Tests.{eq-eqb, eqb-true, le-leb, lt-ltb}
 use Rattle.parts.specs.Pick.{pick}
 use Rattle.parts.specs.Bytes.{areBytes}
@@ -21,8 +21,7 @@ use Rattle.tag.specs.Supply.{freshTag}
 use Rattle.reply.specs.Reply.{ReplyBody, nothing, body, bufferOf}
 use Rattle.reply.specs.Outcome.{radioSide}
 use Rattle.radio.specs.Radio.{radioOf}
-use Rattle.model.specs.declared.Answer.{Answer}
-use Rattle.model.specs.declared.Answer.the-variants.{Refused, Nothing, Ack, NoAck, Byte, Silence, Reply}
+use Rattle.model.specs.declared.Answer.the-variants.{Nothing}
 use Rattle.model.specs.declared.Signal.{Signal}
 use Rattle.model.specs.declared.Signal.the-variants.{Wire, Field, Frame}
 use Rattle.model.specs.Signals.{signalBy}
@@ -36,15 +35,15 @@ use Rattle.model.proofs.Acts.{fit-acts}
 use Rattle.model.proofs.Served.{act-served}
 use Rattle.model.specs.Claims.{Fit}
 use Rattle.model.proofs.Kept.{keeps, fresh-fits}
-use Rattle.text.specs.Hex.{allHex, hexByte, hexBytes, hexText}
-use Rattle.text.specs.Decimal.{decimal}
-use Rattle.text.proofs.HexLaws.{value-small, length-hex-text}
-use Rattle.script.specs.Line.{ScriptLine, badLine, signalLine, frameLine, longest, alone, level, byteSent, frameSent, tabbed, lineOf}
-use Rattle.script.specs.Text.{badText, answerText, lineText}
-use Rattle.script.specs.Bench.{nextLine, benchCall, lineResult, benchOf, benchUid, benchStartOf}
+use Rattle.hex.specs.Hex.{allHex, hexByte, hexBytes}
+use Rattle.hex.proofs.HexLaws.{value-small}
+use Rattle.reading.specs.Line.{ScriptLine, badLine, signalLine, frameLine, longest, alone, level, byteSent, frameSent, tabbed, lineOf}
+use Rattle.printing.specs.Text.{badText, answerText, lineText}
+use Rattle.bench_start.specs.Start.{nextLine, benchUid, benchStartOf}
+use Rattle.script.specs.Bench.{benchCall, lineResult, benchOf}
 use Rattle.script.specs.Lines.{BenchState, lineFrom, benchAfter, afterLines, beforeLines}
 use Rattle.script.specs.Claims.{BenchFit, StartFits, LineKeepsFit, OnlyBadRefused}
-use Rattle.script.proofs.TextLaws.{length-line}
+use Rattle.printing.proofs.Marks.{marked, same-answer}
 
 -- ---- what a line says has its value in range, and a frame's bytes are bytes
 sane : ScriptLine → Bool
@@ -133,38 +132,6 @@ crc-bytes s h = rw (lt-ltb (crcOf s % 256) 256 (omega arith), lt-ltb (crcOf s / 
 
 closed-bytes : (s : List ℕ) → areBytes s ≡ true → areBytes (closed s) ≡ true
 closed-bytes s h = bytes-append s (crcBytes s) h (crc-bytes s (crc-below s (subst T (sym (sym (same-bytes s) ∙ h)) tt)))
-
--- ---- a text that is ? answers a refusal
-first : List ℕ → ℕ
-first s = getD s 0 0
-
-marked : (a : Answer) (o : List ℕ) → isRefused a ≡ false → answerText a o ≡ badText → ⊥
-unfolding isRefused answerText hexText first
-marked (Refused n) o r e = false≢true (sym r)
-marked Nothing o r e = omega (arith, ap first e)
-marked Ack o r e = omega (arith, ap first e)
-marked NoAck o r e = omega (arith, ap first e)
-marked (Byte x) o r e = omega (arith, ap length e)
-marked Silence o r e = omega (arith, ap first e)
-marked (Reply n) o r e = omega (arith, ap length e, length-hex-text (take (n - 2) o))
-
--- the answer within a line's text
-line-answer : (n : ℕ) (a : List ℕ) → take (length a) (drop (length (decimal n) + 1) (lineText n a)) ≡ a
-unfolding lineText
-line-answer n a =
-    let d = decimal n in
-    ap (λ (x : List ℕ). take (length a) (drop (length d + 1) x))
-    (append-assoc d (0x09 ∷ a) (0x0A ∷ []) ∙ sym (append-assoc d (0x09 ∷ []) (a ++ 0x0A ∷ [])))
-    ∙ ap (take (length a)) (drop-at (d ++ 0x09 ∷ []) (a ++ 0x0A ∷ []) (length d + 1) (length-append d (0x09 ∷ [])))
-    ∙ take-at a (0x0A ∷ []) (length a) refl
-
-same-answer : (n : ℕ) (a b : List ℕ) → lineText n a ≡ lineText n b → a ≡ b
-same-answer n a b e =
-    let l : length a ≡ length b = omega (arith, ap length e, length-line n a, length-line n b) in
-    sym (line-answer n a)
-    ∙ ap (λ (x : List ℕ). take (length a) (drop (length (decimal n) + 1) x)) e
-    ∙ ap (λ (k : ℕ). take k (drop (length (decimal n) + 1) (lineText n b))) l
-    ∙ line-answer n b
 
 -- ---- the reply buffer keeps its length
 buffer-room : (r : ReplyBody) (o : List ℕ) → length (bufferOf r o) ≡ length o

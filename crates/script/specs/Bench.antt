@@ -1,15 +1,15 @@
 -- From line to line: the tag, its memory and the line number are carried on.
-use mathlib.Core.List.{List, [], _∷_, _++_}
-use Prim.Native.Nat.{ℕ, suc, _+_, _%_}
+use mathlib.Core.List.{List, []}
+use Prim.Native.Nat.{ℕ}
 use lib.ListN.{length as size}
 use lib.Seq.{sets}
-use Rattle.tag.specs.declared.Uid.{Uid}
 use Rattle.tag.specs.declared.Tag.{Tag}
 use Rattle.crc.specs.Crc.{closed}
-use Rattle.model.specs.Step.{StepResult, stepOf, freshOf}
-use Rattle.script.specs.declared.Bench.{Bench}
-use Rattle.script.specs.Line.{ScriptLine, badLine, signalLine, frameLine, lineOf}
-use Rattle.script.specs.Text.{badText, answerText, lineText}
+use Rattle.model.specs.Step.{stepOf}
+use Rattle.bench_start.specs.declared.Bench.{Bench}
+use Rattle.reading.specs.Line.{ScriptLine, badLine, signalLine, frameLine, lineOf}
+use Rattle.printing.specs.Text.{badText, answerText, lineText}
+use Rattle.bench_start.specs.Start.{nextLine}
 
 -- what a line leaves: the tag and the number of lines, the memory, the reply buffer, and the text that it prints
 pub record LineResult : Type 0 where
@@ -17,14 +17,6 @@ pub record LineResult : Type 0 where
   pub memory : List ℕ
   pub reply : List ℕ
   pub text : List ℕ
-
--- "It starts fresh with UID 01 02 03 04 05 24 02 E0"
-abbrev pub benchUid : Uid
-benchUid = record { bytes = 0x01 ∷ 0x02 ∷ 0x03 ∷ 0x04 ∷ 0x05 ∷ 0x24 ∷ 0x02 ∷ 0xE0 ∷ [] }
-
--- line numbers from 1
-abbrev pub nextLine : Bench → ℕ
-nextLine b = (b .number + 1) % 18446744073709551616
 
 -- the longest text: the line feed, the tab, a number of 20 digits, and the hex of a reply's 641 bytes before its CRC
 abbrev pub longestText : ℕ
@@ -68,16 +60,3 @@ lineBuffers b n m o x = record { bench = b; length = n; memory = m; reply = o; b
 
 abbrev pub putLine : LineResult → List ℕ → LineBuffers
 putLine p x = lineBuffers (p .bench) (size (p .text)) (p .memory) (p .reply) (sets x 0 (p .text))
-
--- the start: "fresh with UID 01 02 03 04 05 24 02 E0", before line 1
-pub record BenchStart : Type 0 where
-  pub bench : Bench
-  pub memory : List ℕ
-
-abbrev pub benchStart : Bench → List ℕ → BenchStart
-benchStart b m = record { bench = b; memory = m }
-
-unfoldable pub benchStartOf : List ℕ → BenchStart
-benchStartOf m =
-    let e = freshOf benchUid m in
-    benchStart (record { tag = e .tag; number = 0 }) (e .memory)

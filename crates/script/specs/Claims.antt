@@ -1,22 +1,19 @@
 -- What is proved of lines, beside the functions' contracts.
 use mathlib.Core.Path.{_≡_}
 use mathlib.Core.List.{List}
-use Prim.Native.Nat.{ℕ, _≤_, _<_}
-use lib.ListN.{length, take}
+use Prim.Native.Nat.{ℕ, _≤_}
+use lib.ListN.{length}
 use Rattle.tag.specs.Layout.{memoryBytes, replyBytes}
 use Rattle.model.specs.Claims.{Fit}
-use Rattle.script.specs.Line.{ScriptLine, badLine, longest, lineOf}
-use Rattle.script.specs.Text.{badText, lineText}
-use Rattle.script.specs.Bench.{nextLine, prints, longestText}
+use Rattle.reading.specs.Line.{badLine, lineOf}
+use Rattle.printing.specs.Text.{badText, lineText}
+use Rattle.bench_start.specs.Start.{nextLine}
+use Rattle.script.specs.Bench.{prints, longestText}
 use Rattle.script.specs.Lines.{BenchState, lineFrom, benchAfter, afterLines, beforeLines}
 
 -- no text is longer, whatever tag and buffers are carried
 abbrev pub TextFits : Type 0
 TextFits = (c : BenchState) (s : List ℕ) → length (lineFrom c s .text) ≤ longestText
-
--- of a line that is too long 1,201 characters tell, or more of them: it is bad either way
-abbrev pub LineCut : Type 0
-LineCut = (n : ℕ) → longest < n → (s : List ℕ) → lineOf (take n s) ≡ lineOf s
 
 -- the tag is in range with 1,024 bytes, and there is room for a reply
 pub record BenchFit (c : BenchState) : Type 0 where

@@ -1,5 +1,3 @@
-pub mod Line
-pub mod Text
 pub mod Bench
 pub mod Lines
 pub mod Claims

@@ -1,8 +1,9 @@
 -- Lines, one after the other.
 use mathlib.Core.List.{List, [], _∷_}
 use Prim.Native.Nat.{ℕ}
-use Rattle.script.specs.declared.Bench.{Bench}
-use Rattle.script.specs.Bench.{LineResult, BenchStart, benchStartOf, benchOf}
+use Rattle.bench_start.specs.declared.Bench.{Bench}
+use Rattle.script.specs.Bench.{LineResult, benchOf}
+use Rattle.bench_start.specs.Start.{BenchStart, benchStartOf}
 
 -- what goes from line to line: the tag and the number of lines, the memory, the reply buffer
 pub record BenchState : Type 0 where

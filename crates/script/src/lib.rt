@@ -1,54 +1,24 @@
 // Bench scripts: a line to a call or a bad line, an answer to its text, and the step from line to line.
-mod printing;
-mod reading;
-
 ghost use mathlib.Core.Path.{_≡_};
 ghost use mathlib.Core.List.{List};
 ghost use Prim.Native.Nat.{ℕ, _≤_};
 ghost use lib.ListN.{length, take};
 ghost use lib.Seq.{sets};
 ghost use Rattle.crc.specs.Crc.{closed};
-ghost use Rattle.text.specs.Hex.{hexBytes};
-ghost use Rattle.script.specs.declared.Bench.{Bench};
-ghost use Rattle.script.specs.Line.{lineOf};
-ghost use Rattle.script.specs.Text.{badText};
-ghost use Rattle.script.specs.Bench.{benchStart, benchStartOf, nextLine, longestText, prints, lineBuffers, putLine, benchCall, closedFrame, benchOf};
+ghost use Rattle.hex.specs.Hex.{hexBytes};
+ghost use Rattle.bench_start.specs.declared.Bench.{Bench};
+ghost use Rattle.reading.specs.Line.{lineOf};
+ghost use Rattle.printing.specs.Text.{badText};
+ghost use Rattle.script.specs.Bench.{longestText, prints, lineBuffers, putLine, benchCall, closedFrame, benchOf};
+use bench_start::Bench;
 use model::Answer;
 use reading::Reading;
 use refusals::Refusal;
-use tag::Tag;
-use tag::Uid;
-
-// What goes from line to line beside the memory.
-pub struct Bench {
-    pub tag: Tag,
-    // Lines before the next one.
-    pub number: u64,
-}
 
 // What a line leaves beside both lent buffers: its text has this length.
 pub struct LineOutcome {
     pub bench: Bench,
     pub length: usize,
-}
-
-// The fresh tag, before line 1.
-pub fn start(m: &mut [u8]) -> Bench
-    ensures { λ r. ⌜ benchStart r (now (m .exit)) ≡ benchStartOf (now (m .entry)) ⌝ }
-{
-    let uid = Uid {
-        bytes: [0x01, 0x02, 0x03, 0x04, 0x05, 0x24, 0x02, 0xE0],
-    };
-    let o = model::fresh(uid, m);
-    let tag = o.tag;
-    Bench { tag, number: 0 }
-}
-
-// The number of the next line.
-fn next_line(b: Bench) -> u64
-    ensures { λ r. ⌜ r ≡ nextLine b ⌝ }
-{
-    std::num::wrapping_add_u64(b.number, 1)
 }
 
 // A call, and its answer's line.
@@ -67,7 +37,7 @@ fn call(
     let o = model::step(t, m, reply, code, value, frame);
     let answer = o.answer;
     let tag = o.tag;
-    let number = next_line(b);
+    let number = bench_start::next_line(b);
     let length = printing::put_line(text, number, answer, reply);
     LineOutcome {
         bench: Bench { tag, number },
@@ -83,7 +53,7 @@ fn put_frame(s: &[u8], frame: &mut [u8; 602]) -> usize
     ensures { λ r. ⌜ r ≤ length (now (frame .exit)) ⌝ }
     ensures { λ _. ⌜ now (frame .exit) ≡ sets (now (frame .entry)) 0 (closed (hexBytes (now (s .entry)))) ⌝ }
 {
-    let n = text::decode(s, frame);
+    let n = hex::decode(s, frame);
     crc::close(frame, n);
     n + 2
 }
@@ -125,7 +95,7 @@ fn bad_line(b: Bench, reply: &[u8; 643], text: &mut [u8]) -> LineOutcome
     ensures { λ r. ⌜ ((m : List ℕ) → lineBuffers (r .bench) (r .length) m (now (reply .entry)) (now (text .exit)) ≡ putLine (prints b (b .tag) m (now (reply .entry)) badText) (now (text .entry))) ⌝ }
 {
     let tag = b.tag;
-    let number = next_line(b);
+    let number = bench_start::next_line(b);
     let answer = Answer::Refused(Refusal::SignalUnknown);
     let length = printing::put_line(text, number, answer, reply);
     LineOutcome {

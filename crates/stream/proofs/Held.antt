@@ -1,35 +1,18 @@
--- Laws of the kept bytes and of the end of the input. Assumes nothing.
-use mathlib.Core.Path.{_≡_, refl, sym, ap, _∙_}
+-- Laws of the end of the input, and of a line with what was kept of it. Assumes nothing.
+use mathlib.Core.Path.{_≡_, refl, sym, ap}
 use mathlib.Core.Bool.{Bool, true, false}
 use mathlib.Core.List.{List, [], _∷_, _++_}
-use Prim.Native.Nat.{ℕ, _+_, _-_, _≤_, min}
+use Prim.Native.Nat.{ℕ, _+_, _-_}
 use native.Mathlib.Omega.{arith}
 use lib.Dec.{eqb}
 use borrow.Author.Tests.{eq-eqb, ne-eqb, eqb-true}
-use lib.ListN.{length, take, drop, length-append, length-take}
-use lib.Seq.{sets, sets-eq, take-at, take-append-add}
+use lib.ListN.{length, take}
 use Rattle.parts.specs.Pick.{pick}
-use Rattle.parts.specs.Bytes.{bytesAt}
 use Rattle.parts.proofs.Picks.{pick-true, pick-false}
-use Rattle.parts.proofs.Lists.{bytesAt-part, length-bytesAt}
 use Rattle.script.specs.Lines.{BenchState, lineFrom}
-use Rattle.text.proofs.HexLaws.{take-clip}
-use Rattle.stream.specs.Step.{pieceResult, keptMost, keep, pieceBy, endOf}
+use Rattle.stream.specs.Step.{pieceResult, pieceBy, endOf}
+use Rattle.unfinished.specs.Kept.{keptMost, keep}
 use Rattle.stream.proofs.Steps.{printed-cut}
-
--- ---- bytes added to the unfinished line
-pub held : (k s : List ℕ) (have n : ℕ) → length k ≡ 1201 → have ≤ 1201 → n ≡ min (1201 - have) (length s)
-    → take (have + n) (sets k have (bytesAt s 0 n)) ≡ keep (take have k ++ s)
-held k s have n hk hh e =
-    let v = bytesAt s 0 n in
-    let lv = length-bytesAt s 0 n in
-    let lk : length (take have k) ≡ have = omega (arith, length-take have k) in
-    let whole : length (take have k) + (1201 - have) ≡ 1201 = omega arith in
-    ap (take (have + n)) (sets-eq v k have (omega arith))
-    ∙ take-at (take have k ++ v) (drop (have + length v) k) (have + n) (omega (arith, length-append (take have k) v))
-    ∙ ap (λ (x : List ℕ). take have k ++ x) (bytesAt-part s 0 n (omega arith) ∙ ap (λ (j : ℕ). take j s) e ∙ take-clip (1201 - have) (length s) s refl)
-    ∙ sym (take-append-add (take have k) s (1201 - have))
-    ∙ ap (λ (j : ℕ). take j (take have k ++ s)) whole
 
 -- ---- the end of the input
 pub end-none : (room : ℕ) (c : BenchState) (h : List ℕ) → length h ≡ 0 → endOf room c h ≡ pieceResult c [] 0 []
@@ -41,10 +24,6 @@ unfolding endOf
 end-some room c h e = sym (pick-false _ _ _ (eqb (length h) 0) (ne-eqb (length h) 0 e) refl)
 
 -- ---- the line: the bytes s, or what was kept with them
-pub joins : (have r : ℕ) (s x y : List ℕ) → (have ≡ 0 → ⊥) → have ≤ r → x ≡ y → pick (eqb r 0) s x ≡ pick (eqb have 0) s y
-unfolding pick
-joins have r s x y z l e = rw (ne-eqb have 0 z, ne-eqb r 0 (λ n. z (omega arith))) e
-
 whole-line-at : (c : BenchState) (k s : List ℕ) (have : ℕ) (x : Bool) → eqb have 0 ≡ x
     → lineFrom c (pick x s (keep (take have k ++ s))) ≡ lineFrom c (take have k ++ s)
 unfolding pick
@@ -53,7 +32,3 @@ whole-line-at c k s have false e = printed-cut keptMost (omega arith) c (take ha
 
 pub whole-line : (c : BenchState) (k s : List ℕ) (have : ℕ) → lineFrom c (pick (eqb have 0) s (keep (take have k ++ s))) ≡ lineFrom c (take have k ++ s)
 whole-line c k s have = whole-line-at c k s have (eqb have 0) refl
-
--- a count past the end is the end
-pub take-within : (k : List ℕ) (have n : ℕ) → n ≡ min have (length k) → take n k ≡ take have k
-take-within k have n e = ap (λ (j : ℕ). take j k) e ∙ take-clip have (length k) k refl

@@ -1,6 +1,3 @@
 pub mod Steps
 pub mod Held
 pub mod Turn
-pub mod Flow
-pub mod Claim
-pub mod Examples

@@ -10,12 +10,15 @@ use lib.ListN.{length, take, drop, length-append, length-take}
 use lib.Seq.{take-all, append-snoc}
 use Rattle.parts.specs.Pick.{pick}
 use Rattle.parts.proofs.Picks.{pick-case}
-use Rattle.text.specs.Line.{lineLength}
-use Rattle.script.specs.Line.{ScriptLine, longest}
+use Rattle.lines.specs.Line.{lineLength}
+use Rattle.reading.specs.Line.{ScriptLine, longest}
 use Rattle.script.specs.Bench.{LineResult, lineResult, benchOf}
 use Rattle.script.specs.Lines.{BenchState, lineFrom, benchAfter}
-use Rattle.script.proofs.Fits.{text-fits, line-cut}
-use Rattle.stream.specs.Step.{PieceResult, pieceResult, ahead, keptMost, keep, textRoom, noRoom, pieceBy}
+use Rattle.script.proofs.Fits.{text-fits}
+use Rattle.reading.proofs.LineLaws.{line-cut}
+use Rattle.stream.specs.Step.{PieceResult, pieceResult, ahead, textRoom, noRoom, pieceBy}
+use Rattle.unfinished.specs.Kept.{keptMost, keep}
+use Rattle.lines.proofs.Scan.{length-lf, length-byte}
 
 -- ---- lists
 take-joined : (n : ℕ) (x y : List ℕ) → take n (take n x ++ y) ≡ take n (x ++ y)
@@ -88,23 +91,6 @@ goes-on room c h (b ∷ s) g l =
     step-case (λ (r : PieceResult). 0 < r .used) room c h b s (λ e k. absurd (omega arith)) (λ e k. omega arith) (λ e. omega arith)
 
 -- ---- a line of the piece
-pub length-lf : (b : ℕ) (s : List ℕ) → eqb b 10 ≡ true → lineLength (b ∷ s) ≡ 0
-unfolding lineLength pick
-length-lf b s e = rw e
-
-pub length-byte : (b : ℕ) (s : List ℕ) → eqb b 10 ≡ false → lineLength (b ∷ s) ≡ suc (lineLength s)
-unfolding lineLength pick
-length-byte b s e = rw e
-
-pub line-le-at : (b : ℕ) (s : List ℕ) (x : Bool) → eqb b 10 ≡ x → lineLength s ≤ length s → lineLength (b ∷ s) ≤ suc (length s)
-line-le-at b s true e ih = omega (arith, length-lf b s e)
-line-le-at b s false e ih = omega (arith, length-byte b s e)
-
-pub line-le : (s : List ℕ) → lineLength s ≤ length s
-unfolding lineLength
-line-le [] = omega arith
-line-le (b ∷ s) = line-le-at b s (eqb b 10) refl (line-le s)
-
 -- what a line leads to, whose line feed stands at place k of the piece s
 abbrev pub lineAt : ℕ → List ℕ → ℕ → LineResult → PieceResult
 lineAt room s k a = ahead (suc k) (a .text) (pieceBy (room - length (a .text)) (benchAfter a) [] (drop (suc k) s))

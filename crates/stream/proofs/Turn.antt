@@ -9,12 +9,14 @@ use borrow.Author.Tests.{lt-ltb, leb-false}
 use borrow.Rule.Slice.PartMut.{putMid, post-is, same-len-mid}
 use lib.ListN.{length, take, drop, length-append, length-take, length-drop, take-append-drop}
 use lib.Seq.{sets, sets-eq, take-all, take-at, drop-at, drop-drop, drop-length}
-use Rattle.script.specs.declared.Bench.{Bench}
-use Rattle.text.specs.Line.{lineLength}
+use Rattle.bench_start.specs.declared.Bench.{Bench}
+use Rattle.lines.specs.Line.{lineLength}
 use Rattle.script.specs.Bench.{LineResult, LineBuffers, lineBuffers, putLine}
 use Rattle.script.specs.Lines.{BenchState, benchState, lineFrom, benchAfter}
-use Rattle.stream.specs.Step.{PieceResult, pieceResult, ahead, keptMost, keep, pieceBy, StreamBuffers, streamBuffers, puts}
-use Rattle.stream.proofs.Steps.{ahead-ahead, lineAt, line-step, stop-step, line-le}
+use Rattle.stream.specs.Step.{PieceResult, pieceResult, ahead, pieceBy, StreamBuffers, streamBuffers, puts}
+use Rattle.unfinished.specs.Kept.{keptMost, keep}
+use Rattle.stream.proofs.Steps.{ahead-ahead, lineAt, line-step, stop-step}
+use Rattle.lines.proofs.Scan.{line-le}
 
 -- ---- a text put into the rest of a buffer
 put-tail : (n : ℕ) (xs ys : List ℕ) → n ≤ length xs → putMid n (length xs - n) xs ys ≡ take n xs ++ ys

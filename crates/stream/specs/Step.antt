@@ -1,12 +1,13 @@
 -- A call with a piece of the input: byte by byte, until the piece is used up or a line feed comes and its text might not fit.
 use mathlib.Core.List.{List, [], _∷_, _++_}
-use Prim.Native.Nat.{ℕ, suc, _+_, _-_}
+use Prim.Native.Nat.{ℕ, _+_, _-_}
 use lib.Dec.{eqb, ltb}
-use lib.ListN.{length as size, take}
+use lib.ListN.{length as size}
 use lib.Seq.{sets}
 use Rattle.parts.specs.Pick.{pick}
-use Rattle.script.specs.declared.Bench.{Bench}
+use Rattle.bench_start.specs.declared.Bench.{Bench}
 use Rattle.script.specs.Lines.{BenchState, benchState, lineFrom, benchAfter}
+use Rattle.unfinished.specs.Kept.{keep}
 
 -- what a call leaves: what is carried, the unfinished line, how many bytes of the piece it used, the texts it wrote
 pub record PieceResult : Type 0 where
@@ -21,13 +22,6 @@ pieceResult c h n t = record { carried = c; held = h; used = n; text = t }
 -- the same, after k bytes more were used and the text t was written
 abbrev pub ahead : ℕ → List ℕ → PieceResult → PieceResult
 ahead k t r = pieceResult (r .carried) (r .held) (k + r .used) (t ++ r .text)
-
--- of an unfinished line at most 1,201 bytes are kept: with so many it is bad and stays bad (docs/DECISIONS.md, D39)
-abbrev pub keptMost : ℕ
-keptMost = 1201
-
-abbrev pub keep : List ℕ → List ℕ
-keep h = take keptMost h
 
 -- no text is longer (script's claim TextFits)
 abbrev pub textRoom : ℕ

@@ -1,14 +1,15 @@
 // Lines out of pieces of any length: a step with a piece of the input, and the end of the input.
 ghost use mathlib.Core.Path.{_≡_};
 ghost use mathlib.Core.List.{_++_};
-ghost use Prim.Native.Nat.{_≤_, min};
+ghost use Prim.Native.Nat.{_≤_};
 ghost use lib.Dec.{eqb};
 ghost use lib.ListN.{length, take};
 ghost use Rattle.parts.specs.Pick.{pick};
 ghost use Rattle.script.specs.Bench.{lineBuffers, putLine};
 ghost use Rattle.script.specs.Lines.{benchState, lineFrom};
-ghost use Rattle.stream.specs.Step.{keptMost, keep, textRoom, pieceBy, endOf, streamBuffers, puts};
-use script::Bench;
+ghost use Rattle.unfinished.specs.Kept.{keptMost};
+ghost use Rattle.stream.specs.Step.{textRoom, pieceBy, endOf, streamBuffers, puts};
+use bench_start::Bench;
 use script::LineOutcome;
 
 // What a step leaves beside the lent buffers: the unfinished line has `have` bytes.
@@ -19,46 +20,6 @@ pub struct StreamOutcome {
     pub used: usize,
     // Bytes of text that it wrote.
     pub wrote: usize,
-}
-
-fn least(a: usize, b: usize) -> usize
-    ensures { λ r. ⌜ r ≡ min a b ⌝ }
-{
-    if a < b {
-        return a;
-    }
-    b
-}
-
-// How many bytes are kept: a number past the end is the end.
-fn kept_count(kept: &[u8], have: usize) -> usize
-    ensures { λ r. ⌜ r ≡ min have (length (now (kept .entry))) ⌝ }
-{
-    least(have, kept.len())
-}
-
-// Adds bytes to the unfinished line. Of a line that is too long 1,201 bytes are kept: it stays too long.
-fn hold(kept: &mut [u8; 1201], have: usize, s: &[u8]) -> usize
-    requires { ⌜ have ≤ keptMost ⌝ }
-    ensures { λ r. ⌜ take r (now (kept .exit)) ≡ keep (take have (now (kept .entry)) ++ now (s .entry)) ⌝ }
-    ensures { λ r. ⌜ (have ≤ r) × (r ≤ keptMost) ⌝ }
-{
-    let n = least(1201 - have, s.len());
-    parts::put_bytes(kept, have, s, 0, n);
-    have + n
-}
-
-// The unfinished line ends with the bytes s: they are added to what is kept of it. Where nothing is kept they are the
-// line, and nothing is copied.
-fn join(kept: &mut [u8; 1201], have: usize, s: &[u8]) -> usize
-    requires { ⌜ have ≤ keptMost ⌝ }
-    ensures { λ r. ⌜ pick (eqb r 0) (now (s .entry)) (take r (now (kept .exit))) ≡ pick (eqb have 0) (now (s .entry)) (keep (take have (now (kept .entry)) ++ now (s .entry))) ⌝ }
-    ensures { λ r. ⌜ r ≤ keptMost ⌝ }
-{
-    if have == 0 {
-        return 0;
-    }
-    hold(kept, have, s)
 }
 
 // The line.
@@ -87,7 +48,7 @@ fn end_line(
     ensures { λ r. ⌜ lineBuffers (r .bench) (r .length) (now (m .exit)) (now (reply .exit)) (now (text .exit)) ≡ putLine (lineFrom (benchState b (now (m .entry)) (now (reply .entry))) (take have (now (kept .entry)) ++ now (s .entry))) (now (text .entry)) ⌝ }
     ensures { λ r. ⌜ r .length ≤ textRoom ⌝ }
 {
-    let n = join(kept, have, s);
+    let n = unfinished::join(kept, have, s);
     script::line(b, m, reply, frame, line_from(kept, n, s), text)
 }
 
@@ -109,10 +70,10 @@ pub fn step(
 {
     let mut frame = [0u8; 602];
     let mut bench = b;
-    let mut n = kept_count(kept, have);
+    let mut n = unfinished::kept_count(kept, have);
     let mut from = 0;
     let mut at = 0;
-    let mut end = text::line_end(s, 0);
+    let mut end = lines::line_end(s, 0);
     while (end < s.len()) & (1304 <= out.len() - at) {
         let o = end_line(
             bench,
@@ -128,9 +89,9 @@ pub fn step(
         at += o.length;
         n = 0;
         from = end + 1;
-        end = text::line_end(s, from);
+        end = lines::line_end(s, from);
     }
-    let rest = hold(kept, n, &s[from..end]);
+    let rest = unfinished::hold(kept, n, &s[from..end]);
     StreamOutcome {
         bench,
         have: rest,
@@ -151,7 +112,7 @@ pub fn end(
     ensures { λ r. ⌜ streamBuffers (r .bench) (now (m .exit)) (now (reply .exit)) (take (r .have) (now (kept .exit))) (r .used) (r .wrote) (now (out .exit)) ≡ puts (endOf (length (now (out .entry))) (benchState b (now (m .entry)) (now (reply .entry))) (take have (now (kept .entry)))) (now (out .entry)) ⌝ }
     ensures { λ r. ⌜ r .wrote ≤ length (now (out .entry)) ⌝ }
 {
-    let held = kept_count(kept, have);
+    let held = unfinished::kept_count(kept, have);
     if held == 0 {
         return StreamOutcome {
             bench: b,

@@ -1,4 +1,2 @@
 pub mod PlaceLaws
-pub mod HexLaws
 pub mod DecimalLaws
-pub mod Scan

@@ -1,5 +1,5 @@
 use native.Mathlib.Omega.{arith}
-use Rattle.model.proofs.RepliesFit.{short}
+use Rattle.replies_fit.proofs.RepliesFit.{short}
 use Rattle.capi.specs.Interface.{answerNumber}
 use borrow.Author.Needs.{needs}
 use Rattle.capi.proofs.answer_number.Statement.{statement}

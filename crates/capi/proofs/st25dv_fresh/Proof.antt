@@ -1,9 +1,9 @@
 use mathlib.Core.Path.{sym, ap, _∙_}
 use Rattle.refusals.specs.Refusals.{unlessRefused}
-use Rattle.model.specs.Step.{FreshResult, freshResult, replyFits}
-use Rattle.model.proofs.RepliesFit.{fresh-reply-fits}
+use Rattle.model.specs.Step.{FreshResult, freshResult}
+use Rattle.replies_fit.specs.Claims.{replyFits}
+use Rattle.replies_fit.proofs.RepliesFit.{fresh-reply-fits}
 use Rattle.capi.specs.Interface.{freshCall}
-use Rattle.capi.proofs.Narrow.{fresh-whole}
 use Rattle.capi.proofs.Calls.{freshened}
 use borrow.Author.Needs.{needs}
 use Rattle.capi.proofs.st25dv_fresh.Statement.{statement}
@@ -31,9 +31,7 @@ fresh-requires : tie.Need-fresh-requires
 fresh-requires c κs = search needs
 
 keep-requires : tie.Need-keep-requires
-keep-requires c κs =
-    let a = c .before .before .before .before .before .before .before .before .before .before .before .before .before .before .args in
-    fresh-whole (a .uid .now) (a .m .now) (a .s .now) (sym (c .before .before .before .before .before .before .before .before .fresh-call-refusal .ensures) ∙ c .before .before .before .before .before .before .enum-told .given .1)
+keep-requires c κs = search needs
 
 answer-number-requires : tie.Need-answer-number-requires
 answer-number-requires c κs = ap (λ (e : FreshResult). replyFits (e .answer)) (c .before .before .before .before .before .before .fresh .ensures) ∙ fresh-reply-fits _ _

@@ -1,10 +1,11 @@
 use mathlib.Core.Path.{sym, ap, _∙_}
 use native.Mathlib.Omega.{arith}
 use Rattle.refusals.specs.Refusals.{unlessRefused}
-use Rattle.model.specs.Step.{StepResult, stepResultOf, replyFits}
-use Rattle.model.proofs.RepliesFit.{steps-fit}
+use Rattle.model.specs.Step.{StepResult, stepResultOf}
+use Rattle.replies_fit.specs.Claims.{replyFits}
+use Rattle.replies_fit.proofs.RepliesFit.{steps-fit}
 use Rattle.capi.specs.Interface.{stepCall}
-use Rattle.capi.proofs.Narrow.{code-small, value-small, known, whole}
+use Rattle.capi.proofs.Narrow.{code-small, value-small, known}
 use Rattle.capi.proofs.Calls.{stepped}
 use borrow.Author.Needs.{needs}
 use Rattle.capi.proofs.st25dv_step.Statement.{statement}
@@ -42,9 +43,7 @@ step-requires : tie.Need-step-requires
 step-requires c κs = search needs
 
 keep-requires : tie.Need-keep-requires
-keep-requires c κs =
-    let a = c .before .before .before .before .before .before .before .before .before .before .before .before .before .before .before .before .before .before .before .before .args in
-    whole (a .s .now) (a .m .now) (a .out .now) (a .code) (a .value) (sym (c .before .before .before .before .before .before .before .before .before .before .before .before .step-refusal .ensures) ∙ c .before .before .before .before .before .before .before .before .before .before .enum-told .given .1)
+keep-requires c κs = search needs
 
 answer-number-requires : tie.Need-answer-number-requires
 answer-number-requires c κs = ap (λ (e : StepResult). replyFits (e .answer)) (c .before .before .before .before .before .before .before .before .step .ensures) ∙ steps-fit _ _ _ _ _ _

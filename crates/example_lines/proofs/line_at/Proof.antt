@@ -2,7 +2,7 @@ use native.Mathlib.Omega.{arith}
 use mathlib.Core.Path.{_≡_, sym, ap}
 use Prim.Native.Nat.{ℕ, _-_}
 use lib.ListN.{take, drop}
-use Rattle.text.specs.Line.{lineLength}
+use Rattle.lines.specs.Line.{lineLength}
 use Rattle.example_lines.proofs.Laws.{line-within, no-line}
 use borrow.Author.Needs.{needs}
 use Rattle.example_lines.proofs.line_at.Statement.{statement}

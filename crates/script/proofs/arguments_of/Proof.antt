@@ -6,11 +6,12 @@ use lib.ListN.{length, take, drop, length-drop}
 use lib.Seq.{sets, take-all}
 use Rattle.crc.specs.Crc.{closed}
 use Rattle.script.specs.Bench.{benchCall, lineResult, closedFrame, benchOf}
-use Rattle.script.specs.Line.{ScriptLine, lineOf, lineBy}
-use Rattle.text.specs.Hex.{hexBytes}
-use Rattle.script.specs.declared.Bench.{Bench}
-use Rattle.script.specs.declared.reading.Reading.{Reading}
-use Rattle.script.proofs.LineLaws.{framed, Framed, bad-call}
+use Rattle.reading.specs.Line.{ScriptLine, lineOf, lineBy}
+use Rattle.hex.specs.Hex.{hexBytes}
+use Rattle.bench_start.specs.declared.Bench.{Bench}
+use Rattle.reading.specs.declared.Reading.{Reading}
+use Rattle.reading.proofs.LineLaws.{framed, Framed}
+use Rattle.script.proofs.LineLaws.{bad-call}
 use borrow.Author.Needs.{needs}
 use Rattle.script.proofs.arguments_of.Statement.{statement}
 use Rattle.script.proofs.arguments_of.Tie as tie

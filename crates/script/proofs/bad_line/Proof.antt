@@ -1,7 +1,7 @@
 use borrow.Author.Needs.{needs}
 use mathlib.Core.List.{List}
 use Prim.Native.Nat.{ℕ, _-_}
-use Rattle.script.specs.Text.{answerText}
+use Rattle.printing.specs.Text.{answerText}
 use Rattle.script.proofs.bad_line.Statement.{statement}
 use Rattle.script.proofs.bad_line.Tie as tie
 

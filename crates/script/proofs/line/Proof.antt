@@ -6,7 +6,7 @@ use native.Mathlib.Nat.{sub-zero}
 use native.Mathlib.Omega.{arith}
 use lib.ListN.{take}
 use Rattle.script.specs.Bench.{LineResult, LineBuffers, prints, benchCall, benchOf, lineBuffers, putLine}
-use Rattle.script.specs.Text.{badText}
+use Rattle.printing.specs.Text.{badText}
 use Rattle.script.specs.Lines.{benchState}
 use Rattle.script.proofs.LineLaws.{bad-call}
 use Rattle.script.proofs.Fits.{text-fits}

@@ -4,8 +4,8 @@ use mathlib.Core.List.{List}
 use Prim.Native.Nat.{ℕ, _+_, _-_, _/_}
 use lib.ListN.{length, take}
 use lib.Seq.{sets}
-use Rattle.text.specs.Hex.{hexBytes}
-use Rattle.text.proofs.HexLaws.{length-hex-bytes}
+use Rattle.hex.specs.Hex.{hexBytes}
+use Rattle.hex.proofs.HexLaws.{length-hex-bytes}
 use Rattle.crc.specs.Crc.{closed, closedAt}
 use Rattle.crc.proofs.Frames.{closed-at}
 use Rattle.script.proofs.LineLaws.{frame-stored}

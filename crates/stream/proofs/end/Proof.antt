@@ -6,7 +6,8 @@ use Prim.Native.Nat.{ℕ}
 use lib.ListN.{length, take, length-take}
 use Rattle.script.specs.Lines.{benchState}
 use Rattle.stream.specs.Step.{PieceResult, pieceBy, puts}
-use Rattle.stream.proofs.Held.{end-none, end-some, take-within}
+use Rattle.stream.proofs.Held.{end-none, end-some}
+use Rattle.unfinished.proofs.Held.{take-within}
 use Rattle.stream.proofs.end.Statement.{statement}
 use Rattle.stream.proofs.end.Tie as tie
 

@@ -9,7 +9,7 @@ use lib.ListN.{length, take}
 use Rattle.parts.proofs.Bools.{and-left, and-right}
 use Rattle.script.specs.Lines.{benchState}
 use Rattle.stream.specs.Step.{pieceBy, puts}
-use Rattle.stream.proofs.Held.{take-within}
+use Rattle.unfinished.proofs.Held.{take-within}
 use Rattle.stream.proofs.Turn.{Goes, begins, turns, ends}
 use Rattle.stream.proofs.step.Statement.{statement}
 use Rattle.stream.proofs.step.Tie as tie
@@ -103,7 +103,7 @@ part-hold-end : tie.Need-part-hold-end Inv-loop μ-loop
 part-hold-end c = omega (arith, c .before .before .loop .inv .within)
 
 hold-requires : tie.Need-hold-requires Inv-loop μ-loop
-hold-requires c κs = c .before .before .before .loop .inv .few
+hold-requires c κs = search needs
 
 same-length : tie.Need-same-length Inv-loop μ-loop
 same-length c = c .before .before .before .before .loop .inv .out-len

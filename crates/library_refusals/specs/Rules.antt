@@ -1,0 +1,30 @@
+-- The refusals of the library's calls: the model's that need no state, and the library's own; s is the state.
+use mathlib.Core.Bool.{not}
+use mathlib.Core.List.{List, [], _∷_, _++_}
+use Prim.Native.Nat.{ℕ}
+use lib.Dec.{eqb}
+use lib.ListN.{length}
+use Rattle.state.specs.Layout.{stateBytes, decodes}
+use Rattle.refusals.specs.declared.Refusal.the-variants.{OutOfRange, StateLength, UidLength}
+use Rattle.refusals.specs.Refusals.{RefusalRule, refusalRule, freshRules, callRules}
+
+-- the state buffer has not its 83 bytes
+abbrev pub stateRule : List ℕ → RefusalRule
+stateRule s = refusalRule (not (eqb (length s) stateBytes)) StateLength
+
+-- bytes that decode to no state break a range
+abbrev pub decodesRule : List ℕ → RefusalRule
+decodesRule s = refusalRule (not (decodes s)) OutOfRange
+
+-- the UID has not its 8 bytes
+abbrev pub uidRule : List ℕ → RefusalRule
+uidRule u = refusalRule (not (eqb (length u) 8)) UidLength
+
+-- 1, 2 and 3 are judged without a state: each is given exactly when document 01 says. 13 comes right before the first refusal that reads the state,
+-- which is 4: bytes that decode to no state, or (by the model) a tag that breaks a range.
+abbrev pub stepRules : List ℕ → List ℕ → List ℕ → ℕ → ℕ → List RefusalRule
+stepRules s m o code value = callRules m o code value ++ stateRule s ∷ decodesRule s ∷ []
+
+-- 1 without a state, as above; then 13, then 14; u is the UID
+abbrev pub freshCallRules : List ℕ → List ℕ → List ℕ → List RefusalRule
+freshCallRules u m s = freshRules m ++ stateRule s ∷ uidRule u ∷ []

@@ -1,0 +1,12 @@
+-- The state's bytes after a call.
+use mathlib.Core.List.{List}
+use Prim.Native.Nat.{ℕ}
+use Rattle.parts.specs.Pick.{pick}
+use Rattle.tag.specs.declared.Tag.{Tag}
+use Rattle.state.specs.Layout.{bytesOf}
+use Rattle.model.specs.declared.Answer.{Answer}
+use Rattle.model.specs.Step.{isRefused}
+
+-- "After any refusal every byte of every lent buffer is as before, the state's too. Otherwise the state buffer holds the next state."
+unfoldable pub stateAfter : List ℕ → Answer → Tag → List ℕ
+stateAfter s a t = pick (isRefused a) s (bytesOf t)

@@ -1,0 +1,36 @@
+// The state's bytes after a call.
+ghost use mathlib.Core.Path.{_≡_};
+ghost use lib.ListN.{length};
+ghost use Rattle.state.specs.Layout.{stateBytes};
+ghost use Rattle.model.specs.Step.{isRefused};
+ghost use Rattle.next_state.specs.After.{stateAfter};
+use model::Answer;
+use model::Outcome;
+
+fn is_refused(a: Answer) -> bool
+    ensures { λ r. ⌜ r ≡ isRefused a ⌝ }
+{
+    match a {
+        Answer::Refused(r) => true,
+        Answer::Nothing => false,
+        Answer::Ack => false,
+        Answer::NoAck => false,
+        Answer::Byte(x) => false,
+        Answer::Silence => false,
+        Answer::Reply(n) => false,
+    }
+}
+
+// Stores the next state, unless the call was refused. A buffer of another length stays.
+pub fn keep(o: Outcome, s: &mut [u8])
+    ensures { λ _. ⌜ (length (now (s .entry)) ≡ stateBytes → now (s .exit) ≡ stateAfter (now (s .entry)) (o .answer) (o .tag)) ⌝ }
+{
+    // Known from here on, the length is not tested again at each byte.
+    if s.len() != state::STATE_BYTES {
+        return;
+    }
+    let answer = o.answer;
+    if !is_refused(answer) {
+        state::encode(o.tag, s);
+    }
+}

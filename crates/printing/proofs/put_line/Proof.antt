@@ -1,0 +1,63 @@
+use borrow.Author.Needs.{needs}
+use native.Mathlib.Omega.{arith}
+use mathlib.Core.Path.{_≡_, ap, _∙_}
+use mathlib.Core.List.{List, [], _∷_, _++_}
+use Prim.Native.Nat.{ℕ, _-_, _≤_}
+use lib.ListN.{length}
+use Rattle.text.specs.Decimal.{decimal}
+use Rattle.text.specs.Place.{Stored, stored, lastPlace, textAt}
+use Rattle.text.proofs.DecimalLaws.{digits-most}
+use Rattle.text.proofs.PlaceLaws.{behind}
+use Rattle.printing.specs.Text.{answerText, lineText}
+use Rattle.printing.proofs.TextLaws.{length-line, answer-most, line-parts}
+use Rattle.printing.proofs.put_line.Statement.{statement}
+use Rattle.printing.proofs.put_line.Tie as tie
+
+put-decimal-requires : tie.Need-put-decimal-requires
+put-decimal-requires c κs = search needs
+
+put-mark-requires : tie.Need-put-mark-requires
+put-mark-requires c κs = search needs
+
+put-answer-requires : tie.Need-put-answer-requires
+put-answer-requires c κs = search needs
+
+put-mark-requires-2 : tie.Need-put-mark-requires-2
+put-mark-requires-2 c κs = search needs
+
+same-length : tie.Need-same-length
+same-length c = search needs
+
+returns : tie.Need-returns
+returns c =
+    let end = c .before .before .put-mark2 in
+    let answer = c .before .before .before .before .before .before in
+    let tab = answer .before .before .before .before .before in
+    let number = tab .before .before .before .before in
+    let a = number .before .before .before .args in
+    let o = a .text .now in
+    let d = decimal (a .number) in
+    let x = answerText (a .a) (a .out .now) in
+    let n = number .put-decimal in
+    let t = tab .put-mark in
+    let w = answer .put-answer in
+    let room : length o ≤ lastPlace = omega arith in
+    let to-tab = t .ensures ∙ behind o (n .last .0) d (0x09 ∷ []) 0 (n .result) room (n .ensures) in
+    let to-answer = w .ensures ∙ behind o (t .last .0) (d ++ 0x09 ∷ []) x 0 (t .result) room to-tab in
+    let e : stored (end .result) (end .last .0) ≡ textAt o 0 (lineText (a .number) x) =
+    end .ensures
+    ∙ behind o (w .last .1 .1 .0) ((d ++ 0x09 ∷ []) ++ x) (0x0A ∷ []) 0 (w .result) room to-answer
+    ∙ ap (λ (l : List ℕ). textAt o 0 l) (line-parts (a .number) x) in
+    let k : length (a .out .now) ≡ 643 = search needs in
+    (omega (arith, ap (λ (s : Stored). s .next) e, length-line (a .number) x, digits-most 20 (a .number), answer-most (a .a) (a .out .now) k), ap (λ (s : Stored). s .buffer) e)
+
+pub put-line-spec : {M : Type 1} → statement M
+put-line-spec =
+    tie.close
+    (tie.spec
+    put-decimal-requires
+    put-mark-requires
+    put-answer-requires
+    put-mark-requires-2
+    same-length
+    returns)

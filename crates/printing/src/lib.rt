@@ -1,0 +1,44 @@
+// The text of an answer.
+ghost use mathlib.Core.Path.{_≡_};
+ghost use Prim.Native.Nat.{_-_};
+ghost use lib.ListN.{length};
+ghost use lib.Seq.{sets};
+ghost use Rattle.text.specs.Place.{stored, textAt};
+ghost use Rattle.printing.specs.Text.{answerText, lineText};
+use model::Answer;
+
+// How many bytes of a reply are printed: those before its CRC.
+fn shown_bytes(n: usize) -> usize
+    ensures { λ r. ⌜ r ≡ n - 2 ⌝ }
+{
+    if n < 2 {
+        return 0;
+    }
+    n - 2
+}
+
+// Stores the text of an answer at a place, and gives the place behind it.
+fn put_answer(a: Answer, out: &[u8], text: &mut [u8], at: usize) -> usize
+    ensures { λ r. ⌜ stored r (now (text .exit)) ≡ textAt (now (text .entry)) at (answerText a (now (out .entry))) ⌝ }
+{
+    match a {
+        Answer::Refused(_) => text::put_mark(text, at, b'?'),
+        Answer::Nothing => text::put_mark(text, at, b'-'),
+        Answer::Ack => text::put_mark(text, at, b'A'),
+        Answer::NoAck => text::put_mark(text, at, b'N'),
+        Answer::Byte(x) => hex::put_byte(text, at, x),
+        Answer::Silence => text::put_mark(text, at, b'-'),
+        Answer::Reply(n) => hex::put_hex(text, at, out, shown_bytes(n)),
+    }
+}
+
+// Stores a line: its number, a tab, an answer, a line feed. Gives the line's length.
+pub fn put_line(text: &mut [u8], number: u64, a: Answer, out: &[u8; 643]) -> usize
+    ensures { λ r. ⌜ r ≡ length (lineText number (answerText a (now (out .entry)))) ⌝ }
+    ensures { λ _. ⌜ now (text .exit) ≡ sets (now (text .entry)) 0 (lineText number (answerText a (now (out .entry)))) ⌝ }
+{
+    let tab = text::put_decimal(text, 0, number);
+    let answer = text::put_mark(text, tab, 0x09);
+    let end = put_answer(a, out, text, answer);
+    text::put_mark(text, end, 0x0A)
+}

@@ -1,0 +1,1 @@
+// Every reply fits its 643 bytes. No code.

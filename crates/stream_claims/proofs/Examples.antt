@@ -1,0 +1,26 @@
+-- Worked examples of lines: no byte, a line feed alone, a last line without line feed, an empty line in between.
+use mathlib.Core.Path.{_≡_, refl}
+use mathlib.Core.List.{List, [], _∷_}
+use Rattle.parts.specs.Pick.{pick}
+use Rattle.stream_claims.specs.Lines.{byteBefore, linesOf, byteBeforeFull, fullLinesOf}
+use Rattle.stream_claims.specs.Output.{textsOf, benchOutput}
+
+pub no-byte : linesOf [] ≡ []
+unfolding linesOf
+no-byte = refl
+
+pub no-output : benchOutput [] ≡ []
+unfolding linesOf textsOf
+no-output = refl
+
+pub line-feed-alone : linesOf (10 ∷ []) ≡ [] ∷ []
+unfolding linesOf pick
+line-feed-alone = refl
+
+pub last-without : linesOf (65 ∷ 10 ∷ 10 ∷ 66 ∷ []) ≡ (65 ∷ []) ∷ [] ∷ (66 ∷ []) ∷ []
+unfolding linesOf byteBefore pick
+last-without = refl
+
+pub not-yet : fullLinesOf (65 ∷ 10 ∷ 10 ∷ 66 ∷ []) ≡ (65 ∷ []) ∷ [] ∷ []
+unfolding fullLinesOf byteBeforeFull pick
+not-yet = refl

@@ -2,7 +2,7 @@
 use mathlib.Core.Path.{_≡_}
 use mathlib.Core.List.{List}
 use Prim.Native.Nat.{ℕ}
-use Rattle.tag.specs.Keys.{uidAt}
+use Rattle.keys.specs.Keys.{uidAt}
 use Rattle.state.specs.Layout.{tagOf}
 use Rattle.refusals.specs.declared.Judgement.the-variants.{NoRefusal}
 use Rattle.refusals.specs.Refusals.{judgement, unlessRefused}

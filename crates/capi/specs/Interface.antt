@@ -6,7 +6,7 @@ use lib.Dec.{eqb}
 use lib.ListN.{length}
 use Rattle.parts.specs.Pick.{pick}
 use Rattle.tag.specs.declared.Tag.{Tag}
-use Rattle.tag.specs.Keys.{uidAt}
+use Rattle.keys.specs.Keys.{uidAt}
 use Rattle.state.specs.Layout.{stateBytes, bytesOf, decodes, tagOf}
 use Rattle.refusals.specs.declared.Refusal.{Refusal}
 use Rattle.refusals.specs.declared.Refusal.the-variants.{OutOfRange, StateLength, UidLength}

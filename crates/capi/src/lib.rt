@@ -7,11 +7,11 @@ ghost use Rattle.state.specs.Layout.{stateBytes};
 ghost use Rattle.refusals.specs.Refusals.{judgement};
 ghost use Rattle.model.specs.Step.{isRefused, replyFits};
 ghost use Rattle.capi.specs.Interface.{answerNumber, stateAfter, callResult, stepRules, stepCall, freshCallResult, freshCallRules, freshCall};
+use keys::Uid;
 use model::Answer;
 use model::Outcome;
 use refusals::Judgement;
 use refusals::Refusal;
-use tag::Uid;
 
 // ---- the answers
 fn is_refused(a: Answer) -> bool

@@ -10,9 +10,9 @@ use Rattle.registers.specs.declared.WriteRule.the-variants.{Plain, AreaEnd, Mai
 use Rattle.registers.specs.Table.{rowOf, isPointer}
 use Rattle.registers.specs.Map.{registerAt, written}
 use Rattle.areas.specs.Ends.{endAllows}
-use Rattle.tag.specs.declared.Mailbox.{Mailbox}
+use Rattle.mailbox.specs.declared.Mailbox.{Mailbox}
 use Rattle.tag.specs.declared.Core.{Core}
-use Rattle.tag.specs.Mailbox.{controlByte, disabled, controlled}
+use Rattle.mailbox.specs.Mailbox.{controlByte, disabled, controlled}
 use Rattle.tag.specs.Parts.{withRegisters, withMailbox}
 use Rattle.errors.specs.declared.RadioError.the-variants.{NoSuchRegister, ConfigurationClosed, EndRefused, NoSuchDynamicRegister}
 use Rattle.reply.specs.declared.RadioSide.{RadioSide}

@@ -3,11 +3,11 @@ ghost use mathlib.Core.Path.{_≡_};
 ghost use Rattle.reply.specs.Outcome.{radioResult, finish};
 ghost use Rattle.config.specs.Config.{readConfigOf, mailboxAfterWrite, writtenCore, writeConfigOf, readDynamicOf, writeDynamicOf};
 use errors::RadioError;
+use mailbox::Mailbox;
 use registers::WriteRule;
 use reply::RadioOutcome;
 use reply::RadioSide;
 use tag::Core;
-use tag::Mailbox;
 
 // A0.
 pub fn read(s: RadioSide, m: &[u8], out: &mut [u8], p: u8) -> RadioOutcome

@@ -9,7 +9,7 @@ use Rattle.parts.specs.Pick.{pick}
 use Rattle.parts.specs.Bytes.{bytesAt}
 use Rattle.text.specs.Decimal.{decimal}
 use Rattle.text.specs.Line.{lineLength}
-use Rattle.tag.specs.declared.Uid.{Uid}
+use Rattle.keys.specs.declared.Uid.{Uid}
 use Rattle.tag.specs.Layout.{memoryBytes}
 use Rattle.rule.specs.Select.{address}
 

@@ -7,8 +7,8 @@ ghost use Rattle.text.specs.Hex.{hexText};
 ghost use Rattle.state.specs.Layout.{bytesOf};
 ghost use Rattle.example_lines.specs.States.{patchedOf};
 ghost use Rattle.example_lines.specs.Lines.{exampleUid, scriptLine, nextAt, numberText, zeroed, wordAt, placed, placedOf};
+use keys::Uid;
 use tag::Tag;
-use tag::Uid;
 
 // More bytes than a script has.
 pub const SCRIPT: usize = 262144;

@@ -6,8 +6,8 @@ use mathlib.Core.Logic.{_⊎_}
 use Prim.Native.Nat.{ℕ}
 use Rattle.parts.specs.Bits.{isSet}
 use Rattle.registers.specs.declared.RfMngt.{RfMngt}
-use Rattle.tag.specs.declared.Air.{Air}
-use Rattle.tag.specs.declared.Uid.{Uid}
+use Rattle.air.specs.declared.Air.{Air}
+use Rattle.keys.specs.declared.Uid.{Uid}
 use Rattle.errors.specs.declared.RadioError.the-variants.{ShutOut}
 use Rattle.frame.specs.declared.Verdict.the-variants.{Silence, Error}
 use Rattle.frame.specs.Judge.{shutOut, judge}

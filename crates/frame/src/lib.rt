@@ -5,10 +5,10 @@ ghost use Rattle.frame.specs.Fields.{command, optionFlag, uidPlace, para
 ghost use Rattle.rule_list.specs.RuleList.{anyHolds};
 ghost use Rattle.frame.specs.Silence.{makerDiffers, uidDiffers, silenceHolds, receptionSilences, addressSilences, isSilent};
 ghost use Rattle.frame.specs.Judge.{isMute, errorOf, shutOut, badFlags, wrongLength, judge};
+use air::Air;
 use errors::RadioError;
+use keys::Uid;
 use registers::RfMngt;
-use tag::Air;
-use tag::Uid;
 
 pub enum Verdict {
     Silence,
@@ -140,11 +140,11 @@ fn fails_address(s: &[u8], a: Air, u: Uid) -> bool
     if uid_differs(s, u) {
         return true;
     }
-    let selected = tag::is_selected(radio);
+    let selected = air::is_selected(radio);
     if select & !selected {
         return true;
     }
-    let quiet = tag::is_quiet(radio);
+    let quiet = air::is_quiet(radio);
     if !select & !address & quiet {
         return true;
     }

@@ -8,12 +8,12 @@ use lib.Seq.{sets}
 use Rattle.parts.specs.Pick.{pick}
 use Rattle.registers.specs.Defined.{rfMngt}
 use Rattle.registers.specs.Map.{withDynamic}
-use Rattle.tag.specs.declared.Space.{Space}
-use Rattle.tag.specs.declared.Space.the-variants.{User, System}
+use Rattle.bus.specs.declared.Space.{Space}
+use Rattle.bus.specs.declared.Space.the-variants.{User, System}
 use Rattle.tag.specs.declared.WireSide.{WireSide}
 use Rattle.tag.specs.Layout.{userBytes, mailboxPlace}
-use Rattle.tag.specs.Mailbox.{controlled, hostPut, hostRead}
-use Rattle.tag.specs.Keys.{passwordAt, samePassword, withI2cPassword}
+use Rattle.mailbox.specs.Mailbox.{controlled, hostPut, hostRead}
+use Rattle.keys.specs.Keys.{passwordAt, samePassword, withI2cPassword}
 use Rattle.tag.specs.Parts.{withI2cSession, withProgramming, withRegisters, withMailbox, withPasswords, withHost, withWireCore}
 use Rattle.rule.specs.Rule.{writtenAll}
 

@@ -7,11 +7,11 @@ ghost use Rattle.tag.specs.Parts.{withWireCore};
 ghost use Rattle.leg.specs.Fetch.{memoryByte, mailboxByte, userByte, systemByte, fetched, isLast};
 ghost use Rattle.leg.specs.Effect.{legResult, programming, userWritten, passwordWritten, systemWritten, legWritten, lastFetched};
 use areas::Side;
+use bus::Space;
+use keys::Password;
+use keys::Uid;
+use mailbox::Mailbox;
 use tag::Core;
-use tag::Mailbox;
-use tag::Password;
-use tag::Space;
-use tag::Uid;
 use tag::WireSide;
 
 fn memory_byte(c: Core, session: bool, m: &[u8], a: u16) -> u8

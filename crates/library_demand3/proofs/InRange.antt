@@ -14,11 +14,11 @@ use Rattle.registers.specs.Table.{rfMngtBits, RegisterEntry, registerTable}
 use Rattle.registers.specs.Defined.{onlyBits, byteOf, definedIn, definedOnly}
 use Rattle.registers.proofs.Table.{Each}
 use Rattle.areas.specs.Ends.{endsInRange}
-use Rattle.tag.specs.declared.Bus.{Bus}
-use Rattle.tag.specs.declared.Bus.the-variants.{Idle, Started, ReadLeg, WriteLeg, LowAddress, DataLeg}
-use Rattle.tag.specs.declared.Mailbox.{Mailbox}
+use Rattle.bus.specs.declared.Bus.{Bus}
+use Rattle.bus.specs.declared.Bus.the-variants.{Idle, Started, ReadLeg, WriteLeg, LowAddress, DataLeg}
+use Rattle.mailbox.specs.declared.Mailbox.{Mailbox}
 use Rattle.tag.specs.declared.Tag.{Tag}
-use Rattle.tag.specs.Bus.{isOpen, pageBytes}
+use Rattle.bus.specs.Bus.{isOpen, pageBytes}
 use Rattle.tag.specs.Parts.{wireSide}
 use Rattle.ranges.specs.Ranges.{registersInRange, airInRange, putCurrent, mailboxInRange, suppliedInRange, hostInRange, coreInRange, wireInRange, inRange}
 use Rattle.page.specs.PageRange.{busInRange}

@@ -6,10 +6,10 @@ use lib.Dec.{ltb, eqb}
 use lib.Seq.{sets}
 use Rattle.parts.specs.Pick.{pick}
 use Rattle.parts.specs.Bytes.{bytesAt}
-use Rattle.tag.specs.declared.Message.{Message}
-use Rattle.tag.specs.declared.Mailbox.{Mailbox}
+use Rattle.mailbox.specs.declared.Message.{Message}
+use Rattle.mailbox.specs.declared.Mailbox.{Mailbox}
 use Rattle.tag.specs.Layout.{mailboxPlace}
-use Rattle.tag.specs.Mailbox.{lengthByte, radioPut, radioRead}
+use Rattle.mailbox.specs.Mailbox.{lengthByte, radioPut, radioRead}
 use Rattle.errors.specs.declared.RadioError.the-variants.{MailboxUnavailable, MailboxDisabled, PastMessage}
 use Rattle.reply.specs.declared.RadioSide.{RadioSide}
 use Rattle.reply.specs.Reply.{good}

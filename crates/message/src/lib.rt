@@ -3,9 +3,9 @@ ghost use mathlib.Core.Path.{_≡_};
 ghost use Rattle.reply.specs.Outcome.{radioResult, finish};
 ghost use Rattle.message.specs.Message.{takesMessage, writeMessageOf, lengthOf, asked, mailboxAfterRead, readMessageOf};
 use errors::RadioError;
+use mailbox::Mailbox;
 use reply::RadioOutcome;
 use reply::RadioSide;
-use tag::Mailbox;
 
 fn takes_message(b: Mailbox) -> bool
     ensures { λ r. ⌜ r ≡ takesMessage b ⌝ }

@@ -16,7 +16,7 @@ use Rattle.areas.specs.Rights.{isLocked, writeRight, mayWrite}
 use Rattle.areas.proofs.Kept.{byte-in-blocks-area}
 use Rattle.areas.proofs.Runs.{area-between, unlocked}
 use Rattle.tag.specs.declared.Core.{Core}
-use Rattle.tag.specs.declared.Space.the-variants.{User}
+use Rattle.bus.specs.declared.Space.the-variants.{User}
 use Rattle.tag.specs.Layout.{page}
 use Rattle.rule.specs.Rule.{memoryAcked, mailboxAcked, userAcked, spaceAcked, acked}
 use Rattle.rule.proofs.AckedByte.{acked-room, acked-space}

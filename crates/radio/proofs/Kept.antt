@@ -22,12 +22,12 @@ use Rattle.registers.specs.declared.WriteRule.the-variants.{Plain, AreaEnd, Mai
 use Rattle.registers.specs.declared.MbMode.{MbMode}
 use Rattle.registers.specs.Table.{rowOf}
 use Rattle.registers.specs.Map.{written}
-use Rattle.tag.specs.declared.Uid.{Uid}
-use Rattle.tag.specs.declared.Air.{Air}
-use Rattle.tag.specs.declared.Mailbox.{Mailbox}
+use Rattle.keys.specs.declared.Uid.{Uid}
+use Rattle.air.specs.declared.Air.{Air}
+use Rattle.mailbox.specs.declared.Mailbox.{Mailbox}
 use Rattle.tag.specs.declared.Core.{Core}
-use Rattle.tag.specs.Radio.{deselected}
-use Rattle.tag.specs.Mailbox.{disabled, enabled, controlled, radioPut, radioRead}
+use Rattle.air.specs.Radio.{deselected}
+use Rattle.mailbox.specs.Mailbox.{disabled, enabled, controlled, radioPut, radioRead}
 use Rattle.reply.specs.declared.RadioSide.{RadioSide}
 use Rattle.reply.specs.Reply.{ReplyBody}
 use Rattle.reply.specs.Outcome.{CommandResult, commandResult, withAir, withRadioCore, sideRegisters, sideMailbox, sidePasswords}

@@ -6,10 +6,10 @@ ghost use Rattle.radio.specs.Radio.{radioOf};
 use commands::Command;
 use commands::CommandCode;
 use frame::Verdict;
+use keys::Uid;
 use reply::RadioAnswer;
 use reply::RadioOutcome;
 use reply::RadioSide;
-use tag::Uid;
 
 // A frame's fields.
 pub struct RequestFields {

@@ -7,9 +7,9 @@ use native.Mathlib.Omega.{arith}
 use lib.Dec.{ltb}
 use borrow.Author.Tests.{ltb-true}
 use Rattle.parts.proofs.Bools.{and-left, and-right}
-use Rattle.tag.specs.declared.Space.{Space}
+use Rattle.bus.specs.declared.Space.{Space}
 use Rattle.tag.specs.declared.Core.{Core}
-use Rattle.tag.specs.Bus.{nextAddress}
+use Rattle.bus.specs.Bus.{nextAddress}
 use Rattle.rule.specs.Select.{firstOf}
 use Rattle.rule.specs.Rule.{spaceAcked, acked}
 

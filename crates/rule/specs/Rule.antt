@@ -11,9 +11,9 @@ use Rattle.registers.specs.Map.{written}
 use Rattle.areas.specs.declared.Side.the-variants.{Wire}
 use Rattle.areas.specs.Ends.{areaOfByte, endAllows}
 use Rattle.areas.specs.Rights.{mayWrite}
-use Rattle.tag.specs.declared.Space.{Space}
-use Rattle.tag.specs.declared.Space.the-variants.{User, System}
-use Rattle.tag.specs.declared.Mailbox.{Mailbox}
+use Rattle.bus.specs.declared.Space.{Space}
+use Rattle.bus.specs.declared.Space.the-variants.{User, System}
+use Rattle.mailbox.specs.declared.Mailbox.{Mailbox}
 use Rattle.tag.specs.declared.Core.{Core}
 use Rattle.tag.specs.Layout.{userBytes}
 

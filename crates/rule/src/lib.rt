@@ -6,10 +6,10 @@ ghost use Rattle.tag.specs.Layout.{page};
 ghost use Rattle.rule.specs.Select.{selectOf, choose, address, firstOf};
 ghost use Rattle.rule.specs.Rule.{memoryAcked, mailboxAcked, userAcked, writtenAll, registerAcked, passwordAcked, systemAcked, acked};
 use areas::Side;
+use bus::Space;
+use mailbox::Mailbox;
 use registers::Registers;
 use tag::Core;
-use tag::Mailbox;
-use tag::Space;
 
 // What a select byte comes to.
 pub enum Choice {

@@ -13,11 +13,11 @@ ghost use Rattle.script.specs.declared.Bench.{Bench};
 ghost use Rattle.script.specs.Line.{lineOf};
 ghost use Rattle.script.specs.Text.{badText};
 ghost use Rattle.script.specs.Bench.{benchStart, benchStartOf, nextLine, longestText, prints, lineBuffers, putLine, benchCall, closedFrame, benchOf};
+use keys::Uid;
 use model::Answer;
 use reading::Reading;
 use refusals::Refusal;
 use tag::Tag;
-use tag::Uid;
 
 // What goes from line to line beside the memory.
 pub struct Bench {

@@ -5,7 +5,7 @@ use Prim.Native.Nat.{ℕ}
 use lib.ListN.{length}
 use lib.Seq.{sets}
 use Rattle.parts.specs.Bytes.{bytesAt}
-use Rattle.tag.specs.declared.Passwords.{Passwords}
+use Rattle.keys.specs.declared.Passwords.{Passwords}
 use Rattle.tag.specs.declared.Host.{Host}
 use Rattle.tag.specs.declared.Tag.{Tag}
 use Rattle.state.specs.Layout.{flagByte, lowByte, highByte, airBytes, busBytes, hostBytes, registerBytes, mailboxBytes, passwordBytes, bytesOf}

@@ -14,9 +14,9 @@ use Rattle.parts.proofs.Picks.{pick-false}
 use Rattle.parts.proofs.Lists.{length-bytesAt, bytesAt-after}
 use Rattle.registers.specs.Table.{isWritable}
 use Rattle.areas.specs.Ends.{endAllows}
-use Rattle.tag.specs.declared.Space.{Space}
-use Rattle.tag.specs.declared.Space.the-variants.{System}
-use Rattle.tag.specs.declared.Mailbox.{Mailbox}
+use Rattle.bus.specs.declared.Space.{Space}
+use Rattle.bus.specs.declared.Space.the-variants.{System}
+use Rattle.mailbox.specs.declared.Mailbox.{Mailbox}
 use Rattle.tag.specs.declared.Core.{Core}
 use Rattle.tag.specs.Layout.{page}
 use Rattle.ranges.specs.Ranges.{registersInRange}

@@ -2,14 +2,14 @@
 ghost use mathlib.Core.Path.{_≡_};
 ghost use Rattle.areas.specs.Ends.{areaOfBlock, areaOfByte, endsInRange, laterLargest, exceedsBefore, endAccepted, endAllows};
 ghost use Rattle.areas.specs.Rights.{securityOf, sessionOpens, radioWrites, radioReads, wireBits, wireWrites, wireReads, isLocked, readRight, writeRight, mayRead, mayWrite};
-use registers::EndA;
+use register_table::WriteRule;
+use register_types::EndA;
+use register_types::I2cSs;
+use register_types::LockCcFile;
+use register_types::RfaSs;
 use registers::Ends;
-use registers::I2cSs;
-use registers::LockCcFile;
 use registers::Registers;
-use registers::RfaSs;
 use registers::Security;
-use registers::WriteRule;
 
 // ENDAi of the last area.
 pub const LARGEST_END: u8 = 0x0F;
@@ -97,7 +97,7 @@ pub fn end_accepted(e: Ends, i: u8, x: u8) -> bool
 pub fn end_allows(e: Ends, at: u32, x: u8) -> bool
     ensures { λ r. ⌜ r ≡ endAllows e at x ⌝ }
 {
-    let row = registers::row_of(at);
+    let row = register_table::row_of(at);
     let rule = row.rule;
     match rule {
         WriteRule::Plain => true,

@@ -2,8 +2,9 @@
 use Rattle.parts.specs.Bytes.{bytesAt, copied, agree, areBytes}
 use Rattle.parts.specs.Pick.{pick}
 use Rattle.crc.specs.Crc.{shifted, bit, bits, byte, run, crcOf, goodFrame, closedAt}
-use Rattle.registers.specs.Defined.{definedIn, definedOnly, freshRegisters}
-use Rattle.registers.specs.Table.{rowIn, rowOf}
+use Rattle.defined_bits.specs.Defined.{definedIn, definedOnly}
+use Rattle.registers.specs.Fresh.{freshRegisters}
+use Rattle.register_table.specs.Table.{rowIn, rowOf}
 use Rattle.registers.specs.Map.{registerAt, withArea, withEnd, written}
 use Rattle.areas.specs.Ends.{areaOfBlock, areaOfByte, endsInRange, laterLargest, exceedsBefore, endAccepted, endAllows}
 use Rattle.areas.specs.Rights.{securityOf, sessionOpens, radioWrites, radioReads, wireBits, wireWrites, wireReads, isLocked, readRight, writeRight, mayRead, mayWrite}

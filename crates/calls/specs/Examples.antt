@@ -4,7 +4,8 @@ use mathlib.Core.List.{List, [], _∷_, _++_}
 use Prim.Native.Nat.{ℕ, _-_}
 use lib.ListN.{length, replicate}
 use Rattle.registers.specs.declared.Registers.{Registers}
-use Rattle.registers.specs.Defined.{freshRegisters, rfaSs, endA, mbMode}
+use Rattle.registers.specs.Fresh.{freshRegisters}
+use Rattle.register_types.specs.Types.{rfaSs, endA, mbMode}
 use Rattle.registers.specs.Map.{withSecurity, withEnds, withMode}
 use Rattle.air.specs.declared.RadioState.{RadioState}
 use Rattle.air.specs.declared.RadioState.the-variants.{Ready}

@@ -5,9 +5,9 @@ use Prim.Native.Nat.{ℕ}
 use lib.Dec.{leb, eqb}
 use Rattle.parts.specs.Pick.{pick}
 use Rattle.parts.specs.Bits.{isSet}
-use Rattle.registers.specs.declared.WriteRule.{WriteRule}
-use Rattle.registers.specs.declared.WriteRule.the-variants.{Plain, AreaEnd, MailboxMode}
-use Rattle.registers.specs.Table.{rowOf, isPointer}
+use Rattle.register_table.specs.declared.WriteRule.{WriteRule}
+use Rattle.register_table.specs.declared.WriteRule.the-variants.{Plain, AreaEnd, MailboxMode}
+use Rattle.register_table.specs.Table.{rowOf, isPointer}
 use Rattle.registers.specs.Map.{registerAt, written}
 use Rattle.areas.specs.Ends.{endAllows}
 use Rattle.mailbox.specs.declared.Mailbox.{Mailbox}

@@ -5,7 +5,7 @@ use Prim.Native.Nat.{ℕ, _+_}
 use lib.Dec.{eqb}
 use Rattle.parts.specs.Pick.{pick}
 use Rattle.parts.specs.Bits.{isSet}
-use Rattle.registers.specs.declared.RfMngt.{RfMngt}
+use Rattle.register_types.specs.declared.RfMngt.{RfMngt}
 use Rattle.air.specs.declared.Air.{Air}
 use Rattle.keys.specs.declared.Uid.{Uid}
 use Rattle.errors.specs.declared.RadioError.{RadioError}

@@ -6,7 +6,7 @@ use lib.Dec.{ltb, eqb}
 use lib.ListN.{length, getD}
 use Rattle.parts.specs.Bits.{isSet}
 use Rattle.crc.specs.Crc.{goodFrame}
-use Rattle.registers.specs.declared.RfMngt.{RfMngt}
+use Rattle.register_types.specs.declared.RfMngt.{RfMngt}
 use Rattle.air.specs.declared.Air.{Air}
 use Rattle.keys.specs.declared.Uid.{Uid}
 use Rattle.air.specs.Radio.{isQuiet, isSelected}

@@ -8,7 +8,7 @@ ghost use Rattle.frame.specs.Judge.{isMute, errorOf, shutOut, badFlags, 
 use air::Air;
 use errors::RadioError;
 use keys::Uid;
-use registers::RfMngt;
+use register_types::RfMngt;
 
 pub enum Verdict {
     Silence,

@@ -6,7 +6,7 @@ use lib.Dec.{ltb, eqb}
 use lib.ListN.{length, getD}
 use lib.Seq.{sets}
 use Rattle.parts.specs.Pick.{pick}
-use Rattle.registers.specs.Defined.{rfMngt}
+use Rattle.register_types.specs.Types.{rfMngt}
 use Rattle.registers.specs.Map.{withDynamic}
 use Rattle.bus.specs.declared.Space.{Space}
 use Rattle.bus.specs.declared.Space.the-variants.{User, System}

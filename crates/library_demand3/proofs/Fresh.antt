@@ -9,7 +9,7 @@ use lib.ListN.{length, replicate}
 use Rattle.parts.specs.Pick.{pick}
 use Rattle.parts.specs.Bytes.{areBytes}
 use Rattle.parts.proofs.Below.{bytes-below}
-use Rattle.registers.specs.Defined.{freshRegisters}
+use Rattle.registers.specs.Fresh.{freshRegisters}
 use Rattle.tag.specs.declared.Tag.{Tag}
 use Rattle.tag.specs.Layout.{memoryBytes}
 use Rattle.bus.specs.Bus.{isOpen}

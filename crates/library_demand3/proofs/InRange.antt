@@ -10,9 +10,11 @@ use borrow.Author.Tests.{eqb-true, leb-true, ltb-true, lt-ltb}
 use Rattle.parts.specs.Bytes.{areBytes}
 use Rattle.parts.proofs.Bools.{and-left, and-right}
 use Rattle.registers.specs.declared.Registers.{Registers}
-use Rattle.registers.specs.Table.{rfMngtBits, RegisterEntry, registerTable}
-use Rattle.registers.specs.Defined.{onlyBits, byteOf, definedIn, definedOnly}
-use Rattle.registers.proofs.Table.{Each}
+use Rattle.register_types.specs.Types.{rfMngtBits}
+use Rattle.register_table.specs.Table.{RegisterEntry, registerTable}
+use Rattle.defined_bits.specs.Defined.{onlyBits, definedIn, definedOnly}
+use Rattle.registers.specs.Map.{byteOf}
+use Rattle.register_table.proofs.Rows.{Each}
 use Rattle.areas.specs.Ends.{endsInRange}
 use Rattle.bus.specs.declared.Bus.{Bus}
 use Rattle.bus.specs.declared.Bus.the-variants.{Idle, Started, ReadLeg, WriteLeg, LowAddress, DataLeg}

@@ -4,7 +4,7 @@ use mathlib.Core.Bool.{Bool, true, false, _&&_}
 use Prim.Native.Nat.{ℕ, _+_, _-_, _%_}
 use Rattle.parts.specs.Pick.{pick}
 use Rattle.parts.specs.Bits.{isSet}
-use Rattle.registers.specs.declared.MbMode.{MbMode}
+use Rattle.register_types.specs.declared.MbMode.{MbMode}
 use Rattle.mailbox.specs.declared.Message.{Message}
 use Rattle.mailbox.specs.declared.Mailbox.{Mailbox}
 use Rattle.mailbox.specs.Parts.{withPut, withCurrent, withEnabled, withHostMessage, withRfMessage, withLength}

@@ -2,7 +2,7 @@
 ghost use mathlib.Core.Path.{_≡_};
 ghost use Prim.Native.Nat.{_≤_};
 ghost use Rattle.mailbox.specs.Mailbox.{controlByte, lengthByte, emptyMailbox, disabled, enabled, controlled, hostPut, radioPut, hostRead, radioRead, weight};
-use registers::MbMode;
+use register_types::MbMode;
 
 // One side's bits of MB_CTRL_Dyn: a message not yet read, and that the message is this side's.
 pub struct Message {

@@ -17,10 +17,10 @@ use Rattle.areas.specs.Ends.{endAllows}
 use Rattle.ranges.specs.Ranges.{registersInRange, airInRange, mailboxInRange, coreInRange}
 use Rattle.ranges.proofs.MailboxKept.{empty-kept, radio-read-kept, controlled-kept, radio-put-kept}
 use Rattle.ranges.proofs.RegistersKept.{written-kept, ccfile-kept}
-use Rattle.registers.specs.declared.WriteRule.{WriteRule}
-use Rattle.registers.specs.declared.WriteRule.the-variants.{Plain, AreaEnd, MailboxMode}
-use Rattle.registers.specs.declared.MbMode.{MbMode}
-use Rattle.registers.specs.Table.{rowOf}
+use Rattle.register_table.specs.declared.WriteRule.{WriteRule}
+use Rattle.register_table.specs.declared.WriteRule.the-variants.{Plain, AreaEnd, MailboxMode}
+use Rattle.register_types.specs.declared.MbMode.{MbMode}
+use Rattle.register_table.specs.Table.{rowOf}
 use Rattle.registers.specs.Map.{written}
 use Rattle.keys.specs.declared.Uid.{Uid}
 use Rattle.air.specs.declared.Air.{Air}

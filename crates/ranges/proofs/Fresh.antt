@@ -1,6 +1,7 @@
 -- The fresh tag is in range, for every UID. Assumes nothing.
 use mathlib.Core.Path.{refl}
-use Rattle.registers.specs.Defined.{definedIn, definedOnly, freshRegisters}
+use Rattle.defined_bits.specs.Defined.{definedIn, definedOnly}
+use Rattle.registers.specs.Fresh.{freshRegisters}
 use Rattle.areas.specs.Ends.{endsInRange}
 use Rattle.bus.specs.Bus.{isOpen, isActive, pageBytes}
 use Rattle.tag.specs.Supply.{freshTag}

@@ -7,7 +7,7 @@ use borrow.Author.Tests.{le-leb, lt-ltb}
 use Rattle.parts.specs.Bits.{isSet}
 use Rattle.parts.proofs.Bools.{and-left, and-right, or-first, or-second}
 use Rattle.parts.proofs.Picks.{pick-case}
-use Rattle.registers.specs.declared.MbMode.{MbMode}
+use Rattle.register_types.specs.declared.MbMode.{MbMode}
 use Rattle.mailbox.specs.declared.Mailbox.{Mailbox}
 use Rattle.mailbox.specs.Parts.{withEnabled}
 use Rattle.mailbox.specs.Mailbox.{emptyMailbox, disabled, enabled, controlled, hostPut, radioPut, hostRead, radioRead}

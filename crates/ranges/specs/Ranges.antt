@@ -2,7 +2,7 @@
 use mathlib.Core.Bool.{Bool, not, _&&_, _||_}
 use lib.Dec.{leb, ltb, eqb}
 use Rattle.registers.specs.declared.Registers.{Registers}
-use Rattle.registers.specs.Defined.{definedOnly}
+use Rattle.defined_bits.specs.Defined.{definedOnly}
 use Rattle.areas.specs.Ends.{endsInRange}
 use Rattle.air.specs.declared.Air.{Air}
 use Rattle.tag.specs.declared.Host.{Host}

@@ -13,7 +13,7 @@ use tag::WireSide;
 fn registers_in_range(r: Registers) -> bool
     ensures { λ b. ⌜ b ≡ registersInRange r ⌝ }
 {
-    areas::ends_in_range(r.ends) & r.is_defined()
+    areas::ends_in_range(r.ends) & defined_bits::is_defined(r)
 }
 
 fn air_in_range(a: Air) -> bool

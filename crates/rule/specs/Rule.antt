@@ -6,7 +6,7 @@ use Prim.Native.Nat.{ℕ, _+_, _/_}
 use lib.Dec.{leb, ltb, eqb}
 use Rattle.parts.specs.Pick.{pick}
 use Rattle.registers.specs.declared.Registers.{Registers}
-use Rattle.registers.specs.Table.{isWritable}
+use Rattle.register_table.specs.Table.{isWritable}
 use Rattle.registers.specs.Map.{written}
 use Rattle.areas.specs.declared.Side.the-variants.{Wire}
 use Rattle.areas.specs.Ends.{areaOfByte, endAllows}

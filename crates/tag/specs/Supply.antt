@@ -1,7 +1,7 @@
 -- Supply changes, and the fresh tag.
 use mathlib.Core.Bool.{Bool, true, false}
 use Rattle.parts.specs.Pick.{pick}
-use Rattle.registers.specs.Defined.{freshRegisters}
+use Rattle.registers.specs.Fresh.{freshRegisters}
 use Rattle.registers.specs.Map.{withDynamic}
 use Rattle.bus.specs.declared.Bus.the-variants.{Idle}
 use Rattle.tag.specs.declared.Host.{Host}

@@ -6,7 +6,7 @@ use Prim.Native.Nat.{ℕ}
 use Rattle.parts.specs.Pick.{pick}
 use Rattle.parts.specs.Bits.{isSet}
 use Rattle.parts.proofs.Bools.{or-second}
-use Rattle.registers.specs.declared.RfMngt.{RfMngt}
+use Rattle.register_types.specs.declared.RfMngt.{RfMngt}
 use Rattle.air.specs.declared.Air.{Air}
 use Rattle.keys.specs.declared.Uid.{Uid}
 use Rattle.tag.specs.declared.Tag.{Tag}

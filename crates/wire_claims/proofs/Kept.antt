@@ -12,7 +12,7 @@ use Rattle.parts.proofs.Bools.{and-left, and-right, and-both}
 use Rattle.parts.proofs.Picks.{pick-case}
 use Rattle.parts.proofs.Lists.{length-bytesAt}
 use Rattle.registers.specs.declared.Registers.{Registers}
-use Rattle.registers.specs.Defined.{rfMngt}
+use Rattle.register_types.specs.Types.{rfMngt}
 use Rattle.registers.specs.Map.{withDynamic}
 use Rattle.bus.specs.declared.Space.{Space}
 use Rattle.bus.specs.declared.Space.the-variants.{User, System}

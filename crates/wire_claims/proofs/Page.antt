@@ -12,7 +12,7 @@ use Rattle.parts.specs.Bytes.{bytesAt}
 use Rattle.parts.proofs.Bools.{and-left, and-right}
 use Rattle.parts.proofs.Picks.{pick-false}
 use Rattle.parts.proofs.Lists.{length-bytesAt, bytesAt-after}
-use Rattle.registers.specs.Table.{isWritable}
+use Rattle.register_table.specs.Table.{isWritable}
 use Rattle.areas.specs.Ends.{endAllows}
 use Rattle.bus.specs.declared.Space.{Space}
 use Rattle.bus.specs.declared.Space.the-variants.{System}

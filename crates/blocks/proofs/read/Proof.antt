@@ -5,9 +5,8 @@ use lib.Seq.{sets}
 use Rattle.parts.proofs.Picks.{picks}
 use Rattle.errors.specs.declared.RadioError.the-variants.{NoSuchBlock, ReadLeavesArea, ReadProtected}
 use Rattle.reply.specs.Reply.{good, fault}
-use Rattle.reply.proofs.Finish.{said}
+use Rattle.reply.proofs.Finish.{said, good-run}
 use Rattle.blocks.specs.Blocks.{blocksOf, readOf}
-use Rattle.reply.proofs.Finish.{good-run}
 use borrow.Author.Needs.{needs}
 use Rattle.blocks.proofs.read.Statement.{statement}
 use Rattle.blocks.proofs.read.Tie as tie

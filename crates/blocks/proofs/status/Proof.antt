@@ -1,9 +1,8 @@
 use Rattle.parts.proofs.Picks.{picks}
 use Rattle.errors.specs.declared.RadioError.the-variants.{NoSuchBlock}
 use Rattle.reply.specs.Reply.{good, fault}
-use Rattle.reply.proofs.Finish.{said}
+use Rattle.reply.proofs.Finish.{said, good-run}
 use Rattle.blocks.specs.Blocks.{statusesOf, statusReply}
-use Rattle.reply.proofs.Finish.{good-run}
 use Rattle.blocks.proofs.Runs.{length-statuses}
 use mathlib.Core.Path.{sym, ap, _∙_}
 use mathlib.Core.List.{List}

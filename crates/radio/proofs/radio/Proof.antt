@@ -1,7 +1,6 @@
-use Rattle.reply.specs.Reply.{fault}
+use Rattle.reply.specs.Reply.{fault, answerOf, bufferOf}
 use Rattle.reply.specs.Outcome.{commandResult}
 use mathlib.Core.Path.{_≡_}
-use Rattle.reply.specs.Reply.{answerOf, bufferOf}
 use Rattle.reply.proofs.Finish.{said}
 use Rattle.radio.specs.Radio.{verdictResult, radioOf}
 use borrow.Author.Needs.{needs}

@@ -54,7 +54,7 @@ fn keep(o: Outcome, s: &mut [u8])
     }
     let answer = o.answer;
     if !is_refused(answer) {
-        state::encode(o.tag, s);
+        state_encode::encode(o.tag, s);
     }
 }
 
@@ -70,7 +70,7 @@ fn step_refusal(s: &[u8], m: &[u8], out: &[u8], code: u32, value: u32) -> Judgem
             if s.len() != state::STATE_BYTES {
                 return Judgement::RefusedBy(Refusal::StateLength);
             }
-            if !state::decodes(s) {
+            if !state_judge::decodes(s) {
                 return Judgement::RefusedBy(Refusal::OutOfRange);
             }
             Judgement::NoRefusal
@@ -114,7 +114,7 @@ pub extern "C" fn st25dv_step(
     match judged {
         Judgement::RefusedBy(why) => why.number() as u32,
         Judgement::NoRefusal => {
-            let t = state::decode(s);
+            let t = state_decode::decode(s);
             let o = model::step(t, m, out, code as u8, value as u16, frame);
             keep(o, s);
             let answer = o.answer;

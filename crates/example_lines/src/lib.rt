@@ -103,7 +103,7 @@ pub fn patch(t: Tag, b: &[u8]) -> Patched
     ensures { λ r. ⌜ r ≡ patchedOf t (now (b .entry)) ⌝ }
 {
     let mut s = [0u8; state::STATE_BYTES];
-    state::encode(t, &mut s);
+    state_encode::encode(t, &mut s);
     let kept = Patched {
         fits: false,
         tag: t,
@@ -111,12 +111,12 @@ pub fn patch(t: Tag, b: &[u8]) -> Patched
     if !store(&mut s, b) {
         return kept;
     }
-    if !state::decodes(&s) {
+    if !state_judge::decodes(&s) {
         return kept;
     }
     Patched {
         fits: true,
-        tag: state::decode(&s),
+        tag: state_decode::decode(&s),
     }
 }
 
@@ -125,7 +125,7 @@ pub fn put_state(text: &mut [u8], at: usize, t: Tag) -> usize
     ensures { λ r. ⌜ stored r (now (text .exit)) ≡ textAt (now (text .entry)) at (hexText (bytesOf t)) ⌝ }
 {
     let mut s = [0u8; state::STATE_BYTES];
-    state::encode(t, &mut s);
+    state_encode::encode(t, &mut s);
     text::put_hex(text, at, &s, state::STATE_BYTES)
 }
 

@@ -9,9 +9,9 @@ use borrow.Author.Tests.{leb-true, leb-false, ltb-true, ltb-false, eqb-true, eqb
 use Rattle.parts.specs.Pick.{pick}
 use Rattle.parts.proofs.Bools.{and-left, and-right, and-both, or-first, or-second, or-cases}
 use Rattle.parts.proofs.Picks.{picks}
-use Rattle.registers.specs.declared.EndA.{EndA}
+use Rattle.register_types.specs.declared.EndA.{EndA}
 use Rattle.registers.specs.declared.Ends.{Ends}
-use Rattle.registers.specs.Defined.{endA}
+use Rattle.register_types.specs.Types.{endA}
 use Rattle.registers.specs.Map.{withEnd}
 use Rattle.areas.specs.Claims.{EndKept, ByteInBlocksArea}
 use Rattle.areas.specs.Ends.{lastBlock, lastByte, areaOfBlock, areaOfByte, rises, endsInRange, laterLargest, exceedsBefore, endAccepted}

@@ -3,7 +3,7 @@ use mathlib.Core.Path.{_≡_}
 use mathlib.Core.Bool.{true}
 use Prim.Native.Nat.{ℕ, _/_}
 use Rattle.registers.specs.declared.Ends.{Ends}
-use Rattle.registers.specs.Defined.{endA}
+use Rattle.register_types.specs.Types.{endA}
 use Rattle.registers.specs.Map.{withEnd}
 use Rattle.areas.specs.Ends.{areaOfBlock, areaOfByte, endsInRange, endAccepted}
 

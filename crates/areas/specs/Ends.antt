@@ -3,11 +3,11 @@ use mathlib.Core.Bool.{Bool, true, false, _&&_, _||_}
 use Prim.Native.Nat.{ℕ, _+_, _*_}
 use lib.Dec.{leb, ltb, eqb}
 use Rattle.parts.specs.Pick.{pick}
-use Rattle.registers.specs.declared.EndA.{EndA}
+use Rattle.register_types.specs.declared.EndA.{EndA}
 use Rattle.registers.specs.declared.Ends.{Ends}
-use Rattle.registers.specs.declared.WriteRule.{WriteRule}
-use Rattle.registers.specs.declared.WriteRule.the-variants.{Plain, AreaEnd, MailboxMode}
-use Rattle.registers.specs.Table.{rowOf}
+use Rattle.register_table.specs.declared.WriteRule.{WriteRule}
+use Rattle.register_table.specs.declared.WriteRule.the-variants.{Plain, AreaEnd, MailboxMode}
+use Rattle.register_table.specs.Table.{rowOf}
 
 -- "ENDA1 to ENDA3 are 0 to 0Fh."
 abbrev pub largestEnd : ℕ

@@ -1,8 +1,8 @@
 // Areas and their ends.
 ghost use mathlib.Core.Path.{_≡_};
 ghost use Rattle.areas.specs.Ends.{areaOfBlock, areaOfByte, endsInRange, laterLargest, exceedsBefore, endAccepted, endAllows};
+use register_table::WriteRule;
 use registers::Ends;
-use registers::WriteRule;
 
 // ENDAi of the last area.
 pub const LARGEST_END: u8 = 0x0F;
@@ -90,7 +90,7 @@ pub fn end_accepted(e: Ends, i: u8, x: u8) -> bool
 pub fn end_allows(e: Ends, at: u32, x: u8) -> bool
     ensures { λ r. ⌜ r ≡ endAllows e at x ⌝ }
 {
-    let row = registers::row_of(at);
+    let row = register_table::row_of(at);
     let rule = row.rule;
     match rule {
         WriteRule::Plain => true,

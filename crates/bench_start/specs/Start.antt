@@ -1,7 +1,7 @@
 -- What goes from line to line beside the memory: its start, and the line number.
 use mathlib.Core.List.{List, [], _∷_}
 use Prim.Native.Nat.{ℕ, _+_, _%_}
-use Rattle.tag.specs.declared.Uid.{Uid}
+use Rattle.keys.specs.declared.Uid.{Uid}
 use Rattle.model.specs.Step.{freshOf}
 use Rattle.bench_start.specs.declared.Bench.{Bench}
 

@@ -1,8 +1,8 @@
 // What goes from line to line beside the memory: its start, and the line number.
 ghost use mathlib.Core.Path.{_≡_};
 ghost use Rattle.bench_start.specs.Start.{benchStart, benchStartOf, nextLine};
+use keys::Uid;
 use tag::Tag;
-use tag::Uid;
 
 // What goes from line to line beside the memory.
 pub struct Bench {

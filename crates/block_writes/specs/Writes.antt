@@ -8,8 +8,8 @@ use Rattle.parts.specs.Pick.{pick}
 use Rattle.parts.specs.Bits.{keepBits}
 use Rattle.parts.specs.Bytes.{bytesAt}
 use Rattle.registers.specs.declared.Registers.{Registers}
-use Rattle.registers.specs.declared.Register.the-variants.{Ccfile}
-use Rattle.registers.specs.Table.{lockCcFileBits}
+use Rattle.register_table.specs.declared.Register.the-variants.{Ccfile}
+use Rattle.register_types.specs.Types.{lockCcFileBits}
 use Rattle.registers.specs.Map.{writtenTo}
 use Rattle.rights.specs.declared.Side.the-variants.{Radio}
 use Rattle.rights.specs.Rights.{isLocked, mayWrite}

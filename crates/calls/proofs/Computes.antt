@@ -2,15 +2,16 @@
 use Rattle.parts.specs.Bytes.{bytesAt, copied, agree, areBytes}
 use Rattle.parts.specs.Pick.{pick}
 use Rattle.crc.specs.Crc.{shifted, bit, bits, byte, run, crcOf, goodFrame, closedAt}
-use Rattle.registers.specs.Defined.{definedIn, definedOnly, freshRegisters}
-use Rattle.registers.specs.Table.{rowIn, rowOf}
+use Rattle.defined_bits.specs.Defined.{definedIn, definedOnly}
+use Rattle.registers.specs.Fresh.{freshRegisters}
+use Rattle.register_table.specs.Table.{rowIn, rowOf}
 use Rattle.registers.specs.Map.{registerAt, withArea, withEnd, written}
 use Rattle.areas.specs.Ends.{areaOfBlock, areaOfByte, endsInRange, laterLargest, exceedsBefore, endAccepted, endAllows}
 use Rattle.rights.specs.Rights.{securityOf, sessionOpens, radioWrites, radioReads, wireBits, wireWrites, wireReads, isLocked, readRight, writeRight, mayRead, mayWrite}
-use Rattle.tag.specs.Bus.{isOpen, isActive, pageBytes}
-use Rattle.tag.specs.Keys.{radioPassword, withRadioPassword, freshPasswords}
-use Rattle.tag.specs.Mailbox.{controlByte, lengthByte, enabled, controlled}
-use Rattle.tag.specs.Radio.{isQuiet, isSelected, deselected, fieldAt}
+use Rattle.bus.specs.Bus.{isOpen, isActive, pageBytes}
+use Rattle.keys.specs.Keys.{radioPassword, withRadioPassword, freshPasswords}
+use Rattle.mailbox.specs.Mailbox.{controlByte, lengthByte, enabled, controlled}
+use Rattle.air.specs.Radio.{isQuiet, isSelected, deselected, fieldAt}
 use Rattle.tag.specs.Supply.{vccAt, freshTag}
 use Rattle.ranges.specs.Ranges.{registersInRange, airInRange, mailboxInRange, suppliedInRange, hostInRange, coreInRange, wireInRange, inRange}
 use Rattle.user_rule.specs.UserRule.{memoryAcked, mailboxAcked, userAcked}

@@ -4,20 +4,22 @@ use mathlib.Core.List.{List, [], _∷_, _++_}
 use Prim.Native.Nat.{ℕ, _-_}
 use lib.ListN.{length, replicate}
 use Rattle.registers.specs.declared.Registers.{Registers}
-use Rattle.registers.specs.Defined.{freshRegisters, rfaSs, endA, mbMode}
+use Rattle.registers.specs.Fresh.{freshRegisters}
+use Rattle.register_types.specs.Types.{rfaSs, endA, mbMode}
 use Rattle.registers.specs.Map.{withSecurity, withEnds, withMode}
-use Rattle.tag.specs.declared.RadioState.{RadioState}
-use Rattle.tag.specs.declared.RadioState.the-variants.{Ready}
-use Rattle.tag.specs.declared.Air.{Air}
-use Rattle.tag.specs.declared.Bus.{Bus}
-use Rattle.tag.specs.declared.Bus.the-variants.{Idle}
+use Rattle.air.specs.declared.RadioState.{RadioState}
+use Rattle.air.specs.declared.RadioState.the-variants.{Ready}
+use Rattle.air.specs.declared.Air.{Air}
+use Rattle.bus.specs.declared.Bus.{Bus}
+use Rattle.bus.specs.declared.Bus.the-variants.{Idle}
 use Rattle.tag.specs.declared.Host.{Host}
 use Rattle.tag.specs.declared.Core.{Core}
-use Rattle.tag.specs.declared.Uid.{Uid}
+use Rattle.keys.specs.declared.Uid.{Uid}
 use Rattle.tag.specs.Layout.{userBytes, memoryBytes, replyBytes}
-use Rattle.tag.specs.Parts.{withField, withState, withRadioSession, withVcc, withI2cSession, withProgramming, withCounter, withTagHost, withTagCore, withBus, withRegisters, withMailbox, withTagAir}
-use Rattle.tag.specs.Mailbox.{emptyMailbox, noMessage}
-use Rattle.tag.specs.Keys.{freshPasswords}
+use Rattle.air.specs.Parts.{withField, withState, withRadioSession}
+use Rattle.tag.specs.Parts.{withVcc, withI2cSession, withProgramming, withCounter, withTagHost, withTagCore, withBus, withRegisters, withMailbox, withTagAir}
+use Rattle.mailbox.specs.Mailbox.{emptyMailbox, noMessage}
+use Rattle.keys.specs.Keys.{freshPasswords}
 use Rattle.crc.specs.Crc.{closed}
 use Rattle.calls.specs.Calls.{Call, Device, device}
 

@@ -2,7 +2,7 @@
 use mathlib.Core.Path.{_≡_}
 use mathlib.Core.List.{List}
 use Prim.Native.Nat.{ℕ}
-use Rattle.tag.specs.Keys.{uidAt}
+use Rattle.keys.specs.Keys.{uidAt}
 use lib.ListN.{length}
 use Rattle.state.specs.Layout.{stateBytes, tagOf}
 use Rattle.refusals.specs.declared.Judgement.the-variants.{NoRefusal}

@@ -6,8 +6,8 @@ use Prim.Native.Nat.{ℕ, _<_}
 use native.Mathlib.Omega.{arith}
 use Rattle.parts.specs.Pick.{pick}
 use Rattle.tag.specs.declared.Tag.{Tag}
-use Rattle.tag.specs.declared.Uid.{Uid}
-use Rattle.tag.specs.Keys.{uidAt}
+use Rattle.keys.specs.declared.Uid.{Uid}
+use Rattle.keys.specs.Keys.{uidAt}
 use Rattle.state.specs.Layout.{tagOf}
 use Rattle.reply.specs.Reply.{nothing}
 use Rattle.refusals.proofs.Laws.{judged-case}

@@ -1,7 +1,7 @@
 -- What a program in C or Rust calls: numbers and lent bytes, the state among them.
 use mathlib.Core.List.{List}
 use Prim.Native.Nat.{ℕ, _+_}
-use Rattle.tag.specs.Keys.{uidAt}
+use Rattle.keys.specs.Keys.{uidAt}
 use Rattle.state.specs.Layout.{tagOf}
 use Rattle.refusals.specs.declared.Refusal.{Refusal}
 use Rattle.refusals.specs.Refusals.{number, judgement, unlessRefused}

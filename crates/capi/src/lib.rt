@@ -4,9 +4,9 @@ ghost use mathlib.Core.Bool.{true};
 ghost use Rattle.crc.specs.Crc.{crcOf};
 ghost use Rattle.replies_fit.specs.Claims.{replyFits};
 ghost use Rattle.capi.specs.Interface.{answerNumber, callResult, stepCall, freshCallResult, freshCall};
+use keys::Uid;
 use model::Answer;
 use refusals::Judgement;
-use tag::Uid;
 
 // ---- the answers
 fn answer_number(a: Answer) -> u32
@@ -41,7 +41,7 @@ pub extern "C" fn st25dv_step(
     match judged {
         Judgement::RefusedBy(why) => why.number() as u32,
         Judgement::NoRefusal => {
-            let t = state::decode(s);
+            let t = state_decode::decode(s);
             let o = model::step(t, m, out, code as u8, value as u16, frame);
             next_state::keep(o, s);
             let answer = o.answer;

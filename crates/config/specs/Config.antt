@@ -5,14 +5,14 @@ use Prim.Native.Nat.{ℕ}
 use lib.Dec.{eqb}
 use Rattle.parts.specs.Pick.{pick}
 use Rattle.parts.specs.Bits.{isSet}
-use Rattle.registers.specs.declared.WriteRule.{WriteRule}
-use Rattle.registers.specs.declared.WriteRule.the-variants.{Plain, AreaEnd, MailboxMode}
-use Rattle.registers.specs.Table.{rowOf, isPointer}
+use Rattle.register_table.specs.declared.WriteRule.{WriteRule}
+use Rattle.register_table.specs.declared.WriteRule.the-variants.{Plain, AreaEnd, MailboxMode}
+use Rattle.register_table.specs.Table.{rowOf, isPointer}
 use Rattle.registers.specs.Map.{registerAt, written}
 use Rattle.areas.specs.Ends.{endAllows}
-use Rattle.tag.specs.declared.Mailbox.{Mailbox}
+use Rattle.mailbox.specs.declared.Mailbox.{Mailbox}
 use Rattle.tag.specs.declared.Core.{Core}
-use Rattle.tag.specs.Mailbox.{disabled}
+use Rattle.mailbox.specs.Mailbox.{disabled}
 use Rattle.tag.specs.Parts.{withRegisters, withMailbox}
 use Rattle.errors.specs.declared.RadioError.the-variants.{NoSuchRegister, ConfigurationClosed, EndRefused}
 use Rattle.reply.specs.declared.RadioSide.{RadioSide}

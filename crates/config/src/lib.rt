@@ -3,17 +3,17 @@ ghost use mathlib.Core.Path.{_≡_};
 ghost use Rattle.reply.specs.Outcome.{radioResult, finish};
 ghost use Rattle.config.specs.Config.{readConfigOf, mailboxAfterWrite, writtenCore, writeConfigOf};
 use errors::RadioError;
-use registers::WriteRule;
+use mailbox::Mailbox;
+use register_table::WriteRule;
 use reply::RadioOutcome;
 use reply::RadioSide;
 use tag::Core;
-use tag::Mailbox;
 
 // A0.
 pub fn read(s: RadioSide, m: &[u8], out: &mut [u8], p: u8) -> RadioOutcome
     ensures { λ r. ⌜ radioResult r (now (m .entry)) (now (out .exit)) ≡ finish (readConfigOf s (now (m .entry)) p) (now (out .entry)) ⌝ }
 {
-    let row = registers::row_of(p as u32);
+    let row = register_table::row_of(p as u32);
     if !row.radio {
         return RadioOutcome {
             answer: reply::error(out, RadioError::NoSuchRegister),
@@ -30,7 +30,7 @@ pub fn read(s: RadioSide, m: &[u8], out: &mut [u8], p: u8) -> RadioOutcome
 fn mailbox_after(p: u8, x: u8, m: Mailbox) -> Mailbox
     ensures { λ r. ⌜ r ≡ mailboxAfterWrite p x m ⌝ }
 {
-    let row = registers::row_of(p as u32);
+    let row = register_table::row_of(p as u32);
     let rule = row.rule;
     match rule {
         WriteRule::Plain => m,
@@ -60,7 +60,7 @@ pub fn write(s: RadioSide, m: &[u8], out: &mut [u8], p: u8, x: u8) -> RadioOutco
     ensures { λ r. ⌜ radioResult r (now (m .entry)) (now (out .exit)) ≡ finish (writeConfigOf s (now (m .entry)) p x) (now (out .entry)) ⌝ }
 {
     let r = s.core.registers;
-    let row = registers::row_of(p as u32);
+    let row = register_table::row_of(p as u32);
     if !row.radio {
         return RadioOutcome {
             answer: reply::error(out, RadioError::NoSuchRegister),

@@ -6,7 +6,7 @@ use mathlib.Core.List.{List, [], _∷_}
 use Rattle.parts.specs.Pick.{pick}
 use Rattle.parts.proofs.Picks.{pick-case}
 use Rattle.registers.specs.declared.Registers.{Registers}
-use Rattle.tag.specs.declared.Uid.{Uid}
+use Rattle.keys.specs.declared.Uid.{Uid}
 use Rattle.tag.specs.declared.Tag.{Tag}
 use Rattle.model.specs.Step.{transferOpen}
 use Rattle.calls.specs.Calls.{Call, CallAnswer, Device, DeviceResult, RunResult, runResult, entry, runBy, framesFit, callReply}

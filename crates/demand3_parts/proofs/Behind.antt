@@ -9,12 +9,12 @@ use borrow.Author.Tests.{leb-true, le-ltb, lt-ltb, ne-eqb}
 use Rattle.parts.specs.Pick.{pick}
 use Rattle.parts.proofs.Picks.{pick-true, pick-false, pick-case}
 use Rattle.parts.proofs.Bools.{and-left, and-right}
-use Rattle.tag.specs.declared.Space.the-variants.{User, System}
-use Rattle.tag.specs.declared.Air.{Air}
-use Rattle.tag.specs.declared.Bus.{Bus}
-use Rattle.tag.specs.declared.Bus.the-variants.{Idle, Started, ReadLeg, WriteLeg, LowAddress, DataLeg}
+use Rattle.bus.specs.declared.Space.the-variants.{User, System}
+use Rattle.air.specs.declared.Air.{Air}
+use Rattle.bus.specs.declared.Bus.{Bus}
+use Rattle.bus.specs.declared.Bus.the-variants.{Idle, Started, ReadLeg, WriteLeg, LowAddress, DataLeg}
 use Rattle.tag.specs.declared.Tag.{Tag}
-use Rattle.tag.specs.Bus.{isOpen, pageBytes}
+use Rattle.bus.specs.Bus.{isOpen, pageBytes}
 use Rattle.ranges.specs.Ranges.{airInRange, hostInRange}
 use Rattle.model.specs.Signals.{signalBy}
 use Rattle.model.specs.Step.{transferOpen, isRefused}

@@ -5,7 +5,7 @@ use Prim.Native.Nat.{ℕ}
 use lib.Dec.{eqb}
 use Rattle.parts.specs.Pick.{pick}
 use Rattle.dynamic.specs.Dynamic.{mbCtrlPointer}
-use Rattle.tag.specs.Mailbox.{controlByte, controlled}
+use Rattle.mailbox.specs.Mailbox.{controlByte, controlled}
 use Rattle.errors.specs.declared.RadioError.the-variants.{NoSuchDynamicRegister}
 use Rattle.reply.specs.declared.RadioSide.{RadioSide}
 use Rattle.reply.specs.Reply.{good}

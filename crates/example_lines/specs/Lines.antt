@@ -4,7 +4,7 @@ use Prim.Native.Nat.{ℕ, _+_, _-_, min}
 use lib.ListN.{length, take, drop}
 use Rattle.text.specs.Decimal.{decimal}
 use Rattle.lines.specs.Line.{lineLength}
-use Rattle.tag.specs.declared.Uid.{Uid}
+use Rattle.keys.specs.declared.Uid.{Uid}
 
 -- the UID of the examples' tags
 abbrev pub exampleUid : Uid

@@ -4,7 +4,7 @@ ghost use lib.ListN.{set};
 ghost use Rattle.io.specs.Counts.{Counts};
 ghost use Rattle.text.specs.Place.{stored, textAt};
 ghost use Rattle.example_lines.specs.Lines.{exampleUid, scriptLine, nextAt, numberText};
-use tag::Uid;
+use keys::Uid;
 
 // More bytes than a script has.
 pub const SCRIPT: usize = 524288;

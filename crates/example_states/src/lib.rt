@@ -43,7 +43,7 @@ pub fn patch(t: Tag, b: &[u8]) -> PatchOutcome
     ensures { λ r. ⌜ r ≡ patchOf t (now (b .entry)) ⌝ }
 {
     let mut s = [0u8; state::STATE_BYTES];
-    state::encode(t, &mut s);
+    state_encode::encode(t, &mut s);
     let kept = PatchOutcome {
         fits: false,
         tag: t,
@@ -51,12 +51,12 @@ pub fn patch(t: Tag, b: &[u8]) -> PatchOutcome
     if !store(&mut s, b) {
         return kept;
     }
-    if !state::decodes(&s) {
+    if !state_judge::decodes(&s) {
         return kept;
     }
     PatchOutcome {
         fits: true,
-        tag: state::decode(&s),
+        tag: state_decode::decode(&s),
     }
 }
 
@@ -65,6 +65,6 @@ pub fn put_state(text: &mut [u8], at: usize, t: Tag) -> usize
     ensures { λ r. ⌜ stored r (now (text .exit)) ≡ textAt (now (text .entry)) at (hexText (bytesOf t)) ⌝ }
 {
     let mut s = [0u8; state::STATE_BYTES];
-    state::encode(t, &mut s);
+    state_encode::encode(t, &mut s);
     hex::put_hex(text, at, &s, state::STATE_BYTES)
 }

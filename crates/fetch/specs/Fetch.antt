@@ -8,14 +8,14 @@ use Rattle.parts.specs.Pick.{pick}
 use Rattle.registers.specs.Map.{registerAt}
 use Rattle.rights.specs.declared.Side.the-variants.{Wire}
 use Rattle.rights.specs.Rights.{mayRead}
-use Rattle.tag.specs.declared.Space.{Space}
-use Rattle.tag.specs.declared.Space.the-variants.{User, System}
-use Rattle.tag.specs.declared.Mailbox.{Mailbox}
+use Rattle.bus.specs.declared.Space.{Space}
+use Rattle.bus.specs.declared.Space.the-variants.{User, System}
+use Rattle.mailbox.specs.declared.Mailbox.{Mailbox}
 use Rattle.tag.specs.declared.Core.{Core}
-use Rattle.tag.specs.declared.Uid.{Uid}
+use Rattle.keys.specs.declared.Uid.{Uid}
 use Rattle.tag.specs.Layout.{userBytes, mailboxPlace}
-use Rattle.tag.specs.Mailbox.{controlByte, lengthByte}
-use Rattle.tag.specs.Keys.{uidByte}
+use Rattle.mailbox.specs.Mailbox.{controlByte, lengthByte}
+use Rattle.keys.specs.Keys.{uidByte}
 use Rattle.dynamic.specs.Dynamic.{rfMngtDyn, i2cSsoDyn, mbCtrlDyn, mbLenDyn, dynamicAt, mailboxFirst, mailboxLast}
 
 -- "FFh where .. read-protected"

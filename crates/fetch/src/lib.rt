@@ -3,11 +3,11 @@ ghost use mathlib.Core.Path.{_≡_};
 ghost use Prim.Native.Nat.{_-_};
 ghost use Rattle.dynamic.specs.Dynamic.{mailboxFirst};
 ghost use Rattle.fetch.specs.Fetch.{memoryByte, mailboxByte, userByte, systemByte, fetched, isLast};
+use bus::Space;
+use keys::Uid;
+use mailbox::Mailbox;
 use rights::Side;
 use tag::Core;
-use tag::Mailbox;
-use tag::Space;
-use tag::Uid;
 
 fn memory_byte(c: Core, session: bool, m: &[u8], a: u16) -> u8
     ensures { λ r. ⌜ r ≡ memoryByte c session (now (m .entry)) a ⌝ }

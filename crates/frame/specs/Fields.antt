@@ -7,8 +7,8 @@ use lib.Dec.{leb}
 use lib.ListN.{length, getD}
 use Rattle.parts.specs.Pick.{pick}
 use Rattle.parts.specs.Bits.{isSet}
-use Rattle.tag.specs.declared.Uid.{Uid}
-use Rattle.tag.specs.Keys.{uidAt, sameUid}
+use Rattle.keys.specs.declared.Uid.{Uid}
+use Rattle.keys.specs.Keys.{uidAt, sameUid}
 
 abbrev pub flags : List ℕ → ℕ
 flags s = getD s 0 0

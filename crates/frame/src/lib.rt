@@ -2,7 +2,7 @@
 ghost use mathlib.Core.Path.{_≡_};
 ghost use Prim.Native.Nat.{_≤_};
 ghost use Rattle.frame.specs.Fields.{command, optionFlag, uidPlace, paramPlace, crcPlace, ownUid, param};
-use tag::Uid;
+use keys::Uid;
 
 // The command byte.
 pub fn command(s: &[u8]) -> u8

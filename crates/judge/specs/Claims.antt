@@ -5,9 +5,9 @@ use mathlib.Core.List.{List}
 use mathlib.Core.Logic.{_⊎_}
 use Prim.Native.Nat.{ℕ}
 use Rattle.parts.specs.Bits.{isSet}
-use Rattle.registers.specs.declared.RfMngt.{RfMngt}
-use Rattle.tag.specs.declared.Air.{Air}
-use Rattle.tag.specs.declared.Uid.{Uid}
+use Rattle.register_types.specs.declared.RfMngt.{RfMngt}
+use Rattle.air.specs.declared.Air.{Air}
+use Rattle.keys.specs.declared.Uid.{Uid}
 use Rattle.errors.specs.declared.RadioError.the-variants.{ShutOut}
 use Rattle.judge.specs.declared.Verdict.the-variants.{Silence, Error}
 use Rattle.judge.specs.Judge.{shutOut, judge}

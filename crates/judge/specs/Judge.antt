@@ -5,9 +5,9 @@ use Prim.Native.Nat.{ℕ, _+_}
 use lib.Dec.{eqb}
 use Rattle.parts.specs.Pick.{pick}
 use Rattle.parts.specs.Bits.{isSet}
-use Rattle.registers.specs.declared.RfMngt.{RfMngt}
-use Rattle.tag.specs.declared.Air.{Air}
-use Rattle.tag.specs.declared.Uid.{Uid}
+use Rattle.register_types.specs.declared.RfMngt.{RfMngt}
+use Rattle.air.specs.declared.Air.{Air}
+use Rattle.keys.specs.declared.Uid.{Uid}
 use Rattle.errors.specs.declared.RadioError.{RadioError}
 use Rattle.errors.specs.declared.RadioError.the-variants.{ShutOut, UnknownCommand, UnsupportedFlags, WrongLength}
 use Rattle.rule_list.specs.RuleList.{firstSays}

@@ -1,10 +1,10 @@
 // A frame judged: silence, an error, or a request to serve.
 ghost use mathlib.Core.Path.{_≡_};
 ghost use Rattle.judge.specs.Judge.{isMute, errorOf, shutOut, badFlags, wrongLength, judge};
+use air::Air;
 use errors::RadioError;
-use registers::RfMngt;
-use tag::Air;
-use tag::Uid;
+use keys::Uid;
+use register_types::RfMngt;
 
 pub enum Verdict {
     Silence,

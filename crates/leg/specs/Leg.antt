@@ -1,10 +1,10 @@
 -- What a leg does when it ends.
 use mathlib.Core.List.{List}
 use Prim.Native.Nat.{ℕ}
-use Rattle.tag.specs.declared.Space.{Space}
-use Rattle.tag.specs.declared.Space.the-variants.{User, System}
+use Rattle.bus.specs.declared.Space.{Space}
+use Rattle.bus.specs.declared.Space.the-variants.{User, System}
 use Rattle.tag.specs.declared.WireSide.{WireSide}
-use Rattle.tag.specs.Mailbox.{hostRead}
+use Rattle.mailbox.specs.Mailbox.{hostRead}
 use Rattle.tag.specs.Parts.{withMailbox, withWireCore}
 use Rattle.effect.specs.Effect.{LegResult, legResult}
 use Rattle.user_leg.specs.UserLeg.{userWritten}

@@ -3,7 +3,7 @@ ghost use mathlib.Core.Path.{_≡_};
 ghost use Rattle.tag.specs.Layout.{page};
 ghost use Rattle.effect.specs.Effect.{legResult};
 ghost use Rattle.leg.specs.Leg.{legWritten, lastFetched};
-use tag::Space;
+use bus::Space;
 use tag::WireSide;
 
 // A write leg's effect: the page's k bytes, all Acked, in a space from address f on.

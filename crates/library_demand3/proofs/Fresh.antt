@@ -9,11 +9,11 @@ use lib.ListN.{length, replicate}
 use Rattle.parts.specs.Pick.{pick}
 use Rattle.parts.specs.Bytes.{areBytes}
 use Rattle.parts.proofs.Below.{bytes-below}
-use Rattle.registers.specs.Defined.{freshRegisters}
+use Rattle.registers.specs.Fresh.{freshRegisters}
 use Rattle.tag.specs.declared.Tag.{Tag}
 use Rattle.tag.specs.Layout.{memoryBytes}
-use Rattle.tag.specs.Bus.{isOpen}
-use Rattle.tag.specs.Keys.{uidAt, freshPasswords}
+use Rattle.bus.specs.Bus.{isOpen}
+use Rattle.keys.specs.Keys.{uidAt, freshPasswords}
 use Rattle.tag.specs.Supply.{freshTag}
 use Rattle.state.specs.Layout.{registerBytes, bytesOf}
 use Rattle.state.specs.Claims.{busFits, Fits}

@@ -10,15 +10,17 @@ use borrow.Author.Tests.{eqb-true, leb-true, ltb-true, lt-ltb}
 use Rattle.parts.specs.Bytes.{areBytes}
 use Rattle.parts.proofs.Bools.{and-left, and-right}
 use Rattle.registers.specs.declared.Registers.{Registers}
-use Rattle.registers.specs.Table.{rfMngtBits, RegisterEntry, registerTable}
-use Rattle.registers.specs.Defined.{onlyBits, byteOf, definedIn, definedOnly}
-use Rattle.registers.proofs.Table.{Each}
+use Rattle.register_types.specs.Types.{rfMngtBits}
+use Rattle.register_table.specs.Table.{RegisterEntry, registerTable}
+use Rattle.defined_bits.specs.Defined.{onlyBits, definedIn, definedOnly}
+use Rattle.registers.specs.Map.{byteOf}
+use Rattle.register_table.proofs.Rows.{Each}
 use Rattle.areas.specs.Ends.{endsInRange}
-use Rattle.tag.specs.declared.Bus.{Bus}
-use Rattle.tag.specs.declared.Bus.the-variants.{Idle, Started, ReadLeg, WriteLeg, LowAddress, DataLeg}
-use Rattle.tag.specs.declared.Mailbox.{Mailbox}
+use Rattle.bus.specs.declared.Bus.{Bus}
+use Rattle.bus.specs.declared.Bus.the-variants.{Idle, Started, ReadLeg, WriteLeg, LowAddress, DataLeg}
+use Rattle.mailbox.specs.declared.Mailbox.{Mailbox}
 use Rattle.tag.specs.declared.Tag.{Tag}
-use Rattle.tag.specs.Bus.{isOpen, pageBytes}
+use Rattle.bus.specs.Bus.{isOpen, pageBytes}
 use Rattle.tag.specs.Parts.{wireSide}
 use Rattle.ranges.specs.Ranges.{registersInRange, airInRange, putCurrent, mailboxInRange, suppliedInRange, hostInRange, coreInRange, wireInRange, inRange}
 use Rattle.page.specs.PageRange.{busInRange}

@@ -6,9 +6,9 @@ use lib.Seq.{sets}
 use Rattle.parts.specs.Bytes.{bytesAt}
 use Rattle.parts.proofs.Below.{Below, run-below, sets-below}
 use Rattle.parts.proofs.Picks.{pick-case}
-use Rattle.tag.specs.declared.Uid.{Uid}
-use Rattle.tag.specs.declared.Passwords.{Passwords}
-use Rattle.tag.specs.Keys.{passwordAt, withRadioPassword}
+use Rattle.keys.specs.declared.Uid.{Uid}
+use Rattle.keys.specs.declared.Passwords.{Passwords}
+use Rattle.keys.specs.Keys.{passwordAt, withRadioPassword}
 use Rattle.reply.specs.declared.RadioSide.{RadioSide}
 use Rattle.reply.specs.Reply.{ReplyBody}
 use Rattle.reply.specs.Outcome.{CommandResult, commandResult}

@@ -7,12 +7,12 @@ use native.Mathlib.Omega.{arith}
 use lib.Dec.{ltb, eqb}
 use lib.ListN.{length, getD}
 use Rattle.parts.specs.Bytes.{areBytes}
-use Rattle.tag.specs.declared.RadioState.the-variants.{Selected}
-use Rattle.tag.specs.declared.Bus.the-variants.{Started}
+use Rattle.air.specs.declared.RadioState.the-variants.{Selected}
+use Rattle.bus.specs.declared.Bus.the-variants.{Started}
 use Rattle.tag.specs.declared.Tag.{Tag}
 use Rattle.tag.specs.Layout.{memoryBytes}
-use Rattle.tag.specs.Bus.{isActive}
-use Rattle.tag.specs.Radio.{isSelected}
+use Rattle.bus.specs.Bus.{isActive}
+use Rattle.air.specs.Radio.{isSelected}
 use Rattle.tag.specs.Supply.{freshTag}
 use Rattle.state.specs.Layout.{flagByte, radioNumber, radioStateOf, spaceNumber, spaceOf, airBytes, airDecodes, airAt, busBytes, isBus, busOf, busDecodes, busAt, hostBytes, hostDecodes, hostAt, registerBytes, registersAt, mailboxBytes, mailboxDecodes, mailboxAt, passwordBytes, passwordsAt, bytesOf, decodes, tagOf}
 use Rattle.model.specs.Step.{transferOpen, isRefused}

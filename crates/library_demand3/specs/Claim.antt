@@ -7,7 +7,7 @@ use lib.Dec.{ltb}
 use lib.ListN.{length}
 use Rattle.parts.specs.Pick.{pick}
 use Rattle.parts.specs.Bytes.{areBytes}
-use Rattle.tag.specs.declared.Air.{Air}
+use Rattle.air.specs.declared.Air.{Air}
 use Rattle.tag.specs.declared.Tag.{Tag}
 use Rattle.tag.specs.Layout.{memoryBytes}
 use Rattle.state.specs.Layout.{bytesOf, decodes, tagOf}

@@ -16,7 +16,7 @@ pub fn step_refusal(s: &[u8], m: &[u8], out: &[u8], code: u32, value: u32) -> Ju
             if s.len() != state::STATE_BYTES {
                 return Judgement::RefusedBy(Refusal::StateLength);
             }
-            if !state::decodes(s) {
+            if !state_judge::decodes(s) {
                 return Judgement::RefusedBy(Refusal::OutOfRange);
             }
             Judgement::NoRefusal

@@ -5,9 +5,9 @@ use Prim.Native.Nat.{ℕ, _+_}
 use lib.Dec.{ltb, eqb}
 use Rattle.parts.specs.Pick.{pick}
 use Rattle.parts.specs.Bytes.{bytesAt}
-use Rattle.tag.specs.declared.Mailbox.{Mailbox}
+use Rattle.mailbox.specs.declared.Mailbox.{Mailbox}
 use Rattle.tag.specs.Layout.{mailboxPlace}
-use Rattle.tag.specs.Mailbox.{lengthByte, radioRead}
+use Rattle.mailbox.specs.Mailbox.{lengthByte, radioRead}
 use Rattle.errors.specs.declared.RadioError.the-variants.{MailboxDisabled, PastMessage}
 use Rattle.reply.specs.declared.RadioSide.{RadioSide}
 use Rattle.reply.specs.Reply.{good}

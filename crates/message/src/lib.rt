@@ -3,9 +3,9 @@ ghost use mathlib.Core.Path.{_≡_};
 ghost use Rattle.reply.specs.Outcome.{radioResult, finish};
 ghost use Rattle.message.specs.Message.{lengthOf, asked, mailboxAfterRead, readMessageOf};
 use errors::RadioError;
+use mailbox::Mailbox;
 use reply::RadioOutcome;
 use reply::RadioSide;
-use tag::Mailbox;
 
 // AB.
 pub fn length(s: RadioSide, m: &[u8], out: &mut [u8]) -> RadioOutcome

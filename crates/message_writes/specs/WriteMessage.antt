@@ -5,9 +5,9 @@ use Prim.Native.Nat.{ℕ, _+_}
 use lib.Seq.{sets}
 use Rattle.parts.specs.Pick.{pick}
 use Rattle.parts.specs.Bytes.{bytesAt}
-use Rattle.tag.specs.declared.Mailbox.{Mailbox}
+use Rattle.mailbox.specs.declared.Mailbox.{Mailbox}
 use Rattle.tag.specs.Layout.{mailboxPlace}
-use Rattle.tag.specs.Mailbox.{radioPut}
+use Rattle.mailbox.specs.Mailbox.{radioPut}
 use Rattle.errors.specs.declared.RadioError.the-variants.{MailboxUnavailable}
 use Rattle.reply.specs.declared.RadioSide.{RadioSide}
 use Rattle.reply.specs.Reply.{good}

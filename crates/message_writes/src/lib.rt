@@ -3,9 +3,9 @@ ghost use mathlib.Core.Path.{_≡_};
 ghost use Rattle.reply.specs.Outcome.{radioResult, finish};
 ghost use Rattle.message_writes.specs.WriteMessage.{takesMessage, writeMessageOf};
 use errors::RadioError;
+use mailbox::Mailbox;
 use reply::RadioOutcome;
 use reply::RadioSide;
-use tag::Mailbox;
 
 fn takes_message(b: Mailbox) -> bool
     ensures { λ r. ⌜ r ≡ takesMessage b ⌝ }

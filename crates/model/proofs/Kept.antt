@@ -11,13 +11,13 @@ use Rattle.parts.specs.Bits.{isSet}
 use Rattle.parts.proofs.Below.{bytes-below}
 use Rattle.parts.proofs.Bools.{and-left, and-right, and-both, or-first, or-second}
 use Rattle.parts.proofs.Picks.{pick-case}
-use Rattle.tag.specs.declared.Air.{Air}
-use Rattle.tag.specs.declared.Bus.{Bus}
-use Rattle.tag.specs.declared.Bus.the-variants.{Idle, Started, ReadLeg, WriteLeg, LowAddress, DataLeg}
+use Rattle.air.specs.declared.Air.{Air}
+use Rattle.bus.specs.declared.Bus.{Bus}
+use Rattle.bus.specs.declared.Bus.the-variants.{Idle, Started, ReadLeg, WriteLeg, LowAddress, DataLeg}
 use Rattle.tag.specs.declared.Core.{Core}
 use Rattle.tag.specs.declared.Tag.{Tag}
-use Rattle.tag.specs.Bus.{isOpen, isActive}
-use Rattle.tag.specs.Radio.{fieldAt}
+use Rattle.bus.specs.Bus.{isOpen, isActive}
+use Rattle.air.specs.Radio.{fieldAt}
 use Rattle.tag.specs.Supply.{freshTag}
 use Rattle.tag.specs.Parts.{wireSide, withTagAir}
 use Rattle.ranges.specs.Ranges.{airInRange, coreInRange, suppliedInRange, wireInRange, inRange}

@@ -1,7 +1,7 @@
 // The tag's two entry points: the fresh tag, and one call. Nothing here relies on a check by the caller.
 ghost use mathlib.Core.Path.{_≡_};
 ghost use mathlib.Core.Bool.{true};
-ghost use Rattle.tag.specs.Radio.{fieldAt};
+ghost use Rattle.air.specs.Radio.{fieldAt};
 ghost use Rattle.tag.specs.Parts.{wireSide, withWire, withTagAir};
 ghost use Rattle.wire.specs.Wire.{signalOf};
 ghost use Rattle.model.specs.declared.Signal.the-variants.{Field, Frame};
@@ -9,11 +9,11 @@ ghost use Rattle.model.specs.declared.Answer.the-variants.{Refused, Noth
 ghost use Rattle.model.specs.Signals.{signalBy};
 ghost use Rattle.refusals.specs.Signals.{signalInRange};
 ghost use Rattle.model.specs.Step.{stepResultOf, freshResult, fromWire, fromRadio, actOf, stepOf, freshOf};
+use keys::Uid;
 use refusals::Judgement;
 use refusals::Refusal;
 use reply::RadioSide;
 use tag::Tag;
-use tag::Uid;
 use tag::WireSide;
 
 // What the signal of a call is.
@@ -116,7 +116,7 @@ fn by_frame(t: Tag, m: &mut [u8], out: &mut [u8], frame: &[u8]) -> Outcome
     let core = t.core;
     let host = t.host;
     let bus = host.bus;
-    let transfer = tag::is_open(bus);
+    let transfer = bus::is_open(bus);
     let o = radio::radio(
         RadioSide { air, core },
         t.uid,

@@ -31,6 +31,6 @@ pub fn keep(o: Outcome, s: &mut [u8])
     }
     let answer = o.answer;
     if !is_refused(answer) {
-        state::encode(o.tag, s);
+        state_encode::encode(o.tag, s);
     }
 }

@@ -9,7 +9,7 @@ use native.Mathlib.Omega.{arith}
 use lib.ListN.{getD}
 use Rattle.parts.specs.Bytes.{bytesAt}
 use Rattle.parts.proofs.Bools.{and-left, and-right}
-use Rattle.tag.specs.declared.Space.{Space}
+use Rattle.bus.specs.declared.Space.{Space}
 use Rattle.tag.specs.declared.Core.{Core}
 use Rattle.tag.specs.Layout.{page}
 use Rattle.rule.specs.Rule.{acked}

@@ -16,7 +16,7 @@ use Rattle.rights.specs.Rights.{isLocked, writeRight, mayWrite}
 use Rattle.areas.proofs.Kept.{byte-in-blocks-area}
 use Rattle.rights.proofs.Runs.{area-between, unlocked}
 use Rattle.tag.specs.declared.Core.{Core}
-use Rattle.tag.specs.declared.Space.the-variants.{User}
+use Rattle.bus.specs.declared.Space.the-variants.{User}
 use Rattle.tag.specs.Layout.{page}
 use Rattle.user_rule.specs.UserRule.{memoryAcked, mailboxAcked, userAcked}
 use Rattle.rule.specs.Rule.{spaceAcked, acked}

@@ -3,10 +3,10 @@ use mathlib.Core.Bool.{Bool, true, _&&_}
 use mathlib.Core.List.{List}
 use Prim.Native.Nat.{ℕ, zero, suc, _+_}
 use lib.ListN.{getD}
-use Rattle.tag.specs.declared.Space.{Space}
+use Rattle.bus.specs.declared.Space.{Space}
 use Rattle.tag.specs.declared.Core.{Core}
-use Rattle.tag.specs.declared.Bus.{Bus}
-use Rattle.tag.specs.declared.Bus.the-variants.{Idle, Started, ReadLeg, WriteLeg, LowAddress, DataLeg}
+use Rattle.bus.specs.declared.Bus.{Bus}
+use Rattle.bus.specs.declared.Bus.the-variants.{Idle, Started, ReadLeg, WriteLeg, LowAddress, DataLeg}
 use Rattle.tag.specs.Layout.{pagePlace, page}
 use Rattle.select.specs.Select.{firstOf}
 use Rattle.rule.specs.Rule.{acked}

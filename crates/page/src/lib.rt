@@ -2,11 +2,11 @@
 ghost use mathlib.Core.Path.{_≡_};
 ghost use mathlib.Core.List.{List};
 ghost use Prim.Native.Nat.{ℕ};
-ghost use Rattle.tag.specs.declared.Space.the-variants.{User, System};
+ghost use Rattle.bus.specs.declared.Space.the-variants.{User, System};
 ghost use Rattle.page.specs.PageRange.{pageAcked, busInRange};
-use tag::Bus;
+use bus::Bus;
+use bus::Space;
 use tag::Core;
-use tag::Space;
 
 // A page of user space, whatever its bytes. At most three places decide for all: the first and the last, since the bytes
 // between two of one area lie in it, and place 4 in the block after the first, since only blocks 0 and 1 can be locked.

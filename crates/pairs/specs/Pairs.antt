@@ -4,9 +4,9 @@ use mathlib.Core.Bool.{true, false}
 use mathlib.Core.List.{List, [], _∷_, _++_}
 use Prim.Native.Nat.{ℕ}
 use lib.ListN.{replicate, take}
-use Rattle.tag.specs.declared.RadioState.the-variants.{Ready}
-use Rattle.tag.specs.declared.Space.the-variants.{User}
-use Rattle.tag.specs.declared.Bus.the-variants.{WriteLeg, DataLeg}
+use Rattle.air.specs.declared.RadioState.the-variants.{Ready}
+use Rattle.bus.specs.declared.Space.the-variants.{User}
+use Rattle.bus.specs.declared.Bus.the-variants.{WriteLeg, DataLeg}
 use Rattle.tag.specs.Layout.{memoryBytes}
 use Rattle.tag.specs.Supply.{freshTag}
 use Rattle.crc.specs.Crc.{crcOf, closed}

@@ -4,8 +4,8 @@ use mathlib.Core.List.{List, []}
 use Prim.Native.Nat.{ℕ, _+_}
 use lib.Dec.{ltb, eqb}
 use Rattle.parts.specs.Pick.{pick}
-use Rattle.tag.specs.Parts.{withRadioSession}
-use Rattle.tag.specs.Keys.{passwordAt, samePassword, radioPassword, withRadioPassword}
+use Rattle.air.specs.Parts.{withRadioSession}
+use Rattle.keys.specs.Keys.{passwordAt, samePassword, radioPassword, withRadioPassword}
 use Rattle.errors.specs.declared.RadioError.the-variants.{NoSuchPassword, WrongPassword, PasswordSessionClosed}
 use Rattle.reply.specs.declared.RadioSide.{RadioSide}
 use Rattle.reply.specs.Reply.{good, fault}

@@ -3,9 +3,9 @@ ghost use mathlib.Core.Path.{_≡_};
 ghost use Rattle.reply.specs.Outcome.{radioResult, finish};
 ghost use Rattle.password.specs.Password.{presentOf, writePasswordOf};
 use errors::RadioError;
+use keys::Password;
 use reply::RadioOutcome;
 use reply::RadioSide;
-use tag::Password;
 
 // Radio passwords are 0 to 3.
 const LAST: u8 = 3;

@@ -17,17 +17,17 @@ use Rattle.areas.specs.Ends.{endAllows}
 use Rattle.ranges.specs.Ranges.{registersInRange, airInRange, mailboxInRange, coreInRange}
 use Rattle.ranges.proofs.MailboxKept.{empty-kept, radio-read-kept, controlled-kept, radio-put-kept}
 use Rattle.ranges.proofs.RegistersKept.{written-kept, ccfile-kept}
-use Rattle.registers.specs.declared.WriteRule.{WriteRule}
-use Rattle.registers.specs.declared.WriteRule.the-variants.{Plain, AreaEnd, MailboxMode}
-use Rattle.registers.specs.declared.MbMode.{MbMode}
-use Rattle.registers.specs.Table.{rowOf}
+use Rattle.register_table.specs.declared.WriteRule.{WriteRule}
+use Rattle.register_table.specs.declared.WriteRule.the-variants.{Plain, AreaEnd, MailboxMode}
+use Rattle.register_types.specs.declared.MbMode.{MbMode}
+use Rattle.register_table.specs.Table.{rowOf}
 use Rattle.registers.specs.Map.{written}
-use Rattle.tag.specs.declared.Uid.{Uid}
-use Rattle.tag.specs.declared.Air.{Air}
-use Rattle.tag.specs.declared.Mailbox.{Mailbox}
+use Rattle.keys.specs.declared.Uid.{Uid}
+use Rattle.air.specs.declared.Air.{Air}
+use Rattle.mailbox.specs.declared.Mailbox.{Mailbox}
 use Rattle.tag.specs.declared.Core.{Core}
-use Rattle.tag.specs.Radio.{deselected}
-use Rattle.tag.specs.Mailbox.{disabled, enabled, controlled, radioPut, radioRead}
+use Rattle.air.specs.Radio.{deselected}
+use Rattle.mailbox.specs.Mailbox.{disabled, enabled, controlled, radioPut, radioRead}
 use Rattle.reply.specs.declared.RadioSide.{RadioSide}
 use Rattle.reply.specs.Reply.{ReplyBody}
 use Rattle.reply.specs.Outcome.{CommandResult, commandResult, withAir, withRadioCore, sideRegisters, sideMailbox, sidePasswords}

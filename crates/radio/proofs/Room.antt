@@ -15,8 +15,8 @@ use Rattle.parts.proofs.Picks.{pick-case}
 use Rattle.registers.specs.declared.Registers.{Registers}
 use Rattle.areas.specs.Ends.{areaOfBlock}
 use Rattle.ranges.specs.Ranges.{mailboxInRange}
-use Rattle.tag.specs.declared.Uid.{Uid}
-use Rattle.tag.specs.declared.Mailbox.{Mailbox}
+use Rattle.keys.specs.declared.Uid.{Uid}
+use Rattle.mailbox.specs.declared.Mailbox.{Mailbox}
 use Rattle.reply.specs.declared.RadioSide.{RadioSide}
 use Rattle.reply.specs.Outcome.{CommandResult, commandResult, fails}
 use Rattle.commands.specs.declared.Command.{Command}

@@ -7,7 +7,7 @@ use Prim.Native.Nat.{ℕ, _+_, _≤_, _<_}
 use lib.ListN.{length, getD}
 use Rattle.parts.specs.Bits.{isSet}
 use Rattle.ranges.specs.Ranges.{airInRange, mailboxInRange, coreInRange}
-use Rattle.tag.specs.declared.Uid.{Uid}
+use Rattle.keys.specs.declared.Uid.{Uid}
 use Rattle.tag.specs.Layout.{replyBytes}
 use Rattle.errors.specs.declared.RadioError.the-variants.{ShutOut}
 use Rattle.reply.specs.declared.RadioSide.{RadioSide}

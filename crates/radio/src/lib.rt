@@ -3,10 +3,10 @@ ghost use mathlib.Core.Path.{_≡_};
 ghost use Rattle.reply.specs.Outcome.{radioResult, finish};
 ghost use Rattle.radio.specs.Radio.{radioOf};
 use judge::Verdict;
+use keys::Uid;
 use reply::RadioAnswer;
 use reply::RadioOutcome;
 use reply::RadioSide;
-use tag::Uid;
 
 // A frame answered.
 pub fn radio(

@@ -9,9 +9,9 @@ use lib.ListN.{getD}
 use borrow.Author.Tests.{eq-eqb, eqb-true, ltb-true, ltb-false, lt-leb, le-leb}
 use Rattle.parts.specs.Pick.{pick}
 use Rattle.parts.proofs.Picks.{pick-case, pick-true, pick-false}
-use Rattle.tag.specs.declared.Uid.{Uid}
-use Rattle.tag.specs.Keys.{passwordAt, samePassword, radioPassword}
-use Rattle.tag.specs.Parts.{withRadioSession}
+use Rattle.keys.specs.declared.Uid.{Uid}
+use Rattle.keys.specs.Keys.{passwordAt, samePassword, radioPassword}
+use Rattle.air.specs.Parts.{withRadioSession}
 use Rattle.errors.specs.declared.RadioError.{RadioError}
 use Rattle.errors.specs.declared.RadioError.the-variants.{NoSuchBlock, ReadLeavesArea, ReadProtected, TooManyBlocks, WriteLeavesArea, WriteForbidden, NotLockable, AlreadyLocked, NoSuchRegister, ConfigurationClosed, EndRefused, NoSuchDynamicRegister, MailboxUnavailable, MailboxDisabled, PastMessage, NoSuchPassword, WrongPassword, PasswordSessionClosed}
 use Rattle.reply.specs.declared.RadioSide.{RadioSide}

@@ -17,7 +17,7 @@ use Rattle.registers.specs.declared.Registers.{Registers}
 use Rattle.rights.specs.declared.Side.the-variants.{Radio}
 use Rattle.areas.specs.Ends.{areaOfBlock}
 use Rattle.rights.specs.Rights.{mayWrite}
-use Rattle.tag.specs.declared.Uid.{Uid}
+use Rattle.keys.specs.declared.Uid.{Uid}
 use Rattle.errors.specs.declared.RadioError.the-variants.{WriteForbidden}
 use Rattle.reply.specs.declared.RadioSide.{RadioSide}
 use Rattle.reply.specs.Reply.{ReplyBody, nothing, body, good, fault}

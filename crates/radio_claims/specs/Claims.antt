@@ -7,10 +7,10 @@ use Prim.Native.Nat.{ℕ, _+_, _*_, _<_}
 use lib.Dec.{leb, eqb}
 use lib.ListN.{length, getD}
 use Rattle.parts.specs.Pick.{pick}
-use Rattle.tag.specs.declared.Uid.{Uid}
+use Rattle.keys.specs.declared.Uid.{Uid}
 use Rattle.tag.specs.declared.Tag.{Tag}
-use Rattle.tag.specs.Keys.{passwordAt, samePassword, radioPassword}
-use Rattle.tag.specs.Parts.{withRadioSession}
+use Rattle.keys.specs.Keys.{passwordAt, samePassword, radioPassword}
+use Rattle.air.specs.Parts.{withRadioSession}
 use Rattle.errors.specs.declared.RadioError.{RadioError}
 use Rattle.errors.specs.declared.RadioError.the-variants.{WriteForbidden}
 use Rattle.reply.specs.declared.RadioSide.{RadioSide}

@@ -3,7 +3,7 @@ use mathlib.Core.Bool.{Bool}
 use mathlib.Core.List.{List, []}
 use Prim.Native.Nat.{ℕ}
 use Rattle.parts.specs.Pick.{pick}
-use Rattle.tag.specs.Radio.{selected, deselected, quieted, reset}
+use Rattle.air.specs.Radio.{selected, deselected, quieted, reset}
 use Rattle.reply.specs.declared.RadioSide.{RadioSide}
 use Rattle.reply.specs.Reply.{nothing, good}
 use Rattle.reply.specs.Outcome.{CommandResult, commandResult, withAir}

@@ -1,8 +1,9 @@
 -- The fresh tag is in range, for every UID. Assumes nothing.
 use mathlib.Core.Path.{refl}
-use Rattle.registers.specs.Defined.{definedIn, definedOnly, freshRegisters}
+use Rattle.defined_bits.specs.Defined.{definedIn, definedOnly}
+use Rattle.registers.specs.Fresh.{freshRegisters}
 use Rattle.areas.specs.Ends.{endsInRange}
-use Rattle.tag.specs.Bus.{isOpen, isActive, pageBytes}
+use Rattle.bus.specs.Bus.{isOpen, isActive, pageBytes}
 use Rattle.tag.specs.Supply.{freshTag}
 use Rattle.ranges.specs.Claims.{FreshInRange}
 use Rattle.ranges.specs.Ranges.{registersInRange, airInRange, mailboxInRange, suppliedInRange, hostInRange, coreInRange, wireInRange, inRange}

@@ -7,10 +7,10 @@ use borrow.Author.Tests.{le-leb, lt-ltb}
 use Rattle.parts.specs.Bits.{isSet}
 use Rattle.parts.proofs.Bools.{and-left, and-right, or-first, or-second}
 use Rattle.parts.proofs.Picks.{pick-case}
-use Rattle.registers.specs.declared.MbMode.{MbMode}
-use Rattle.tag.specs.declared.Mailbox.{Mailbox}
-use Rattle.tag.specs.Parts.{withEnabled}
-use Rattle.tag.specs.Mailbox.{emptyMailbox, disabled, enabled, controlled, hostPut, radioPut, hostRead, radioRead}
+use Rattle.register_types.specs.declared.MbMode.{MbMode}
+use Rattle.mailbox.specs.declared.Mailbox.{Mailbox}
+use Rattle.mailbox.specs.Parts.{withEnabled}
+use Rattle.mailbox.specs.Mailbox.{emptyMailbox, disabled, enabled, controlled, hostPut, radioPut, hostRead, radioRead}
 use Rattle.ranges.specs.Ranges.{mailboxInRange}
 
 -- the range as facts: length, MB_EN, and PUT and CURRENT of host and radio

@@ -4,14 +4,16 @@ use mathlib.Core.Bool.{true}
 use Prim.Native.Nat.{ℕ}
 use Rattle.parts.proofs.Bools.{and-left, and-right, and-both}
 use Rattle.registers.specs.declared.Registers.{Registers}
-use Rattle.registers.specs.declared.Register.{Register}
-use Rattle.registers.specs.declared.Register.the-variants.{Mngt, Rfa1Ss, EndA1, Rfa2Ss, EndA2, Rfa3Ss, EndA3, Rfa4Ss, I2css, Ccfile, Mode, Config}
-use Rattle.registers.specs.declared.RegisterRow.{RegisterRow}
-use Rattle.registers.specs.declared.RfMngt.{RfMngt}
-use Rattle.registers.specs.Table.{rfMngtBits, RegisterEntry, registerTable, rowOf}
-use Rattle.registers.specs.Defined.{onlyBits, definedIn, definedOnly, rfMngt, endA}
+use Rattle.register_table.specs.declared.Register.{Register}
+use Rattle.register_table.specs.declared.Register.the-variants.{Mngt, Rfa1Ss, EndA1, Rfa2Ss, EndA2, Rfa3Ss, EndA3, Rfa4Ss, I2css, Ccfile, Mode, Config}
+use Rattle.register_table.specs.declared.RegisterRow.{RegisterRow}
+use Rattle.register_types.specs.declared.RfMngt.{RfMngt}
+use Rattle.register_types.specs.Types.{rfMngtBits, rfMngt, endA}
+use Rattle.register_table.specs.Table.{RegisterEntry, registerTable, rowOf}
+use Rattle.defined_bits.specs.Defined.{onlyBits, definedIn, definedOnly}
 use Rattle.registers.specs.Map.{withEnd, withDynamic, writtenTo, written}
-use Rattle.registers.proofs.Table.{Each, row-case, only, defined-kept}
+use Rattle.register_table.proofs.Rows.{Each, row-case}
+use Rattle.defined_bits.proofs.Defined.{only, defined-kept}
 use Rattle.areas.specs.Ends.{endsInRange, endAccepted, ruleAllows, endAllows}
 use Rattle.areas.proofs.Kept.{end-kept}
 use Rattle.ranges.specs.Ranges.{registersInRange}

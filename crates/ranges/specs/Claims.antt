@@ -1,7 +1,7 @@
 -- What is proved of these definitions, beside the functions' contracts.
 use mathlib.Core.Path.{_≡_}
 use mathlib.Core.Bool.{true}
-use Rattle.tag.specs.declared.Uid.{Uid}
+use Rattle.keys.specs.declared.Uid.{Uid}
 use Rattle.tag.specs.Supply.{freshTag}
 use Rattle.ranges.specs.Ranges.{inRange}
 

@@ -2,17 +2,17 @@
 use mathlib.Core.Bool.{Bool, not, _&&_, _||_}
 use lib.Dec.{leb, ltb, eqb}
 use Rattle.registers.specs.declared.Registers.{Registers}
-use Rattle.registers.specs.Defined.{definedOnly}
+use Rattle.defined_bits.specs.Defined.{definedOnly}
 use Rattle.areas.specs.Ends.{endsInRange}
-use Rattle.tag.specs.declared.Air.{Air}
+use Rattle.air.specs.declared.Air.{Air}
 use Rattle.tag.specs.declared.Host.{Host}
-use Rattle.tag.specs.declared.Message.{Message}
-use Rattle.tag.specs.declared.Mailbox.{Mailbox}
+use Rattle.mailbox.specs.declared.Message.{Message}
+use Rattle.mailbox.specs.declared.Mailbox.{Mailbox}
 use Rattle.tag.specs.declared.Core.{Core}
 use Rattle.tag.specs.declared.WireSide.{WireSide}
 use Rattle.tag.specs.declared.Tag.{Tag}
 use Rattle.tag.specs.Parts.{wireSide}
-use Rattle.tag.specs.Bus.{isOpen, isActive, pageBytes}
+use Rattle.bus.specs.Bus.{isOpen, isActive, pageBytes}
 
 -- "ends as under Areas"; "undefined register bits 0"
 unfoldable pub registersInRange : Registers → Bool

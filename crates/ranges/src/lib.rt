@@ -2,18 +2,18 @@
 ghost use mathlib.Core.Path.{_≡_};
 ghost use mathlib.Core.Bool.{Bool};
 ghost use Rattle.ranges.specs.Ranges.{registersInRange, airInRange, mailboxInRange, suppliedInRange, hostInRange, coreInRange, wireInRange, inRange};
+use air::Air;
+use mailbox::Mailbox;
 use registers::Registers;
-use tag::Air;
 use tag::Core;
 use tag::Host;
-use tag::Mailbox;
 use tag::Tag;
 use tag::WireSide;
 
 fn registers_in_range(r: Registers) -> bool
     ensures { λ b. ⌜ b ≡ registersInRange r ⌝ }
 {
-    areas::ends_in_range(r.ends) & r.is_defined()
+    areas::ends_in_range(r.ends) & defined_bits::is_defined(r)
 }
 
 fn air_in_range(a: Air) -> bool
@@ -38,14 +38,14 @@ fn supplied_in_range(h: Host, mailbox: bool) -> bool
     ensures { λ b. ⌜ b ≡ suppliedInRange h mailbox ⌝ }
 {
     let bus = h.bus;
-    h.vcc | !(mailbox | h.session | h.programming | tag::is_active(bus))
+    h.vcc | !(mailbox | h.session | h.programming | bus::is_active(bus))
 }
 
 fn host_in_range(h: Host) -> bool
     ensures { λ b. ⌜ b ≡ hostInRange h ⌝ }
 {
     let bus = h.bus;
-    (tag::page_bytes(bus) <= 256) & !(h.programming & tag::is_open(bus))
+    (bus::page_bytes(bus) <= 256) & !(h.programming & bus::is_open(bus))
 }
 
 fn core_in_range(c: Core) -> bool

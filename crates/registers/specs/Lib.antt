@@ -1,3 +1,2 @@
-pub mod Table
-pub mod Defined
 pub mod Map
+pub mod Fresh

@@ -1,21 +1,37 @@
--- The registers by their address: read, and written.
+-- The registers, each by its name and by its address: read, and written.
 use Prim.Native.Nat.{ℕ}
 use lib.Dec.{eqb}
 use Rattle.parts.specs.Pick.{pick}
-use Rattle.registers.specs.declared.RfMngt.{RfMngt}
-use Rattle.registers.specs.declared.RfaSs.{RfaSs}
-use Rattle.registers.specs.declared.EndA.{EndA}
-use Rattle.registers.specs.declared.I2cSs.{I2cSs}
-use Rattle.registers.specs.declared.LockCcFile.{LockCcFile}
-use Rattle.registers.specs.declared.MbMode.{MbMode}
-use Rattle.registers.specs.declared.LockCfg.{LockCfg}
+use Rattle.register_types.specs.declared.RfMngt.{RfMngt}
+use Rattle.register_types.specs.declared.RfaSs.{RfaSs}
+use Rattle.register_types.specs.declared.EndA.{EndA}
+use Rattle.register_types.specs.declared.I2cSs.{I2cSs}
+use Rattle.register_types.specs.declared.LockCcFile.{LockCcFile}
+use Rattle.register_types.specs.declared.MbMode.{MbMode}
+use Rattle.register_types.specs.declared.LockCfg.{LockCfg}
 use Rattle.registers.specs.declared.Security.{Security}
 use Rattle.registers.specs.declared.Ends.{Ends}
 use Rattle.registers.specs.declared.Registers.{Registers}
-use Rattle.registers.specs.declared.Register.{Register}
-use Rattle.registers.specs.declared.Register.the-variants.{Mngt, Rfa1Ss, EndA1, Rfa2Ss, EndA2, Rfa3Ss, EndA3, Rfa4Ss, I2css, Ccfile, Mode, Config, Unmapped}
-use Rattle.registers.specs.Table.{rowOf}
-use Rattle.registers.specs.Defined.{rfMngt, rfaSs, endA, i2cSs, lockCcFile, mbMode, lockCfg, byteOf}
+use Rattle.register_table.specs.declared.Register.{Register}
+use Rattle.register_table.specs.declared.Register.the-variants.{Mngt, Rfa1Ss, EndA1, Rfa2Ss, EndA2, Rfa3Ss, EndA3, Rfa4Ss, I2css, Ccfile, Mode, Config, Unmapped}
+use Rattle.register_table.specs.Table.{rowOf}
+use Rattle.register_types.specs.Types.{rfMngt, rfaSs, endA, i2cSs, lockCcFile, mbMode, lockCfg}
+
+-- the byte of a register; "FFh where unmapped"
+abbrev pub byteOf : Register → Registers → ℕ
+byteOf Mngt r = r .mngt .bits
+byteOf Rfa1Ss r = r .security .area1 .bits
+byteOf EndA1 r = r .ends .end1 .bits
+byteOf Rfa2Ss r = r .security .area2 .bits
+byteOf EndA2 r = r .ends .end2 .bits
+byteOf Rfa3Ss r = r .security .area3 .bits
+byteOf EndA3 r = r .ends .end3 .bits
+byteOf Rfa4Ss r = r .security .area4 .bits
+byteOf I2css r = r .i2css .bits
+byteOf Ccfile r = r .ccfile .bits
+byteOf Mode r = r .mode .bits
+byteOf Config r = r .config .bits
+byteOf Unmapped r = 0xFF
 
 -- the byte at address a
 unfoldable pub registerAt : Registers → ℕ → ℕ

@@ -6,7 +6,7 @@ use Prim.Native.Nat.{ℕ, _≤_}
 use borrow.Author.Tests.{le-leb, leb-true}
 use Rattle.parts.proofs.Bools.{and-right}
 use Rattle.tag.specs.declared.Tag.{Tag}
-use Rattle.tag.specs.declared.Uid.{Uid}
+use Rattle.keys.specs.declared.Uid.{Uid}
 use Rattle.ranges.specs.Ranges.{registersInRange, mailboxInRange, coreInRange}
 use Rattle.refusals.specs.Refusals.{tagInRange}
 use Rattle.refusals.proofs.Laws.{judged-case}

@@ -2,9 +2,9 @@
 use mathlib.Core.List.{List}
 use Prim.Native.Nat.{ℕ}
 use Rattle.registers.specs.declared.Registers.{Registers}
-use Rattle.tag.specs.declared.Air.{Air}
-use Rattle.tag.specs.declared.Mailbox.{Mailbox}
-use Rattle.tag.specs.declared.Passwords.{Passwords}
+use Rattle.air.specs.declared.Air.{Air}
+use Rattle.mailbox.specs.declared.Mailbox.{Mailbox}
+use Rattle.keys.specs.declared.Passwords.{Passwords}
 use Rattle.tag.specs.declared.Core.{Core}
 use Rattle.tag.specs.declared.Tag.{Tag}
 use Rattle.tag.specs.Parts.{withRegisters, withMailbox, withPasswords, withTagAir, withTagCore}

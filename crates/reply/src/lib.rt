@@ -6,12 +6,12 @@ ghost use Rattle.crc.specs.Crc.{closedAt};
 ghost use Rattle.reply.specs.Reply.{good, fault, replyResult, putReply};
 ghost use Rattle.reply.specs.Outcome.{withAir, sideRegisters, sideMailbox, sidePasswords};
 ghost use Rattle.reply.specs.declared.RadioAnswer.the-variants.{Reply};
+use air::Air;
 use errors::RadioError;
+use keys::Passwords;
+use mailbox::Mailbox;
 use registers::Registers;
-use tag::Air;
 use tag::Core;
-use tag::Mailbox;
-use tag::Passwords;
 
 pub enum RadioAnswer {
     Silence,

@@ -1,7 +1,7 @@
 -- A request's fields, as the commands take them.
 use mathlib.Core.List.{List}
 use Prim.Native.Nat.{ℕ}
-use Rattle.tag.specs.declared.Uid.{Uid}
+use Rattle.keys.specs.declared.Uid.{Uid}
 use Rattle.commands.specs.Table.{commandOf}
 use Rattle.frame.specs.Fields.{command, optionFlag, paramPlace, ownUid, param}
 use Rattle.request.specs.declared.RequestFields.{RequestFields}

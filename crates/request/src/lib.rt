@@ -2,7 +2,7 @@
 ghost use mathlib.Core.Path.{_≡_};
 ghost use Rattle.request.specs.Request.{requestOf};
 use commands::CommandCode;
-use tag::Uid;
+use keys::Uid;
 
 // A frame's fields.
 pub struct RequestFields {

@@ -7,7 +7,7 @@ use lib.Dec.{leb}
 use borrow.Author.Tests.{leb-true, le-leb, ne-eqb}
 use Rattle.parts.specs.Pick.{pick}
 use Rattle.registers.specs.declared.Ends.{Ends}
-use Rattle.registers.specs.declared.LockCcFile.{LockCcFile}
+use Rattle.register_types.specs.declared.LockCcFile.{LockCcFile}
 use Rattle.areas.specs.Ends.{lastByte, areaOfByte}
 use Rattle.rights.specs.Rights.{isLocked}
 

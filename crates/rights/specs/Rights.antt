@@ -4,9 +4,9 @@ use Prim.Native.Nat.{ℕ, _+_, _/_, _%_}
 use lib.Dec.{ltb, eqb}
 use Rattle.parts.specs.Pick.{pick}
 use Rattle.parts.specs.Bits.{isSet}
-use Rattle.registers.specs.declared.RfaSs.{RfaSs}
-use Rattle.registers.specs.declared.I2cSs.{I2cSs}
-use Rattle.registers.specs.declared.LockCcFile.{LockCcFile}
+use Rattle.register_types.specs.declared.RfaSs.{RfaSs}
+use Rattle.register_types.specs.declared.I2cSs.{I2cSs}
+use Rattle.register_types.specs.declared.LockCcFile.{LockCcFile}
 use Rattle.registers.specs.declared.Security.{Security}
 use Rattle.registers.specs.declared.Registers.{Registers}
 use Rattle.rights.specs.declared.Side.{Side}

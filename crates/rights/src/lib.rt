@@ -1,10 +1,10 @@
 // The rights and locks of both sides.
 ghost use mathlib.Core.Path.{_≡_};
 ghost use Rattle.rights.specs.Rights.{securityOf, sessionOpens, radioWrites, radioReads, wireBits, wireWrites, wireReads, isLocked, readRight, writeRight, mayRead, mayWrite};
-use registers::I2cSs;
-use registers::LockCcFile;
+use register_types::I2cSs;
+use register_types::LockCcFile;
+use register_types::RfaSs;
 use registers::Registers;
-use registers::RfaSs;
 use registers::Security;
 
 // RFAiSS of an area.

@@ -6,7 +6,7 @@ use Prim.Native.Nat.{ℕ, _<_}
 use lib.Dec.{ltb}
 use borrow.Author.Tests.{ltb-true}
 use Rattle.parts.proofs.Bools.{and-left, and-right}
-use Rattle.tag.specs.declared.Space.{Space}
+use Rattle.bus.specs.declared.Space.{Space}
 use Rattle.tag.specs.declared.Core.{Core}
 use Rattle.rule.specs.Rule.{spaceAcked, acked}
 

@@ -4,8 +4,12 @@ use mathlib.Core.Bool.{Bool, _&&_}
 use mathlib.Core.List.{List}
 use Prim.Native.Nat.{ℕ}
 use lib.Dec.{ltb}
-use Rattle.tag.specs.declared.Space.{Space}
-use Rattle.tag.specs.declared.Space.the-variants.{User, System}
+use Rattle.bus.specs.declared.Space.{Space}
+use Rattle.bus.specs.declared.Space.the-variants.{User, System}
+use mathlib.Core.Bool.{Bool, _&&_}
+use mathlib.Core.List.{List}
+use Prim.Native.Nat.{ℕ}
+use lib.Dec.{ltb}
 use Rattle.tag.specs.declared.Core.{Core}
 use Rattle.user_rule.specs.UserRule.{userAcked}
 use Rattle.system_rule.specs.SystemRule.{systemAcked}

@@ -2,8 +2,8 @@
 ghost use mathlib.Core.Path.{_≡_};
 ghost use Rattle.tag.specs.Layout.{page};
 ghost use Rattle.rule.specs.Rule.{acked};
+use bus::Space;
 use tag::Core;
-use tag::Space;
 
 // Whether data byte k of a write leg from address f is Acked; the leg's earlier bytes are the page's.
 pub fn acked(s: Space, c: Core, session: bool, m: &[u8], f: u16, k: u16, x: u8) -> bool

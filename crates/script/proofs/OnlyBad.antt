@@ -28,7 +28,7 @@ use Rattle.model.specs.Signals.{signalBy}
 use Rattle.refusals.specs.Signals.{topValue, signalInRange}
 use Rattle.model.specs.Step.{StepResult, FreshResult, freshResult, transferOpen, actOf, stepOf, freshOf, isRefused}
 use Rattle.refusals.specs.Refusals.{judgement, unlessRefused}
-use Rattle.tag.specs.declared.Uid.{Uid}
+use Rattle.keys.specs.declared.Uid.{Uid}
 use Rattle.rule_list.specs.RuleList.{firstSays}
 use Rattle.refusals.proofs.Laws.{judged-case}
 use Rattle.model.proofs.Acts.{fit-acts}

@@ -2,7 +2,7 @@
 use mathlib.Core.Path.{_≡_}
 use Prim.Native.Nat.{ℕ, suc, _<_}
 use native.Mathlib.Omega.{arith}
-use Rattle.tag.specs.Bus.{nextAddress}
+use Rattle.bus.specs.Bus.{nextAddress}
 use Rattle.select.specs.Select.{firstOf}
 
 -- an Acked byte leaves the leg's first address

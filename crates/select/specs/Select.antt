@@ -3,7 +3,7 @@ use mathlib.Core.Bool.{Bool, not, _||_}
 use Prim.Native.Nat.{ℕ, _+_, _-_, _*_, _%_}
 use lib.Dec.{eqb}
 use Rattle.parts.specs.Pick.{pick}
-use Rattle.tag.specs.declared.Space.the-variants.{User, System}
+use Rattle.bus.specs.declared.Space.the-variants.{User, System}
 use Rattle.select.specs.declared.Choice.{Choice}
 use Rattle.select.specs.declared.Choice.the-variants.{NotAcked, Reading, Writing}
 

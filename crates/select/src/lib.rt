@@ -1,7 +1,7 @@
 // Select bytes and addresses of the wire.
 ghost use mathlib.Core.Path.{_≡_};
 ghost use Rattle.select.specs.Select.{selectOf, choose, address, firstOf};
-use tag::Space;
+use bus::Space;
 
 // What a select byte comes to.
 pub enum Choice {

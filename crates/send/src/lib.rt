@@ -1,16 +1,16 @@
 // A byte sent on the bus: the select, the address and the data bytes.
 ghost use mathlib.Core.Path.{_≡_};
 ghost use mathlib.Core.Bool.{false};
-ghost use Rattle.tag.specs.declared.Bus.the-variants.{DataLeg};
+ghost use Rattle.bus.specs.declared.Bus.the-variants.{DataLeg};
 ghost use Rattle.select.specs.Select.{choose, address};
 ghost use Rattle.signal.specs.declared.WireAnswer.the-variants.{NoAck};
 ghost use Rattle.signal.specs.Signal.{wireResult, sideLine};
 ghost use Rattle.send.specs.Send.{selectBy, dataOf, sendAt};
+use bus::Bus;
+use bus::Space;
 use select::Choice;
 use signal::WireAnswer;
 use signal::WireOutcome;
-use tag::Bus;
-use tag::Space;
 use tag::WireSide;
 
 // The first byte sent after a Start.
@@ -48,7 +48,7 @@ fn data(space: Space, k: u16, w: WireSide, m: &mut [u8], x: u8) -> WireOutcome
     let first = select::first_of(counter, k);
     if rule::acked(space, w.core, w.host.session, m, first, k, x) {
         parts::put_in(m, tag::PAGE_AT, k as usize, x);
-        let next = tag::next_address(counter);
+        let next = bus::next_address(counter);
         let count = k + 1;
         let leg = Bus::DataLeg {
             space: space,

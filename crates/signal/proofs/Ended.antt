@@ -6,12 +6,12 @@ use Prim.Native.Nat.{ℕ}
 use lib.Dec.{ltb, eqb}
 use lib.ListN.{length, getD}
 use Rattle.parts.proofs.Picks.{pick-case}
-use Rattle.tag.specs.declared.Space.{Space}
-use Rattle.tag.specs.declared.Space.the-variants.{User, System}
-use Rattle.tag.specs.declared.Bus.the-variants.{Idle}
+use Rattle.bus.specs.declared.Space.{Space}
+use Rattle.bus.specs.declared.Space.the-variants.{User, System}
+use Rattle.bus.specs.declared.Bus.the-variants.{Idle}
 use Rattle.tag.specs.declared.WireSide.{WireSide}
-use Rattle.tag.specs.Bus.{isOpen}
-use Rattle.tag.specs.Keys.{passwordAt, samePassword}
+use Rattle.bus.specs.Bus.{isOpen}
+use Rattle.keys.specs.Keys.{passwordAt, samePassword}
 use Rattle.effect.specs.Effect.{LegResult}
 use Rattle.leg.specs.Leg.{Due, nothingDue, clears, writes, started, stopped, settle, legWritten}
 use Rattle.user_leg.specs.UserLeg.{userWritten}

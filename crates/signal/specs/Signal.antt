@@ -4,12 +4,12 @@ use mathlib.Core.List.{List}
 use Prim.Native.Nat.{ℕ}
 use lib.Dec.{eqb}
 use Rattle.parts.specs.Pick.{pick}
-use Rattle.tag.specs.declared.Bus.{Bus}
-use Rattle.tag.specs.declared.Bus.the-variants.{Idle, Started, ReadLeg, WriteLeg, LowAddress, DataLeg}
+use Rattle.bus.specs.declared.Bus.{Bus}
+use Rattle.bus.specs.declared.Bus.the-variants.{Idle, Started, ReadLeg, WriteLeg, LowAddress, DataLeg}
 use Rattle.tag.specs.declared.WireSide.{WireSide}
 use Rattle.tag.specs.Layout.{page}
 use Rattle.tag.specs.Parts.{withCounter, withBus, withHost}
-use Rattle.tag.specs.Bus.{isOpen}
+use Rattle.bus.specs.Bus.{isOpen}
 use Rattle.select.specs.Select.{firstOf}
 use Rattle.leg.specs.Leg.{stopped, started, Due, nothingDue, clears, writes, settle}
 use Rattle.signal.specs.declared.WireAnswer.{WireAnswer}

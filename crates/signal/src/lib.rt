@@ -1,14 +1,14 @@
 // A bus signal and its answer, and the end of a leg: a Start and a Stop.
 ghost use mathlib.Core.Path.{_≡_};
 ghost use Rattle.parts.specs.Pick.{pick};
-ghost use Rattle.tag.specs.declared.Bus.the-variants.{Started, DataLeg};
-ghost use Rattle.tag.specs.Bus.{isOpen};
+ghost use Rattle.bus.specs.declared.Bus.the-variants.{Started, DataLeg};
+ghost use Rattle.bus.specs.Bus.{isOpen};
 ghost use Rattle.effect.specs.Effect.{legResult};
 ghost use Rattle.leg.specs.Leg.{stopped, lastFetched, settle};
 ghost use Rattle.signal.specs.declared.WireAnswer.the-variants.{Nothing};
 ghost use Rattle.signal.specs.Signal.{wireResult, sideBus, sideLine, dueOf, startAt, startOf, stopAt};
-use tag::Bus;
-use tag::Space;
+use bus::Bus;
+use bus::Space;
 use tag::WireSide;
 
 pub enum WireSignal {
@@ -69,7 +69,7 @@ fn end_read(w: WireSide, last: bool) -> WireSide
 fn started(w: WireSide, b: Bus) -> WireSide
     ensures { λ r. ⌜ r ≡ sideBus (Started (isOpen b)) w ⌝ }
 {
-    with_bus(w, Bus::Started(tag::is_open(b)))
+    with_bus(w, Bus::Started(bus::is_open(b)))
 }
 
 // A Start on a powered bus: the leg ends, its writes dropped.

@@ -6,10 +6,10 @@ use lib.Dec.{ltb, eqb}
 use lib.ListN.{length, getD}
 use Rattle.parts.specs.Bits.{isSet}
 use Rattle.crc.specs.Crc.{goodFrame}
-use Rattle.registers.specs.declared.RfMngt.{RfMngt}
-use Rattle.tag.specs.declared.Air.{Air}
-use Rattle.tag.specs.declared.Uid.{Uid}
-use Rattle.tag.specs.Radio.{isQuiet, isSelected}
+use Rattle.register_types.specs.declared.RfMngt.{RfMngt}
+use Rattle.air.specs.declared.Air.{Air}
+use Rattle.keys.specs.declared.Uid.{Uid}
+use Rattle.air.specs.Radio.{isQuiet, isSelected}
 use Rattle.rule_list.specs.RuleList.{anyHolds}
 use Rattle.commands.specs.Table.{selectCode, stayQuietCode}
 use Rattle.frame.specs.Fields.{command, inventoryFlag, selectFlag, addressFlag, isCustom, paramPlace, crcPlace, ownUid}

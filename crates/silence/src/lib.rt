@@ -2,9 +2,9 @@
 ghost use mathlib.Core.Path.{_≡_};
 ghost use Rattle.rule_list.specs.RuleList.{anyHolds};
 ghost use Rattle.silence.specs.Silence.{makerDiffers, uidDiffers, silenceHolds, receptionSilences, addressSilences, isSilent};
-use registers::RfMngt;
-use tag::Air;
-use tag::Uid;
+use air::Air;
+use keys::Uid;
+use register_types::RfMngt;
 
 // "02h missing or other".
 fn maker_differs(s: &[u8]) -> bool
@@ -69,11 +69,11 @@ fn fails_address(s: &[u8], a: Air, u: Uid) -> bool
     if uid_differs(s, u) {
         return true;
     }
-    let selected = tag::is_selected(radio);
+    let selected = air::is_selected(radio);
     if select & !selected {
         return true;
     }
-    let quiet = tag::is_quiet(radio);
+    let quiet = air::is_quiet(radio);
     if !select & !address & quiet {
         return true;
     }

@@ -11,15 +11,15 @@ use Rattle.parts.specs.Pick.{pick}
 use Rattle.parts.specs.Bytes.{areBytes}
 use Rattle.parts.proofs.Below.{are-append}
 use Rattle.parts.proofs.Bools.{and-right}
-use Rattle.tag.specs.declared.RadioState.{RadioState}
-use Rattle.tag.specs.declared.RadioState.the-variants.{Ready, Quiet, Selected}
-use Rattle.tag.specs.declared.Space.{Space}
-use Rattle.tag.specs.declared.Space.the-variants.{User, System}
-use Rattle.tag.specs.declared.Air.{Air}
-use Rattle.tag.specs.declared.Mailbox.{Mailbox}
-use Rattle.tag.specs.declared.Passwords.{Passwords}
-use Rattle.tag.specs.declared.Bus.{Bus}
-use Rattle.tag.specs.declared.Bus.the-variants.{Idle, Started, ReadLeg, WriteLeg, LowAddress, DataLeg}
+use Rattle.air.specs.declared.RadioState.{RadioState}
+use Rattle.air.specs.declared.RadioState.the-variants.{Ready, Quiet, Selected}
+use Rattle.bus.specs.declared.Space.{Space}
+use Rattle.bus.specs.declared.Space.the-variants.{User, System}
+use Rattle.air.specs.declared.Air.{Air}
+use Rattle.mailbox.specs.declared.Mailbox.{Mailbox}
+use Rattle.keys.specs.declared.Passwords.{Passwords}
+use Rattle.bus.specs.declared.Bus.{Bus}
+use Rattle.bus.specs.declared.Bus.the-variants.{Idle, Started, ReadLeg, WriteLeg, LowAddress, DataLeg}
 use Rattle.tag.specs.declared.Host.{Host}
 use Rattle.state.specs.Layout.{flagByte, lowByte, highByte, radioNumber, spaceNumber, airBytes, busBytes, hostBytes, registerBytes, mailboxBytes, passwordBytes, bytesOf}
 use Rattle.state.specs.Claims.{isByte, isWord, areEight, busFits, PasswordsFit, EncodesBytes}

@@ -12,7 +12,7 @@ use Rattle.parts.proofs.Below.{Below, bytes-below, are-run}
 use Rattle.parts.proofs.Bools.{and-both}
 use Rattle.parts.proofs.Lists.{length-bytesAt}
 use Rattle.parts.proofs.Picks.{pick-case}
-use Rattle.tag.specs.declared.Bus.{Bus}
+use Rattle.bus.specs.declared.Bus.{Bus}
 use Rattle.state.specs.Layout.{wordOf, airAt, busOf, busAt, hostAt, registerBytes, registersAt, mailboxAt, passwordsAt, tagOf}
 use Rattle.state.specs.Claims.{isByte, isWord, areEight, busFits, DecodedFits}
 

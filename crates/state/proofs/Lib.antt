@@ -4,4 +4,3 @@ pub mod There
 pub mod Again
 pub mod AreBytes
 pub mod Decoded
-pub mod Stored

@@ -6,10 +6,10 @@ use native.Mathlib.Omega.{arith}
 use lib.Dec.{leb}
 use borrow.Author.Tests.{leb-true}
 use Rattle.parts.specs.Pick.{pick}
-use Rattle.tag.specs.declared.RadioState.{RadioState}
-use Rattle.tag.specs.declared.RadioState.the-variants.{Ready, Quiet, Selected}
-use Rattle.tag.specs.declared.Space.{Space}
-use Rattle.tag.specs.declared.Space.the-variants.{User, System}
+use Rattle.air.specs.declared.RadioState.{RadioState}
+use Rattle.air.specs.declared.RadioState.the-variants.{Ready, Quiet, Selected}
+use Rattle.bus.specs.declared.Space.{Space}
+use Rattle.bus.specs.declared.Space.the-variants.{User, System}
 use Rattle.state.specs.Layout.{flagByte, isFlag, flagOf, lowByte, highByte, wordOf, radioNumber, radioStateOf, spaceNumber, spaceOf}
 
 pub flag-fits : (b : Bool) → isFlag (flagByte b) ≡ true

@@ -10,11 +10,11 @@ use borrow.Author.Tests.{eqb-true}
 use Rattle.parts.specs.Bytes.{bytesAt, areBytes}
 use Rattle.parts.proofs.Bools.{and-left}
 use Rattle.registers.specs.declared.Registers.{Registers}
-use Rattle.tag.specs.declared.Air.{Air}
-use Rattle.tag.specs.declared.Mailbox.{Mailbox}
-use Rattle.tag.specs.declared.Passwords.{Passwords}
-use Rattle.tag.specs.declared.Bus.{Bus}
-use Rattle.tag.specs.declared.Bus.the-variants.{Idle, Started, ReadLeg, WriteLeg, LowAddress, DataLeg}
+use Rattle.air.specs.declared.Air.{Air}
+use Rattle.mailbox.specs.declared.Mailbox.{Mailbox}
+use Rattle.keys.specs.declared.Passwords.{Passwords}
+use Rattle.bus.specs.declared.Bus.{Bus}
+use Rattle.bus.specs.declared.Bus.the-variants.{Idle, Started, ReadLeg, WriteLeg, LowAddress, DataLeg}
 use Rattle.tag.specs.declared.Host.{Host}
 use Rattle.tag.specs.declared.Tag.{Tag}
 use Rattle.state.specs.Layout.{airBytes, airDecodes, airAt, busBytes, isBus, busOf, busDecodes, busAt, hostBytes, hostDecodes, hostAt, registerBytes, registersAt, mailboxBytes, mailboxDecodes, mailboxAt, passwordBytes, passwordsAt, bytesOf, decodes, tagOf}

@@ -7,18 +7,18 @@ use lib.Dec.{leb, eqb}
 use lib.ListN.{length, getD}
 use Rattle.parts.specs.Pick.{pick}
 use Rattle.registers.specs.declared.Registers.{Registers}
-use Rattle.tag.specs.declared.RadioState.{RadioState}
-use Rattle.tag.specs.declared.RadioState.the-variants.{Ready, Quiet, Selected}
-use Rattle.tag.specs.declared.Air.{Air}
-use Rattle.tag.specs.declared.Mailbox.{Mailbox}
-use Rattle.tag.specs.declared.Passwords.{Passwords}
-use Rattle.tag.specs.declared.Space.{Space}
-use Rattle.tag.specs.declared.Space.the-variants.{User, System}
-use Rattle.tag.specs.declared.Bus.{Bus}
-use Rattle.tag.specs.declared.Bus.the-variants.{Idle, Started, ReadLeg, WriteLeg, LowAddress, DataLeg}
+use Rattle.air.specs.declared.RadioState.{RadioState}
+use Rattle.air.specs.declared.RadioState.the-variants.{Ready, Quiet, Selected}
+use Rattle.air.specs.declared.Air.{Air}
+use Rattle.mailbox.specs.declared.Mailbox.{Mailbox}
+use Rattle.keys.specs.declared.Passwords.{Passwords}
+use Rattle.bus.specs.declared.Space.{Space}
+use Rattle.bus.specs.declared.Space.the-variants.{User, System}
+use Rattle.bus.specs.declared.Bus.{Bus}
+use Rattle.bus.specs.declared.Bus.the-variants.{Idle, Started, ReadLeg, WriteLeg, LowAddress, DataLeg}
 use Rattle.tag.specs.declared.Host.{Host}
 use Rattle.tag.specs.declared.Tag.{Tag}
-use Rattle.tag.specs.Keys.{passwordAt, uidAt}
+use Rattle.keys.specs.Keys.{passwordAt, uidAt}
 
 -- "there are 83 of them"
 abbrev pub stateBytes : ℕ

@@ -6,7 +6,7 @@ use lib.Dec.{ltb, eqb}
 use lib.ListN.{length, getD}
 use Rattle.parts.specs.Pick.{pick}
 use Rattle.tag.specs.declared.WireSide.{WireSide}
-use Rattle.tag.specs.Keys.{passwordAt, samePassword, withI2cPassword}
+use Rattle.keys.specs.Keys.{passwordAt, samePassword, withI2cPassword}
 use Rattle.tag.specs.Parts.{withRegisters, withPasswords, withWireCore}
 use Rattle.system_rule.specs.SystemRule.{writtenAll}
 use Rattle.effect.specs.Effect.{LegResult, legResult, sideSession, programming}

@@ -3,7 +3,7 @@ ghost use mathlib.Core.Path.{_≡_};
 ghost use Rattle.tag.specs.Layout.{page};
 ghost use Rattle.effect.specs.Effect.{legResult};
 ghost use Rattle.system_leg.specs.SystemLeg.{passwordWritten, systemWritten};
-use tag::Password;
+use keys::Password;
 use tag::WireSide;
 
 // A password leg of k bytes.

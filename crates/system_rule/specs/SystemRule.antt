@@ -5,7 +5,7 @@ use Prim.Native.Nat.{ℕ, _+_}
 use lib.Dec.{ltb, eqb}
 use Rattle.parts.specs.Pick.{pick}
 use Rattle.registers.specs.declared.Registers.{Registers}
-use Rattle.registers.specs.Table.{isWritable}
+use Rattle.register_table.specs.Table.{isWritable}
 use Rattle.registers.specs.Map.{written}
 use Rattle.areas.specs.Ends.{endAllows}
 use Rattle.tag.specs.declared.Core.{Core}

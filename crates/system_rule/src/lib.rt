@@ -11,7 +11,7 @@ use tag::Core;
 fn write_at(r: Registers, f: u16, i: u16, x: u8) -> Registers
     ensures { λ n. ⌜ n ≡ written r (f + i) x ⌝ }
 {
-    let row = registers::row_of(f as u32 + i as u32);
+    let row = register_table::row_of(f as u32 + i as u32);
     let register = row.register;
     r.write_to(register, x)
 }
@@ -34,7 +34,7 @@ fn register_acked(c: Core, session: bool, m: &[u8], f: u16, k: u16, x: u8) -> bo
     ensures { λ r. ⌜ r ≡ registerAcked c session f k (page k (now (m .entry))) x ⌝ }
 {
     let at = f as u32 + k as u32;
-    let row = registers::row_of(at);
+    let row = register_table::row_of(at);
     let after = written_all(c.registers, m, f, k);
     let allowed = areas::end_allows(after.ends, at, x);
     !c.mailbox.enabled & session & row.host & allowed

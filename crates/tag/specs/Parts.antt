@@ -2,47 +2,14 @@
 use mathlib.Core.Bool.{Bool}
 use Prim.Native.Nat.{ℕ}
 use Rattle.registers.specs.declared.Registers.{Registers}
-use Rattle.tag.specs.declared.RadioState.{RadioState}
-use Rattle.tag.specs.declared.Air.{Air}
-use Rattle.tag.specs.declared.Message.{Message}
-use Rattle.tag.specs.declared.Mailbox.{Mailbox}
-use Rattle.tag.specs.declared.Passwords.{Passwords}
-use Rattle.tag.specs.declared.Bus.{Bus}
+use Rattle.air.specs.declared.Air.{Air}
+use Rattle.mailbox.specs.declared.Mailbox.{Mailbox}
+use Rattle.keys.specs.declared.Passwords.{Passwords}
+use Rattle.bus.specs.declared.Bus.{Bus}
 use Rattle.tag.specs.declared.Host.{Host}
 use Rattle.tag.specs.declared.Core.{Core}
 use Rattle.tag.specs.declared.WireSide.{WireSide}
 use Rattle.tag.specs.declared.Tag.{Tag}
-
--- ---- what a field change touches
-abbrev pub withField : Bool → Air → Air
-withField on a = record { field = on; radio = a .radio; session = a .session }
-
-abbrev pub withState : RadioState → Air → Air
-withState x a = record { field = a .field; radio = x; session = a .session }
-
--- the open radio session: 0 none, 1 to 4 for passwords 0 to 3
-abbrev pub withRadioSession : ℕ → Air → Air
-withRadioSession n a = record { field = a .field; radio = a .radio; session = n }
-
--- ---- one side's bits of MB_CTRL_Dyn
-abbrev pub withPut : Bool → Message → Message
-withPut x m = record { put = x; current = m .current }
-
-abbrev pub withCurrent : Bool → Message → Message
-withCurrent x m = record { put = m .put; current = x }
-
--- ---- the mailbox
-abbrev pub withEnabled : Bool → Mailbox → Mailbox
-withEnabled x b = record { enabled = x; host = b .host; rf = b .rf; length = b .length }
-
-abbrev pub withHostMessage : Message → Mailbox → Mailbox
-withHostMessage m b = record { enabled = b .enabled; host = m; rf = b .rf; length = b .length }
-
-abbrev pub withRfMessage : Message → Mailbox → Mailbox
-withRfMessage m b = record { enabled = b .enabled; host = b .host; rf = m; length = b .length }
-
-abbrev pub withLength : ℕ → Mailbox → Mailbox
-withLength n b = record { enabled = b .enabled; host = b .host; rf = b .rf; length = n }
 
 -- ---- what is the wire's alone
 abbrev pub withVcc : Bool → Host → Host

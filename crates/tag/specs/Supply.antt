@@ -1,18 +1,18 @@
 -- Supply changes, and the fresh tag.
 use mathlib.Core.Bool.{Bool, true, false}
 use Rattle.parts.specs.Pick.{pick}
-use Rattle.registers.specs.Defined.{freshRegisters}
+use Rattle.registers.specs.Fresh.{freshRegisters}
 use Rattle.registers.specs.Map.{withDynamic}
-use Rattle.tag.specs.declared.Bus.the-variants.{Idle}
+use Rattle.bus.specs.declared.Bus.the-variants.{Idle}
 use Rattle.tag.specs.declared.Host.{Host}
-use Rattle.tag.specs.declared.Uid.{Uid}
+use Rattle.keys.specs.declared.Uid.{Uid}
 use Rattle.tag.specs.declared.Core.{Core}
 use Rattle.tag.specs.declared.WireSide.{WireSide}
 use Rattle.tag.specs.declared.Tag.{Tag}
 use Rattle.tag.specs.Parts.{withVcc, withRegisters, withMailbox, withHost, withWireCore}
-use Rattle.tag.specs.Radio.{outOfField}
-use Rattle.tag.specs.Mailbox.{emptyMailbox, disabled}
-use Rattle.tag.specs.Keys.{freshPasswords}
+use Rattle.air.specs.Radio.{outOfField}
+use Rattle.mailbox.specs.Mailbox.{emptyMailbox, disabled}
+use Rattle.keys.specs.Keys.{freshPasswords}
 
 -- "sets .. RF_MNGT_Dyn to RF_MNGT"
 abbrev pub reloaded : Core → Core

@@ -2,15 +2,15 @@
 ghost use mathlib.Core.Path.{_≡_};
 ghost use Rattle.tag.specs.Supply.{unpowered, vccOff, vccOn, vccAt, freshTag};
 ghost use Rattle.tag.specs.Parts.{withBus};
-use crate::Air;
-use crate::Bus;
 use crate::Core;
 use crate::Host;
-use crate::Mailbox;
-use crate::Passwords;
 use crate::Tag;
-use crate::Uid;
 use crate::WireSide;
+use air::Air;
+use bus::Bus;
+use keys::Passwords;
+use keys::Uid;
+use mailbox::Mailbox;
 use registers::Registers;
 
 impl Host {

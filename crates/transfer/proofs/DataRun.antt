@@ -11,11 +11,11 @@ use lib.ListN.{length, take, set, length-set, length-append}
 use lib.Seq.{sets}
 use Rattle.parts.specs.Pick.{pick}
 use Rattle.parts.proofs.Picks.{pick-true, pick-false}
-use Rattle.tag.specs.declared.Space.{Space}
-use Rattle.tag.specs.declared.Bus.the-variants.{DataLeg}
+use Rattle.bus.specs.declared.Space.{Space}
+use Rattle.bus.specs.declared.Bus.the-variants.{DataLeg}
 use Rattle.tag.specs.declared.WireSide.{WireSide}
-use Rattle.tag.specs.declared.Uid.{Uid}
-use Rattle.tag.specs.Bus.{nextAddress}
+use Rattle.keys.specs.declared.Uid.{Uid}
+use Rattle.bus.specs.Bus.{nextAddress}
 use Rattle.tag.specs.Layout.{page}
 use Rattle.select.specs.Select.{firstOf}
 use Rattle.rule.specs.Rule.{acked}

@@ -4,11 +4,11 @@ use mathlib.Core.Bool.{Bool, true, false, not, _||_, or-false, or-assoc}
 use mathlib.Core.List.{List, [], _∷_}
 use Prim.Native.Nat.{ℕ}
 use Rattle.parts.specs.Pick.{pick}
-use Rattle.tag.specs.declared.Space.{Space}
-use Rattle.tag.specs.declared.Bus.the-variants.{ReadLeg}
+use Rattle.bus.specs.declared.Space.{Space}
+use Rattle.bus.specs.declared.Bus.the-variants.{ReadLeg}
 use Rattle.tag.specs.declared.WireSide.{WireSide}
-use Rattle.tag.specs.declared.Uid.{Uid}
-use Rattle.tag.specs.Bus.{nextAddress}
+use Rattle.keys.specs.declared.Uid.{Uid}
+use Rattle.bus.specs.Bus.{nextAddress}
 use Rattle.fetch.specs.Fetch.{fetched, isLast}
 use Rattle.signal.specs.declared.WireAnswer.the-variants.{Byte}
 use Rattle.signal.specs.Signal.{wireResult, sideLine}

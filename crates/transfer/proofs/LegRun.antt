@@ -11,12 +11,12 @@ use lib.ListN.{length, take, length-append}
 use lib.Seq.{sets, take-all, length-take-le}
 use Rattle.parts.specs.Pick.{pick}
 use Rattle.parts.specs.Bytes.{bytesAt}
-use Rattle.tag.specs.declared.Space.{Space}
-use Rattle.tag.specs.declared.Bus.{Bus}
-use Rattle.tag.specs.declared.Bus.the-variants.{Idle, Started, ReadLeg, WriteLeg, LowAddress, DataLeg}
+use Rattle.bus.specs.declared.Space.{Space}
+use Rattle.bus.specs.declared.Bus.{Bus}
+use Rattle.bus.specs.declared.Bus.the-variants.{Idle, Started, ReadLeg, WriteLeg, LowAddress, DataLeg}
 use Rattle.tag.specs.declared.WireSide.{WireSide}
-use Rattle.tag.specs.declared.Uid.{Uid}
-use Rattle.tag.specs.Bus.{nextAddress}
+use Rattle.keys.specs.declared.Uid.{Uid}
+use Rattle.bus.specs.Bus.{nextAddress}
 use Rattle.tag.specs.Layout.{page}
 use Rattle.select.specs.declared.Choice.{Choice}
 use Rattle.select.specs.declared.Choice.the-variants.{NotAcked, Reading, Writing}

@@ -10,7 +10,7 @@ use lib.Seq.{sets, sets-eq, take-suc, take-length, length-take-le, getD-set-same
 use Rattle.parts.specs.Bytes.{bytesAt}
 use Rattle.parts.proofs.Bools.{and-left}
 use Rattle.parts.proofs.Lists.{bytesAt-after}
-use Rattle.tag.specs.declared.Space.{Space}
+use Rattle.bus.specs.declared.Space.{Space}
 use Rattle.tag.specs.declared.Core.{Core}
 use Rattle.tag.specs.Layout.{page}
 use Rattle.rule.specs.Rule.{acked}

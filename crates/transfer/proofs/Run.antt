@@ -4,7 +4,7 @@ use mathlib.Core.Bool.{Bool}
 use mathlib.Core.List.{List, [], _∷_, _++_}
 use Prim.Native.Nat.{ℕ}
 use Rattle.tag.specs.declared.WireSide.{WireSide}
-use Rattle.tag.specs.declared.Uid.{Uid}
+use Rattle.keys.specs.declared.Uid.{Uid}
 use Rattle.signal.specs.declared.WireAnswer.the-variants.{NoAck, Byte}
 use Rattle.signal.specs.Signal.{WireResult, wireResult}
 use Rattle.wire.specs.Wire.{signalOf}

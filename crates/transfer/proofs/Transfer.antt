@@ -7,12 +7,12 @@ use lib.ListN.{length}
 use lib.Seq.{length-sets}
 use Rattle.parts.specs.Pick.{pick}
 use Rattle.parts.proofs.Picks.{pick-true, pick-false}
-use Rattle.tag.specs.declared.Bus.{Bus}
-use Rattle.tag.specs.declared.Bus.the-variants.{Idle, Started}
+use Rattle.bus.specs.declared.Bus.{Bus}
+use Rattle.bus.specs.declared.Bus.the-variants.{Idle, Started}
 use Rattle.tag.specs.declared.Host.{Host}
 use Rattle.tag.specs.declared.WireSide.{WireSide}
-use Rattle.tag.specs.declared.Uid.{Uid}
-use Rattle.tag.specs.Bus.{isOpen}
+use Rattle.keys.specs.declared.Uid.{Uid}
+use Rattle.bus.specs.Bus.{isOpen}
 use Rattle.tag.specs.Supply.{vccOff, vccAt}
 use Rattle.select.specs.declared.Choice.{Choice}
 use Rattle.select.specs.declared.Choice.the-variants.{NotAcked, Reading, Writing}

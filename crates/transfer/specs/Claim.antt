@@ -4,9 +4,9 @@ use mathlib.Core.Bool.{Bool, true, false}
 use mathlib.Core.List.{List, [], _∷_}
 use Prim.Native.Nat.{ℕ}
 use lib.ListN.{length}
-use Rattle.tag.specs.declared.Bus.the-variants.{Started}
+use Rattle.bus.specs.declared.Bus.the-variants.{Started}
 use Rattle.tag.specs.declared.WireSide.{WireSide}
-use Rattle.tag.specs.declared.Uid.{Uid}
+use Rattle.keys.specs.declared.Uid.{Uid}
 use Rattle.tag.specs.Layout.{memoryBytes}
 use Rattle.signal.specs.Signal.{sideBus}
 use Rattle.wire.specs.Wire.{signalOf}

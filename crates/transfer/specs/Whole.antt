@@ -6,12 +6,12 @@ use lib.Dec.{ltb, eqb}
 use lib.ListN.{length, take}
 use lib.Seq.{sets}
 use Rattle.parts.specs.Pick.{pick}
-use Rattle.tag.specs.declared.Space.{Space}
-use Rattle.tag.specs.declared.Bus.the-variants.{Idle}
+use Rattle.bus.specs.declared.Space.{Space}
+use Rattle.bus.specs.declared.Bus.the-variants.{Idle}
 use Rattle.tag.specs.declared.WireSide.{WireSide}
-use Rattle.tag.specs.declared.Uid.{Uid}
+use Rattle.keys.specs.declared.Uid.{Uid}
 use Rattle.tag.specs.Layout.{pagePlace}
-use Rattle.tag.specs.Bus.{nextAddress}
+use Rattle.bus.specs.Bus.{nextAddress}
 use Rattle.tag.specs.Supply.{vccOff}
 use Rattle.tag.specs.Parts.{withCounter, withBus, withHost}
 use Rattle.select.specs.declared.Choice.{Choice}

@@ -5,11 +5,11 @@ use lib.Dec.{ltb, eqb}
 use lib.ListN.{length, getD}
 use lib.Seq.{sets}
 use Rattle.parts.specs.Pick.{pick}
-use Rattle.registers.specs.Defined.{rfMngt}
+use Rattle.register_types.specs.Types.{rfMngt}
 use Rattle.registers.specs.Map.{withDynamic}
 use Rattle.tag.specs.declared.WireSide.{WireSide}
 use Rattle.tag.specs.Layout.{userBytes, mailboxPlace}
-use Rattle.tag.specs.Mailbox.{controlled, hostPut}
+use Rattle.mailbox.specs.Mailbox.{controlled, hostPut}
 use Rattle.tag.specs.Parts.{withRegisters, withMailbox, withWireCore}
 use Rattle.dynamic.specs.Dynamic.{rfMngtDyn, mbCtrlDyn, dynamicAt}
 use Rattle.effect.specs.Effect.{LegResult, legResult, programming}

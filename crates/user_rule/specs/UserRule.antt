@@ -6,7 +6,7 @@ use Rattle.parts.specs.Pick.{pick}
 use Rattle.rights.specs.declared.Side.the-variants.{Wire}
 use Rattle.areas.specs.Ends.{areaOfByte}
 use Rattle.rights.specs.Rights.{mayWrite}
-use Rattle.tag.specs.declared.Mailbox.{Mailbox}
+use Rattle.mailbox.specs.declared.Mailbox.{Mailbox}
 use Rattle.tag.specs.declared.Core.{Core}
 use Rattle.tag.specs.Layout.{userBytes}
 use Rattle.dynamic.specs.Dynamic.{mailboxFirst, hostWrites}

@@ -1,9 +1,9 @@
 // Whether a data byte is Acked in user space.
 ghost use mathlib.Core.Path.{_≡_};
 ghost use Rattle.user_rule.specs.UserRule.{memoryAcked, mailboxAcked, userAcked};
+use mailbox::Mailbox;
 use rights::Side;
 use tag::Core;
-use tag::Mailbox;
 
 fn memory_acked(c: Core, session: bool, f: u16, k: u16) -> bool
     ensures { λ r. ⌜ r ≡ memoryAcked c session f k ⌝ }

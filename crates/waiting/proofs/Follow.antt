@@ -8,13 +8,13 @@ use lib.ListN.{length, length-append}
 use Rattle.parts.specs.Pick.{pick}
 use Rattle.parts.proofs.Picks.{pick-true, pick-case}
 use Rattle.registers.specs.declared.Registers.{Registers}
-use Rattle.tag.specs.declared.Air.{Air}
-use Rattle.tag.specs.declared.Bus.{Bus}
-use Rattle.tag.specs.declared.Bus.the-variants.{Started}
+use Rattle.air.specs.declared.Air.{Air}
+use Rattle.bus.specs.declared.Bus.{Bus}
+use Rattle.bus.specs.declared.Bus.the-variants.{Started}
 use Rattle.tag.specs.declared.Host.{Host}
 use Rattle.tag.specs.declared.WireSide.{WireSide}
-use Rattle.tag.specs.Bus.{isOpen}
-use Rattle.tag.specs.Radio.{fieldAt}
+use Rattle.bus.specs.Bus.{isOpen}
+use Rattle.air.specs.Radio.{fieldAt}
 use Rattle.tag.specs.Supply.{vccAt}
 use Rattle.tag.specs.Parts.{withProgramming, withHost, wireSide, withWire, withTagAir}
 use Rattle.signal.specs.declared.WireSignal.{WireSignal}

@@ -6,9 +6,9 @@ use Prim.Native.Nat.{ℕ}
 use Rattle.parts.specs.Pick.{pick}
 use Rattle.parts.specs.Bits.{isSet}
 use Rattle.parts.proofs.Bools.{or-second}
-use Rattle.registers.specs.declared.RfMngt.{RfMngt}
-use Rattle.tag.specs.declared.Air.{Air}
-use Rattle.tag.specs.declared.Uid.{Uid}
+use Rattle.register_types.specs.declared.RfMngt.{RfMngt}
+use Rattle.air.specs.declared.Air.{Air}
+use Rattle.keys.specs.declared.Uid.{Uid}
 use Rattle.tag.specs.declared.Tag.{Tag}
 use Rattle.reply.specs.declared.RadioSide.{RadioSide}
 use Rattle.errors.specs.declared.RadioError.the-variants.{ShutOut}

@@ -8,7 +8,7 @@ use lib.ListN.{length}
 use Rattle.parts.specs.Pick.{pick}
 use Rattle.parts.proofs.Picks.{pick-false}
 use Rattle.tag.specs.declared.WireSide.{WireSide}
-use Rattle.tag.specs.declared.Uid.{Uid}
+use Rattle.keys.specs.declared.Uid.{Uid}
 use Rattle.signal.specs.declared.WireAnswer.{WireAnswer}
 use Rattle.wire.specs.Wire.{signalOf}
 use Rattle.transfer.specs.Legs.{Noted, wireSignal, ends, fresher, isEmpty, finished}

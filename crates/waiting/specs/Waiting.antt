@@ -4,10 +4,10 @@ use mathlib.Core.Bool.{Bool, true, false, not, _&&_}
 use mathlib.Core.List.{List, [], _∷_, _++_}
 use Prim.Native.Nat.{ℕ}
 use Rattle.parts.specs.Pick.{pick}
-use Rattle.tag.specs.declared.Bus.{Bus}
-use Rattle.tag.specs.declared.Bus.the-variants.{Idle, Started, ReadLeg, WriteLeg, LowAddress, DataLeg}
+use Rattle.bus.specs.declared.Bus.{Bus}
+use Rattle.bus.specs.declared.Bus.the-variants.{Idle, Started, ReadLeg, WriteLeg, LowAddress, DataLeg}
 use Rattle.tag.specs.declared.Host.{Host}
-use Rattle.tag.specs.Radio.{fieldAt}
+use Rattle.air.specs.Radio.{fieldAt}
 use Rattle.tag.specs.Parts.{wireSide, withWire, withTagAir}
 use Rattle.select.specs.Select.{choose}
 use Rattle.signal.specs.declared.WireAnswer.{WireAnswer}

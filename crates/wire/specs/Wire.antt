@@ -3,12 +3,12 @@ use mathlib.Core.Bool.{Bool, false, not, _||_}
 use mathlib.Core.List.{List}
 use Prim.Native.Nat.{ℕ}
 use Rattle.parts.specs.Pick.{pick}
-use Rattle.tag.specs.declared.Bus.{Bus}
-use Rattle.tag.specs.declared.Bus.the-variants.{Idle, Started, ReadLeg, WriteLeg, LowAddress, DataLeg}
+use Rattle.bus.specs.declared.Bus.{Bus}
+use Rattle.bus.specs.declared.Bus.the-variants.{Idle, Started, ReadLeg, WriteLeg, LowAddress, DataLeg}
 use Rattle.tag.specs.declared.WireSide.{WireSide}
-use Rattle.tag.specs.declared.Uid.{Uid}
+use Rattle.keys.specs.declared.Uid.{Uid}
 use Rattle.tag.specs.Parts.{withProgramming, withHost}
-use Rattle.tag.specs.Bus.{nextAddress}
+use Rattle.bus.specs.Bus.{nextAddress}
 use Rattle.tag.specs.Supply.{vccAt}
 use Rattle.fetch.specs.Fetch.{fetched, isLast}
 use Rattle.signal.specs.declared.WireAnswer.the-variants.{Nothing, Byte}

@@ -1,15 +1,15 @@
 // The wire side: one signal in, its answer and what it changes out. A layer and no entry point: it refuses nothing.
 ghost use mathlib.Core.Path.{_≡_};
-ghost use Rattle.tag.specs.declared.Bus.the-variants.{ReadLeg};
+ghost use Rattle.bus.specs.declared.Bus.the-variants.{ReadLeg};
 ghost use Rattle.signal.specs.declared.WireAnswer.the-variants.{Nothing, Byte};
 ghost use Rattle.signal.specs.Signal.{wireResult};
 ghost use Rattle.wire.specs.Wire.{fetchAt, programmed, signalOf};
+use bus::Bus;
+use bus::Space;
+use keys::Uid;
 use signal::WireAnswer;
 use signal::WireOutcome;
 use signal::WireSignal;
-use tag::Bus;
-use tag::Space;
-use tag::Uid;
 use tag::WireSide;
 
 fn no_byte(w: WireSide) -> WireOutcome
@@ -39,7 +39,7 @@ fn fetch_read(
     let counter = w.host.counter;
     let x = fetch::fetched(space, w.core, w.host.session, u, m, counter);
     let reached = fetch::is_last(space, w.core.mailbox, counter);
-    let after = tag::next_address(counter);
+    let after = bus::next_address(counter);
     let leg = Bus::ReadLeg {
         space: space,
         over: !ack,

@@ -12,19 +12,19 @@ use Rattle.parts.proofs.Bools.{and-left, and-right, and-both}
 use Rattle.parts.proofs.Picks.{pick-case}
 use Rattle.parts.proofs.Lists.{length-bytesAt}
 use Rattle.registers.specs.declared.Registers.{Registers}
-use Rattle.registers.specs.Defined.{rfMngt}
+use Rattle.register_types.specs.Types.{rfMngt}
 use Rattle.registers.specs.Map.{withDynamic}
-use Rattle.tag.specs.declared.Space.{Space}
-use Rattle.tag.specs.declared.Space.the-variants.{User, System}
-use Rattle.tag.specs.declared.Mailbox.{Mailbox}
-use Rattle.tag.specs.declared.Bus.{Bus}
-use Rattle.tag.specs.declared.Bus.the-variants.{Idle, Started, ReadLeg, WriteLeg, LowAddress, DataLeg}
+use Rattle.bus.specs.declared.Space.{Space}
+use Rattle.bus.specs.declared.Space.the-variants.{User, System}
+use Rattle.mailbox.specs.declared.Mailbox.{Mailbox}
+use Rattle.bus.specs.declared.Bus.{Bus}
+use Rattle.bus.specs.declared.Bus.the-variants.{Idle, Started, ReadLeg, WriteLeg, LowAddress, DataLeg}
 use Rattle.tag.specs.declared.Core.{Core}
 use Rattle.tag.specs.declared.WireSide.{WireSide}
-use Rattle.tag.specs.declared.Uid.{Uid}
-use Rattle.tag.specs.Bus.{isOpen, isActive, pageBytes, nextAddress}
-use Rattle.tag.specs.Mailbox.{controlled, hostPut, hostRead}
-use Rattle.tag.specs.Keys.{passwordAt, samePassword, withI2cPassword}
+use Rattle.keys.specs.declared.Uid.{Uid}
+use Rattle.bus.specs.Bus.{isOpen, isActive, pageBytes, nextAddress}
+use Rattle.mailbox.specs.Mailbox.{controlled, hostPut, hostRead}
+use Rattle.keys.specs.Keys.{passwordAt, samePassword, withI2cPassword}
 use Rattle.tag.specs.Supply.{vccOff, vccOn, vccAt}
 use Rattle.tag.specs.Layout.{page}
 use Rattle.tag.specs.Parts.{withRegisters, withMailbox, withPasswords, withWireCore}

@@ -12,11 +12,11 @@ use Rattle.parts.specs.Bytes.{bytesAt}
 use Rattle.parts.proofs.Bools.{and-left, and-right}
 use Rattle.parts.proofs.Picks.{pick-false}
 use Rattle.parts.proofs.Lists.{length-bytesAt, bytesAt-after}
-use Rattle.registers.specs.Table.{isWritable}
+use Rattle.register_table.specs.Table.{isWritable}
 use Rattle.areas.specs.Ends.{endAllows}
-use Rattle.tag.specs.declared.Space.{Space}
-use Rattle.tag.specs.declared.Space.the-variants.{System}
-use Rattle.tag.specs.declared.Mailbox.{Mailbox}
+use Rattle.bus.specs.declared.Space.{Space}
+use Rattle.bus.specs.declared.Space.the-variants.{System}
+use Rattle.mailbox.specs.declared.Mailbox.{Mailbox}
 use Rattle.tag.specs.declared.Core.{Core}
 use Rattle.tag.specs.Layout.{page}
 use Rattle.ranges.specs.Ranges.{registersInRange}

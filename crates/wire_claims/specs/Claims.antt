@@ -5,9 +5,9 @@ use mathlib.Core.List.{List}
 use Prim.Native.Nat.{ℕ, _<_}
 use lib.ListN.{length, getD}
 use Rattle.tag.specs.declared.WireSide.{WireSide}
-use Rattle.tag.specs.declared.Uid.{Uid}
+use Rattle.keys.specs.declared.Uid.{Uid}
 use Rattle.tag.specs.Layout.{memoryBytes}
-use Rattle.tag.specs.Bus.{isOpen}
+use Rattle.bus.specs.Bus.{isOpen}
 use Rattle.ranges.specs.Ranges.{suppliedInRange, wireInRange}
 use Rattle.page.specs.PageRange.{busInRange}
 use Rattle.signal.specs.declared.WireSignal.{WireSignal}

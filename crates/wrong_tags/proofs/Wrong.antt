@@ -5,10 +5,10 @@ use mathlib.Core.List.{List, [], _∷_, _++_}
 use Prim.Native.Nat.{ℕ, _+_}
 use native.Mathlib.Omega.{arith}
 use lib.ListN.{getD, replicate}
-use Rattle.tag.specs.declared.RadioState.the-variants.{Selected}
-use Rattle.tag.specs.declared.Bus.the-variants.{Started}
-use Rattle.tag.specs.Bus.{isOpen, pageBytes}
-use Rattle.tag.specs.Radio.{isSelected}
+use Rattle.air.specs.declared.RadioState.the-variants.{Selected}
+use Rattle.bus.specs.declared.Bus.the-variants.{Started}
+use Rattle.bus.specs.Bus.{isOpen, pageBytes}
+use Rattle.air.specs.Radio.{isSelected}
 use Rattle.model.specs.declared.Answer.{Answer}
 use Rattle.model.specs.declared.Answer.the-variants.{Refused, Nothing, Ack, NoAck, Byte, Silence, Reply}
 use Rattle.refusals.specs.Refusals.{number}

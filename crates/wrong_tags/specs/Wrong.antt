@@ -5,11 +5,11 @@ use Prim.Native.Nat.{ℕ}
 use lib.Dec.{eqb}
 use lib.ListN.{take}
 use Rattle.parts.specs.Pick.{pick}
-use Rattle.tag.specs.declared.Bus.the-variants.{Idle, Started}
+use Rattle.bus.specs.declared.Bus.the-variants.{Idle, Started}
 use Rattle.tag.specs.declared.Core.{Core}
 use Rattle.tag.specs.declared.Tag.{Tag}
 use Rattle.tag.specs.Layout.{userBytes}
-use Rattle.tag.specs.Radio.{deselected}
+use Rattle.air.specs.Radio.{deselected}
 use Rattle.tag.specs.Parts.{withTagAir}
 use Rattle.frame.specs.Fields.{command, ownUid}
 use Rattle.silence.specs.Silence.{isSilent}

@@ -3,7 +3,7 @@ use Rattle.model.proofs.by_field.Statement.{statement}
 use Rattle.model.proofs.by_field.Tie as tie
 use Rattle.model.proofs.by_field.Reads as reads
 use Rattle.model.proofs.by_field.Lts as lts
-use Rattle.tag.proofs.Air.field_at.Reads as field-at-reads
+use Rattle.air.proofs.Air.field_at.Reads as field-at-reads
 
 -- src/lib.rt:119:5
 field-at-requires : tie.Need-field-at-requires

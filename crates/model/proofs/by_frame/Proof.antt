@@ -8,7 +8,7 @@ use Rattle.model.proofs.by_frame.Reads as reads
 use Rattle.model.proofs.by_frame.Lts as lts
 use Rattle.model.proofs.from_radio.Reads as from-radio-reads
 use Rattle.radio.proofs.radio.Reads as radio-reads
-use Rattle.tag.proofs.is_open.Reads as is-open-reads
+use Rattle.bus.proofs.is_open.Reads as is-open-reads
 
 -- src/lib.rt:135:9
 is-open-requires : tie.Need-is-open-requires

@@ -7,7 +7,7 @@ use lib.ListN.{getD}
 use borrow.Author.Needs.{needs}
 use borrow.Author.Tests.{not-true, not-false}
 use Rattle.parts.specs.Bytes.{bytesAt}
-use Rattle.tag.specs.declared.Space.the-variants.{System}
+use Rattle.bus.specs.declared.Space.the-variants.{System}
 use Rattle.rule.specs.Rule.{acked}
 use Rattle.page.specs.PageRange.{pageAcked}
 use Rattle.page.proofs.system_page.Statement.{statement}

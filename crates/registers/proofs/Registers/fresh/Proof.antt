@@ -1,4 +1,4 @@
-use Rattle.registers.specs.Defined.{freshRegisters}
+use Rattle.registers.specs.Fresh.{freshRegisters}
 use borrow.Author.Needs.{needs}
 use Rattle.registers.proofs.Registers.fresh.Statement.{statement}
 use Rattle.registers.proofs.Registers.fresh.Tie as tie

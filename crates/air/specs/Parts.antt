@@ -1,0 +1,15 @@
+-- One part of what a field change touches replaced, the rest as it was. These alone write its record out, so that a field more is one entry in each setter of its record.
+use mathlib.Core.Bool.{Bool}
+use Prim.Native.Nat.{ℕ}
+use Rattle.air.specs.declared.RadioState.{RadioState}
+use Rattle.air.specs.declared.Air.{Air}
+
+abbrev pub withField : Bool → Air → Air
+withField on a = record { field = on; radio = a .radio; session = a .session }
+
+abbrev pub withState : RadioState → Air → Air
+withState x a = record { field = a .field; radio = x; session = a .session }
+
+-- the open radio session: 0 none, 1 to 4 for passwords 0 to 3
+abbrev pub withRadioSession : ℕ → Air → Air
+withRadioSession n a = record { field = a .field; radio = a .radio; session = n }

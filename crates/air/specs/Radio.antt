@@ -1,0 +1,47 @@
+-- "The radio state is Ready, Quiet or Selected", and the field.
+use mathlib.Core.Bool.{Bool, true, false}
+use Rattle.parts.specs.Pick.{pick}
+use Rattle.air.specs.declared.RadioState.{RadioState}
+use Rattle.air.specs.declared.RadioState.the-variants.{Ready, Quiet, Selected}
+use Rattle.air.specs.declared.Air.{Air}
+use Rattle.air.specs.Parts.{withField, withState}
+
+unfoldable pub isQuiet : RadioState → Bool
+isQuiet Ready = false
+isQuiet Quiet = true
+isQuiet Selected = false
+
+unfoldable pub isSelected : RadioState → Bool
+isSelected Ready = false
+isSelected Quiet = false
+isSelected Selected = true
+
+-- "own UID Selected"
+abbrev pub selected : Air → Air
+selected a = withState Selected a
+
+-- "another UID: Selected becomes Ready"
+unfoldable pub deselected : Air → Air
+deselected a = pick (isSelected (a .radio)) (withState Ready a) a
+
+-- "Stay Quiet: Quiet"
+abbrev pub quieted : Air → Air
+quieted a = withState Quiet a
+
+-- "Reset gives Ready"
+abbrev pub reset : Air → Air
+reset a = withState Ready a
+
+-- "Field off makes the tag Ready and closes the radio session."
+abbrev pub outOfField : Air
+outOfField = record { field = false; radio = Ready; session = 0 }
+
+abbrev pub fieldOff : Air → Air
+fieldOff a = outOfField
+
+abbrev pub fieldOn : Air → Air
+fieldOn a = withField true a
+
+-- the field at a level; "a repeated .. field level .. change[s] nothing (house)"
+unfoldable pub fieldAt : Bool → Air → Air
+fieldAt on a = pick on (pick (a .field) a (fieldOn a)) (pick (a .field) (fieldOff a) a)

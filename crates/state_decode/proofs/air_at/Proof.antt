@@ -1,0 +1,25 @@
+use Rattle.state.specs.Layout.{airAt}
+use borrow.Author.Needs.{needs}
+use Rattle.state_decode.proofs.air_at.Statement.{statement}
+use Rattle.state_decode.proofs.air_at.Tie as tie
+
+flag-at-requires : tie.Need-flag-at-requires
+flag-at-requires c κs = search needs
+
+byte-at-requires : tie.Need-byte-at-requires
+byte-at-requires c κs = search needs
+
+radio-state-of-requires : tie.Need-radio-state-of-requires
+radio-state-of-requires c κs = search needs
+
+byte-at-requires-2 : tie.Need-byte-at-requires-2
+byte-at-requires-2 c κs = search needs
+
+returns : tie.Need-returns
+unfolding airAt
+returns c = rw (c .byte-at2 .ensures, c .before .radio-state-of .ensures, c .before .before .byte-at .ensures, c .before .before .before .flag-at .ensures)
+
+pub air-at-spec : {M : Type 1} → statement M
+air-at-spec =
+    tie.close
+    (tie.spec flag-at-requires byte-at-requires radio-state-of-requires byte-at-requires-2 returns)

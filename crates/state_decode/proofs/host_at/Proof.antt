@@ -1,0 +1,42 @@
+use Rattle.state.specs.Layout.{hostAt}
+use borrow.Author.Needs.{needs}
+use Rattle.state_decode.proofs.host_at.Statement.{statement}
+use Rattle.state_decode.proofs.host_at.Tie as tie
+
+flag-at-requires : tie.Need-flag-at-requires
+flag-at-requires c κs = search needs
+
+flag-at-requires-2 : tie.Need-flag-at-requires-2
+flag-at-requires-2 c κs = search needs
+
+flag-at-requires-3 : tie.Need-flag-at-requires-3
+flag-at-requires-3 c κs = search needs
+
+byte-at-requires : tie.Need-byte-at-requires
+byte-at-requires c κs = search needs
+
+byte-at-requires-2 : tie.Need-byte-at-requires-2
+byte-at-requires-2 c κs = search needs
+
+word-of-requires : tie.Need-word-of-requires
+word-of-requires c κs = search needs
+
+bus-at-requires : tie.Need-bus-at-requires
+bus-at-requires c κs = search needs
+
+returns : tie.Need-returns
+unfolding hostAt
+returns c = rw (c .bus-at .ensures, c .before .word-of .ensures, c .before .before .byte-at2 .ensures, c .before .before .before .byte-at .ensures, c .before .before .before .before .flag-at3 .ensures, c .before .before .before .before .before .flag-at2 .ensures, c .before .before .before .before .before .before .flag-at .ensures)
+
+pub host-at-spec : {M : Type 1} → statement M
+host-at-spec =
+    tie.close
+    (tie.spec
+    flag-at-requires
+    flag-at-requires-2
+    flag-at-requires-3
+    byte-at-requires
+    byte-at-requires-2
+    word-of-requires
+    bus-at-requires
+    returns)

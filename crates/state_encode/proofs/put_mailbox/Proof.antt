@@ -1,0 +1,55 @@
+use Rattle.parts.specs.Bytes.{bytesAt}
+use Rattle.state.specs.Layout.{mailboxBytes}
+use borrow.Author.Needs.{needs}
+use Rattle.state_encode.proofs.put_mailbox.Statement.{statement}
+use Rattle.state_encode.proofs.put_mailbox.Tie as tie
+
+flag-byte-requires : tie.Need-flag-byte-requires
+flag-byte-requires c κs = search needs
+
+flag-byte-requires-2 : tie.Need-flag-byte-requires-2
+flag-byte-requires-2 c κs = search needs
+
+flag-byte-requires-3 : tie.Need-flag-byte-requires-3
+flag-byte-requires-3 c κs = search needs
+
+flag-byte-requires-4 : tie.Need-flag-byte-requires-4
+flag-byte-requires-4 c κs = search needs
+
+flag-byte-requires-5 : tie.Need-flag-byte-requires-5
+flag-byte-requires-5 c κs = search needs
+
+cast-t10 : tie.Need-cast-t10
+cast-t10 c = search needs
+
+cast-t12 : tie.Need-cast-t12
+cast-t12 c = search needs
+
+slice-aggregate-put-bytes : tie.Need-slice-aggregate-put-bytes
+slice-aggregate-put-bytes c = search needs
+
+put-bytes-requires : tie.Need-put-bytes-requires
+put-bytes-requires c κs = search needs
+
+same-length : tie.Need-same-length
+same-length c = search needs
+
+returns : tie.Need-returns
+unfolding bytesAt mailboxBytes
+returns c = rw (c .before .before .put-bytes .ensures, c .before .before .before .before .before .before .before .flag-byte5 .ensures, c .before .before .before .before .before .before .before .before .flag-byte4 .ensures, c .before .before .before .before .before .before .before .before .before .flag-byte3 .ensures, c .before .before .before .before .before .before .before .before .before .before .flag-byte2 .ensures, c .before .before .before .before .before .before .before .before .before .before .before .flag-byte .ensures)
+
+pub put-mailbox-spec : {M : Type 1} → statement M
+put-mailbox-spec =
+    tie.close
+    (tie.spec
+    flag-byte-requires
+    flag-byte-requires-2
+    flag-byte-requires-3
+    flag-byte-requires-4
+    flag-byte-requires-5
+    cast-t10
+    cast-t12
+    slice-aggregate-put-bytes
+    put-bytes-requires
+    same-length
+    returns)

@@ -1,0 +1,175 @@
+// The tag's state stored as bytes. A byte stored past the end is dropped.
+ghost use mathlib.Core.Path.{_≡_};
+ghost use lib.ListN.{length};
+ghost use lib.Seq.{sets};
+ghost use Rattle.state.specs.Layout.{stateBytes, flagByte, radioNumber, spaceNumber, airBytes, busBytes, hostBytes, registerBytes, mailboxBytes, passwordBytes, bytesOf};
+use air::Air;
+use air::RadioState;
+use bus::Bus;
+use bus::Space;
+use keys::Passwords;
+use mailbox::Mailbox;
+use registers::Registers;
+use tag::Host;
+use tag::Tag;
+
+fn flag_byte(b: bool) -> u8
+    ensures { λ r. ⌜ r ≡ flagByte b ⌝ }
+{
+    if b {
+        return 1;
+    }
+    0
+}
+
+fn radio_number(r: RadioState) -> u8
+    ensures { λ n. ⌜ n ≡ radioNumber r ⌝ }
+{
+    match r {
+        RadioState::Ready => 0,
+        RadioState::Quiet => 1,
+        RadioState::Selected => 2,
+    }
+}
+
+fn space_number(s: Space) -> u8
+    ensures { λ n. ⌜ n ≡ spaceNumber s ⌝ }
+{
+    match s {
+        Space::User => 0,
+        Space::System => 1,
+    }
+}
+
+fn put_air(a: Air, s: &mut [u8])
+    ensures { λ _. ⌜ now (s .exit) ≡ sets (now (s .entry)) 0 (airBytes a) ⌝ }
+{
+    let radio = a.radio;
+    let b = [flag_byte(a.field), radio_number(radio), a.session];
+    parts::put_bytes(s, 0, &b, 0, 3);
+}
+
+fn bus_bytes(b: Bus) -> [u8; 7]
+    ensures { λ r. ⌜ r ≡ busBytes b ⌝ }
+{
+    match b {
+        Bus::Idle => [0, 0, 0, 0, 0, 0, 0],
+        Bus::Started(open) => [1, 0, flag_byte(open), 0, 0, 0, 0],
+        Bus::ReadLeg { space, over, last } => [
+            2,
+            space_number(space),
+            flag_byte(over),
+            flag_byte(last),
+            0,
+            0,
+            0,
+        ],
+        Bus::WriteLeg(space) => [3, space_number(space), 0, 0, 0, 0, 0],
+        Bus::LowAddress { space, high } => [4, space_number(space), 0, 0, high, 0, 0],
+        Bus::DataLeg {
+            space,
+            count,
+            spoiled,
+        } => [
+            5,
+            space_number(space),
+            flag_byte(spoiled),
+            0,
+            0,
+            (count % 256) as u8,
+            (count / 256) as u8,
+        ],
+    }
+}
+
+fn put_host(h: Host, s: &mut [u8])
+    ensures { λ _. ⌜ now (s .exit) ≡ sets (now (s .entry)) 3 (hostBytes h) ⌝ }
+{
+    let b = [
+        flag_byte(h.vcc),
+        flag_byte(h.session),
+        flag_byte(h.programming),
+        (h.counter % 256) as u8,
+        (h.counter / 256) as u8,
+    ];
+    parts::put_bytes(s, 3, &b, 0, 5);
+    let bus = h.bus;
+    let leg = bus_bytes(bus);
+    parts::put_bytes(s, 8, &leg, 0, 7);
+}
+
+fn put_registers(r: Registers, s: &mut [u8])
+    ensures { λ _. ⌜ now (s .exit) ≡ sets (now (s .entry)) 15 (registerBytes r) ⌝ }
+{
+    let b = [
+        r.mngt.bits,
+        r.dynamic.bits,
+        r.security.area1.bits,
+        r.ends.end1.bits,
+        r.security.area2.bits,
+        r.ends.end2.bits,
+        r.security.area3.bits,
+        r.ends.end3.bits,
+        r.security.area4.bits,
+        r.i2css.bits,
+        r.ccfile.bits,
+        r.mode.bits,
+        r.config.bits,
+    ];
+    parts::put_bytes(s, 15, &b, 0, 13);
+}
+
+fn put_mailbox(m: Mailbox, s: &mut [u8])
+    ensures { λ _. ⌜ now (s .exit) ≡ sets (now (s .entry)) 28 (mailboxBytes m) ⌝ }
+{
+    let b = [
+        flag_byte(m.enabled),
+        flag_byte(m.host.put),
+        flag_byte(m.rf.put),
+        flag_byte(m.host.current),
+        flag_byte(m.rf.current),
+        (m.length % 256) as u8,
+        (m.length / 256) as u8,
+    ];
+    parts::put_bytes(s, 28, &b, 0, 7);
+}
+
+fn put_eight(b: [u8; 8], at: usize, s: &mut [u8])
+    ensures { λ _. ⌜ now (s .exit) ≡ sets (now (s .entry)) at b ⌝ }
+    ensures { λ _. ⌜ length b ≡ 8 ⌝ }
+{
+    parts::put_bytes(s, at, &b, 0, 8);
+}
+
+fn put_passwords(p: Passwords, s: &mut [u8])
+    ensures { λ _. ⌜ now (s .exit) ≡ sets (now (s .entry)) 35 (passwordBytes p) ⌝ }
+    ensures { λ _. ⌜ length (passwordBytes p) ≡ 40 ⌝ }
+{
+    let i2c = p.i2c.bytes;
+    let rf0 = p.rf0.bytes;
+    let rf1 = p.rf1.bytes;
+    let rf2 = p.rf2.bytes;
+    let rf3 = p.rf3.bytes;
+    put_eight(i2c, 35, s);
+    put_eight(rf0, 43, s);
+    put_eight(rf1, 51, s);
+    put_eight(rf2, 59, s);
+    put_eight(rf3, 67, s);
+}
+
+// Stores the bytes of a tag.
+pub fn encode(t: Tag, s: &mut [u8])
+    ensures { λ _. ⌜ now (s .exit) ≡ sets (now (s .entry)) 0 (bytesOf t) ⌝ }
+    ensures { λ _. ⌜ length (bytesOf t) ≡ stateBytes ⌝ }
+{
+    let air = t.air;
+    let host = t.host;
+    let core = t.core;
+    let uid = t.uid.bytes;
+    put_air(air, s);
+    put_host(host, s);
+    put_registers(core.registers, s);
+    put_mailbox(core.mailbox, s);
+    put_passwords(core.passwords, s);
+    put_eight(uid, 75, s);
+}

@@ -16,20 +16,20 @@ pub struct Air {
     pub session: u8,
 }
 
-pub fn is_quiet(r: RadioState) -> bool
-    ensures { λ b. ⌜ b ≡ isQuiet r ⌝ }
+pub fn is_quiet(x: RadioState) -> bool
+    ensures { λ b. ⌜ b ≡ isQuiet x ⌝ }
 {
-    match r {
+    match x {
         RadioState::Ready => false,
         RadioState::Quiet => true,
         RadioState::Selected => false,
     }
 }
 
-pub fn is_selected(r: RadioState) -> bool
-    ensures { λ b. ⌜ b ≡ isSelected r ⌝ }
+pub fn is_selected(x: RadioState) -> bool
+    ensures { λ b. ⌜ b ≡ isSelected x ⌝ }
 {
-    match r {
+    match x {
         RadioState::Ready => false,
         RadioState::Quiet => false,
         RadioState::Selected => true,

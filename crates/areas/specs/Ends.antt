@@ -15,10 +15,10 @@ largestEnd = 0x0F
 
 -- "Area i ends at block 8·ENDAi+7, byte 32·ENDAi+31"
 abbrev pub lastBlock : EndA → ℕ
-lastBlock e = 8 * e .bits + 7
+lastBlock end = 8 * end .bits + 7
 
 abbrev pub lastByte : EndA → ℕ
-lastByte e = 32 * e .bits + 31
+lastByte end = 32 * end .bits + 31
 
 -- "A block lies in the first area whose end reaches it"; "area 4 takes the rest of 128 blocks"
 unfoldable pub areaOfBlock : Ends → ℕ → ℕ
@@ -38,7 +38,7 @@ areaOfByte e at =
 
 -- "Ends rise; two are equal only at 0Fh."
 abbrev pub rises : EndA → EndA → Bool
-rises a b = ltb (a .bits) (b .bits) || (eqb (a .bits) largestEnd && eqb (b .bits) largestEnd)
+rises lower upper = ltb (lower .bits) (upper .bits) || (eqb (lower .bits) largestEnd && eqb (upper .bits) largestEnd)
 
 unfoldable pub endsInRange : Ends → Bool
 endsInRange e =
@@ -73,4 +73,4 @@ ruleAllows (AreaEnd i) e x = endAccepted e i x
 ruleAllows MailboxMode e x = true
 
 unfoldable pub endAllows : Ends → ℕ → ℕ → Bool
-endAllows e a x = ruleAllows (rowOf a .rule) e x
+endAllows e address x = ruleAllows (rowOf address .rule) e x

@@ -17,11 +17,11 @@ struct Run {
     more: bool,
 }
 
-fn stopped(b: Bench) -> Run
+fn stopped(bench: Bench) -> Run
     ensures { λ r. ⌜ r .more ≡ false ⌝ }
 {
     Run {
-        bench: b,
+        bench: bench,
         have: 0,
         more: false,
     }
@@ -59,7 +59,7 @@ fn say(text: &[u8]) -> bool {
 
 // A piece of the input: step by step, and each step's texts are written before the next.
 fn piece(
-    r: Run,
+    run: Run,
     m: &mut [u8; 1024],
     reply: &mut [u8; 643],
     kept: &mut [u8; 1201],
@@ -67,10 +67,10 @@ fn piece(
     out: &mut [u8],
 ) -> Run
     requires { ⌜ textRoom ≤ length (now out) ⌝ }
-    ensures { λ q. ⌜ Reaches (q .more) (benchState (q .bench) (now (m .exit)) (now (reply .exit))) (take (q .have) (now (kept .exit))) (flowOf (benchState (r .bench) (now (m .entry)) (now (reply .entry))) (take (r .have) (now (kept .entry))) (now (s .entry))) ⌝ }
+    ensures { λ q. ⌜ Reaches (q .more) (benchState (q .bench) (now (m .exit)) (now (reply .exit))) (take (q .have) (now (kept .exit))) (flowOf (benchState (run .bench) (now (m .entry)) (now (reply .entry))) (take (run .have) (now (kept .entry))) (now (s .entry))) ⌝ }
 {
-    let mut bench = r.bench;
-    let mut have = r.have;
+    let mut bench = run.bench;
+    let mut have = run.have;
     let mut at = 0;
     while at < s.len() {
         let t = stream::step(bench, m, reply, kept, have, &s[at..], out);
@@ -91,13 +91,13 @@ fn piece(
 
 // The end of the input.
 fn finish(
-    r: Run,
+    run: Run,
     m: &mut [u8; 1024],
     reply: &mut [u8; 643],
     kept: &mut [u8; 1201],
     out: &mut [u8],
 ) -> Run {
-    let t = stream::end(r.bench, m, reply, kept, r.have, out);
+    let t = stream::end(run.bench, m, reply, kept, run.have, out);
     let wrote = t.wrote;
     say(&out[0..wrote]);
     stopped(t.bench)
@@ -105,7 +105,7 @@ fn finish(
 
 // One read, and what it brought. A failed read is not the end of the input: an unfinished line is not answered.
 fn turn(
-    r: Run,
+    run: Run,
     m: &mut [u8; 1024],
     reply: &mut [u8; 643],
     kept: &mut [u8; 1201],
@@ -117,21 +117,21 @@ fn turn(
     let got = libc::read(libc::STDIN_FILENO, input);
     if got < 0 {
         if interrupted(got) {
-            return r;
+            return run;
         }
         write_all(libc::STDERR_FILENO, b"bench: cannot read the input\n");
-        return stopped(r.bench);
+        return stopped(run.bench);
     }
     if got == 0 {
-        return finish(r, m, reply, kept, out);
+        return finish(run, m, reply, kept, out);
     }
     let n = io::count(got, input);
-    piece(r, m, reply, kept, &input[0..n], out)
+    piece(run, m, reply, kept, &input[0..n], out)
 }
 
 // All of the input. The number of reads only shows that the loop ends.
 fn all(
-    b: Bench,
+    bench: Bench,
     m: &mut [u8; 1024],
     reply: &mut [u8; 643],
     kept: &mut [u8; 1201],
@@ -141,7 +141,7 @@ fn all(
     requires { ⌜ textRoom ≤ length (now out) ⌝ }
 {
     let mut r = Run {
-        bench: b,
+        bench: bench,
         have: 0,
         more: true,
     };

@@ -11,7 +11,7 @@ benchUid = record { bytes = 0x01 ∷ 0x02 ∷ 0x03 ∷ 0x04 ∷ 0x05 ∷ 0x24 �
 
 -- line numbers from 1
 abbrev pub nextLine : Bench → ℕ
-nextLine b = (b .number + 1) % 18446744073709551616
+nextLine bench = (bench .number + 1) % 18446744073709551616
 
 -- the start: "fresh with UID 01 02 03 04 05 24 02 E0", before line 1
 pub record BenchStart : Type 0 where
@@ -19,9 +19,9 @@ pub record BenchStart : Type 0 where
   pub memory : List ℕ
 
 abbrev pub benchStart : Bench → List ℕ → BenchStart
-benchStart b m = record { bench = b; memory = m }
+benchStart bench m = record { bench = bench; memory = m }
 
 unfoldable pub benchStartOf : List ℕ → BenchStart
 benchStartOf m =
-    let e = freshOf benchUid m in
-    benchStart (record { tag = e .tag; number = 0 }) (e .memory)
+    let result = freshOf benchUid m in
+    benchStart (record { tag = result .tag; number = 0 }) (result .memory)

@@ -24,8 +24,8 @@ pub fn start(m: &mut [u8]) -> Bench
 }
 
 // The number of the next line.
-pub fn next_line(b: Bench) -> u64
-    ensures { λ r. ⌜ r ≡ nextLine b ⌝ }
+pub fn next_line(bench: Bench) -> u64
+    ensures { λ r. ⌜ r ≡ nextLine bench ⌝ }
 {
-    std::num::wrapping_add_u64(b.number, 1)
+    std::num::wrapping_add_u64(bench.number, 1)
 }

@@ -23,6 +23,6 @@ statusesOf r session first (suc n) = statusesOf r session first n ++ statusOf r 
 
 -- "2C Status: first, count-1; 10h; stops at block 127"
 unfoldable pub statusReply : RadioSide → List ℕ → ℕ → ℕ → CommandResult
-statusReply s m first more =
-    pick (leb blocks first) (fails NoSuchBlock s m)
-    (commandResult (good (statusesOf (s .core .registers) (s .air .session) first (pick (ltb (blocks - first) (more + 1)) (blocks - first) (more + 1)))) s m)
+statusReply v m first more =
+    pick (leb blocks first) (fails NoSuchBlock v m)
+    (commandResult (good (statusesOf (v .core .registers) (v .air .session) first (pick (ltb (blocks - first) (more + 1)) (blocks - first) (more + 1)))) v m)

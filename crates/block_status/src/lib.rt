@@ -47,16 +47,16 @@ fn lesser(left: u16, asked: u16) -> u16
 }
 
 // 2C, more being one less than the count.
-pub fn status(s: RadioSide, m: &[u8], out: &mut [u8], first: u8, more: u8) -> RadioOutcome
-    ensures { λ r. ⌜ radioResult r (now (m .entry)) (now (out .exit)) ≡ finish (statusReply s (now (m .entry)) first more) (now (out .entry)) ⌝ }
+pub fn status(v: RadioSide, m: &[u8], out: &mut [u8], first: u8, more: u8) -> RadioOutcome
+    ensures { λ r. ⌜ radioResult r (now (m .entry)) (now (out .exit)) ≡ finish (statusReply v (now (m .entry)) first more) (now (out .entry)) ⌝ }
 {
     if tag::BLOCKS <= first as u16 {
         let answer = reply::error(out, RadioError::NoSuchBlock);
-        return RadioOutcome { answer, side: s };
+        return RadioOutcome { answer, side: v };
     }
     let n = lesser(tag::BLOCKS - first as u16, more as u16 + 1);
     parts::put(out, 0, 0x00);
-    put_statuses(out, s.core.registers, s.air.session, first, n);
+    put_statuses(out, v.core.registers, v.air.session, first, n);
     let answer = reply::close(out, 1 + n as u32);
-    RadioOutcome { answer, side: s }
+    RadioOutcome { answer, side: v }
 }

@@ -28,16 +28,16 @@ mayWriteAll r session first (suc n) = mayWriteAll r session first n && mayWrite 
 -- "21, 24 Write: 24: count-1 at most 3, else 0Fh; 10h; 0Fh leaves area or memory; 12h no right or locked";
 -- the data stand at place `at` of the frame
 unfoldable pub writeOf : RadioSide → List ℕ → ℕ → ℕ → List ℕ → ℕ → CommandResult
-writeOf s m first more frame at =
-    pick (ltb 3 more) (fails TooManyBlocks s m)
-    (pick (leb blocks first) (fails NoSuchBlock s m)
-    (pick (leavesArea (s .core .registers .ends) first (first + more)) (fails WriteLeavesArea s m)
-    (pick (not (mayWriteAll (s .core .registers) (s .air .session) first (more + 1))) (fails WriteForbidden s m)
-    (commandResult (good []) s (sets m (4 * first) (bytesAt frame at (4 * (more + 1))))))))
+writeOf v m first more frame at =
+    pick (ltb 3 more) (fails TooManyBlocks v m)
+    (pick (leb blocks first) (fails NoSuchBlock v m)
+    (pick (leavesArea (v .core .registers .ends) first (first + more)) (fails WriteLeavesArea v m)
+    (pick (not (mayWriteAll (v .core .registers) (v .air .session) first (more + 1))) (fails WriteForbidden v m)
+    (commandResult (good []) v (sets m (4 * first) (bytesAt frame at (4 * (more + 1))))))))
 
 -- "22 Lock: 10h block above 1; 11h already locked": sets the block's bit of LOCK_CCFILE
 unfoldable pub lockOf : RadioSide → List ℕ → ℕ → CommandResult
-lockOf s m block =
-    pick (ltb 1 block) (fails NotLockable s m)
-    (pick (isLocked (s .core .registers .ccfile) block) (fails AlreadyLocked s m)
-    (commandResult (good []) (sideRegisters (writtenTo Ccfile (keepBits lockCcFileBits (s .core .registers .ccfile .bits) + (block + 1)) (s .core .registers)) s) m))
+lockOf v m block =
+    pick (ltb 1 block) (fails NotLockable v m)
+    (pick (isLocked (v .core .registers .ccfile) block) (fails AlreadyLocked v m)
+    (commandResult (good []) (sideRegisters (writtenTo Ccfile (keepBits lockCcFileBits (v .core .registers .ccfile .bits) + (block + 1)) (v .core .registers)) v) m))

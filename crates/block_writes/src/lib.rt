@@ -28,7 +28,7 @@ fn may_write_all(r: Registers, session: u8, first: u8, n: u16) -> bool
 
 // 21 and 24, more being one less than the count; the data stand at a place of the frame.
 pub fn write(
-    s: RadioSide,
+    v: RadioSide,
     m: &mut [u8],
     out: &mut [u8],
     first: u8,
@@ -36,46 +36,46 @@ pub fn write(
     frame: &[u8],
     at: usize,
 ) -> RadioOutcome
-    ensures { λ r. ⌜ radioResult r (now (m .exit)) (now (out .exit)) ≡ finish (writeOf s (now (m .entry)) first more (now (frame .entry)) at) (now (out .entry)) ⌝ }
+    ensures { λ r. ⌜ radioResult r (now (m .exit)) (now (out .exit)) ≡ finish (writeOf v (now (m .entry)) first more (now (frame .entry)) at) (now (out .entry)) ⌝ }
 {
-    let r = s.core.registers;
+    let r = v.core.registers;
     let last = first as u16 + more as u16;
     if 3 < more {
         let answer = reply::error(out, RadioError::TooManyBlocks);
-        return RadioOutcome { answer, side: s };
+        return RadioOutcome { answer, side: v };
     }
     if tag::BLOCKS <= first as u16 {
         let answer = reply::error(out, RadioError::NoSuchBlock);
-        return RadioOutcome { answer, side: s };
+        return RadioOutcome { answer, side: v };
     }
     if blocks::leaves_area(r.ends, first as u16, last) {
         let answer = reply::error(out, RadioError::WriteLeavesArea);
-        return RadioOutcome { answer, side: s };
+        return RadioOutcome { answer, side: v };
     }
-    if !may_write_all(r, s.air.session, first, more as u16 + 1) {
+    if !may_write_all(r, v.air.session, first, more as u16 + 1) {
         let answer = reply::error(out, RadioError::WriteForbidden);
-        return RadioOutcome { answer, side: s };
+        return RadioOutcome { answer, side: v };
     }
     parts::put_bytes(m, 4 * (first as usize), frame, at, 4 * (more as usize + 1));
     let answer = reply::done(out);
-    RadioOutcome { answer, side: s }
+    RadioOutcome { answer, side: v }
 }
 
 // 22.
-pub fn lock(s: RadioSide, m: &[u8], out: &mut [u8], block: u8) -> RadioOutcome
-    ensures { λ r. ⌜ radioResult r (now (m .entry)) (now (out .exit)) ≡ finish (lockOf s (now (m .entry)) block) (now (out .entry)) ⌝ }
+pub fn lock(v: RadioSide, m: &[u8], out: &mut [u8], block: u8) -> RadioOutcome
+    ensures { λ r. ⌜ radioResult r (now (m .entry)) (now (out .exit)) ≡ finish (lockOf v (now (m .entry)) block) (now (out .entry)) ⌝ }
 {
-    let r = s.core.registers;
+    let r = v.core.registers;
     if 1 < block {
         let answer = reply::error(out, RadioError::NotLockable);
-        return RadioOutcome { answer, side: s };
+        return RadioOutcome { answer, side: v };
     }
     if rights::is_locked(r.ccfile, block as u16) {
         let answer = reply::error(out, RadioError::AlreadyLocked);
-        return RadioOutcome { answer, side: s };
+        return RadioOutcome { answer, side: v };
     }
     let bits = LockCcFile::keep(r.ccfile.bits) + (block + 1);
-    let next = s.with_registers(r.write_to(Register::Ccfile, bits));
+    let next = v.with_registers(r.write_to(Register::Ccfile, bits));
     let answer = reply::done(out);
     RadioOutcome { answer, side: next }
 }

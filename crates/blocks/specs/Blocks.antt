@@ -27,8 +27,8 @@ blocksOf r session m option first (suc n) = blocksOf r session m option first n 
 
 -- "20, 23 Read: block, or first and count-1; 10h first above 127; 0Fh leaves area or memory; 15h protected"; more is count-1
 unfoldable pub readOf : RadioSide → List ℕ → Bool → ℕ → ℕ → CommandResult
-readOf s m option first more =
-    pick (leb blocks first) (fails NoSuchBlock s m)
-    (pick (leavesArea (s .core .registers .ends) first (first + more)) (fails ReadLeavesArea s m)
-    (pick (not (mayRead (s .core .registers) (Radio (s .air .session)) first)) (fails ReadProtected s m)
-    (commandResult (good (blocksOf (s .core .registers) (s .air .session) m option first (more + 1))) s m)))
+readOf v m option first more =
+    pick (leb blocks first) (fails NoSuchBlock v m)
+    (pick (leavesArea (v .core .registers .ends) first (first + more)) (fails ReadLeavesArea v m)
+    (pick (not (mayRead (v .core .registers) (Radio (v .air .session)) first)) (fails ReadProtected v m)
+    (commandResult (good (blocksOf (v .core .registers) (v .air .session) m option first (more + 1))) v m)))

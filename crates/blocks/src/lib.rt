@@ -46,35 +46,35 @@ fn put_blocks(
 
 // 20 and 23, more being one less than the count.
 pub fn read(
-    s: RadioSide,
+    v: RadioSide,
     m: &[u8],
     out: &mut [u8],
     option: bool,
     first: u8,
     more: u8,
 ) -> RadioOutcome
-    ensures { λ r. ⌜ radioResult r (now (m .entry)) (now (out .exit)) ≡ finish (readOf s (now (m .entry)) option first more) (now (out .entry)) ⌝ }
+    ensures { λ r. ⌜ radioResult r (now (m .entry)) (now (out .exit)) ≡ finish (readOf v (now (m .entry)) option first more) (now (out .entry)) ⌝ }
 {
-    let r = s.core.registers;
-    let session = s.air.session;
+    let r = v.core.registers;
+    let session = v.air.session;
     let start = first as u16;
     let last = start + more as u16;
     let above = tag::BLOCKS <= start;
     let leaving = leaves_area(r.ends, start, last);
     if above {
         let answer = reply::error(out, RadioError::NoSuchBlock);
-        return RadioOutcome { answer, side: s };
+        return RadioOutcome { answer, side: v };
     }
     if leaving {
         let answer = reply::error(out, RadioError::ReadLeavesArea);
-        return RadioOutcome { answer, side: s };
+        return RadioOutcome { answer, side: v };
     }
     if !rights::may_read(r, Side::Radio(session), start) {
         let answer = reply::error(out, RadioError::ReadProtected);
-        return RadioOutcome { answer, side: s };
+        return RadioOutcome { answer, side: v };
     }
     parts::put(out, 0, 0x00);
     let n = put_blocks(out, r, session, m, option, first, more as u16 + 1);
     let answer = reply::close(out, n);
-    RadioOutcome { answer, side: s }
+    RadioOutcome { answer, side: v }
 }

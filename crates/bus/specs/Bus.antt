@@ -34,4 +34,4 @@ pageBytes (DataLeg space count spoiled) = count
 
 -- "raises the counter by one; after FFFFh comes 0000h (house)"
 abbrev pub nextAddress : ℕ → ℕ
-nextAddress c = (c + 1) % 65536
+nextAddress counter = (counter + 1) % 65536

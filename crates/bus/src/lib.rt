@@ -85,8 +85,8 @@ pub fn page_bytes(b: Bus) -> u16
 }
 
 // The address after an address.
-pub fn next_address(c: u16) -> u16
-    ensures { λ r. ⌜ r ≡ nextAddress c ⌝ }
+pub fn next_address(counter: u16) -> u16
+    ensures { λ r. ⌜ r ≡ nextAddress counter ⌝ }
 {
-    std::num::wrapping_add_u16(c, 1)
+    std::num::wrapping_add_u16(counter, 1)
 }

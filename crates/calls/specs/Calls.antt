@@ -21,11 +21,11 @@ pub record CallAnswer : Type 0 where
   pub buffer : List ℕ
 
 abbrev pub callAnswer : Answer → List ℕ → CallAnswer
-callAnswer a o = record { answer = a; buffer = o }
+callAnswer answer o = record { answer = answer; buffer = o }
 
 -- to a frame: a reply stands in the buffer that was handed in
 abbrev pub callReply : ReplyBody → List ℕ → CallAnswer
-callReply r o = callAnswer (fromRadio (answerOf r)) (bufferOf r o)
+callReply reply o = callAnswer (fromRadio (answerOf reply)) (bufferOf reply o)
 
 -- a tag and its memory
 pub record Device : Type 0 where
@@ -41,22 +41,22 @@ pub record DeviceResult : Type 0 where
   pub device : Device
 
 abbrev pub deviceResult : CallAnswer → Device → DeviceResult
-deviceResult a d = record { says = a; device = d }
+deviceResult answer d = record { says = answer; device = d }
 
 abbrev pub Step : Type 0
 Step = Device → Call → DeviceResult
 
 -- the entry point, as the contract of its code has it
 abbrev pub deviceResultOf : StepResult → DeviceResult
-deviceResultOf e = deviceResult (callAnswer (e .answer) (e .reply)) (device (e .tag) (e .memory))
+deviceResultOf result = deviceResult (callAnswer (result .answer) (result .reply)) (device (result .tag) (result .memory))
 
 unfoldable pub entry : Device → Call → DeviceResult
-entry d c = deviceResultOf (stepOf (d .tag) (d .memory) (c .buffer) (c .code) (c .value) (c .frame))
+entry d call = deviceResultOf (stepOf (d .tag) (d .memory) (call .buffer) (call .code) (call .value) (call .frame))
 
 -- each number fits its type: a frame's bytes are bytes; no other number needs it
 unfoldable pub framesFit : List Call → Bool
 framesFit [] = true
-framesFit (c ∷ cs) = areBytes (c .frame) && framesFit cs
+framesFit (call ∷ calls) = areBytes (call .frame) && framesFit calls
 
 -- the answers to a list of calls, in their order, and what is left at its end
 pub record RunResult : Type 0 where
@@ -64,11 +64,11 @@ pub record RunResult : Type 0 where
   pub device : Device
 
 abbrev pub runResult : List CallAnswer → Device → RunResult
-runResult a d = record { answers = a; device = d }
+runResult answers d = record { answers = answers; device = d }
 
 unfoldable pub runBy : Step → Device → List Call → RunResult
 runBy step d [] = runResult [] d
-runBy step d (c ∷ cs) =
-    let e = step d c in
-    let r = runBy step (e .device) cs in
-    runResult (e .says ∷ r .answers) (r .device)
+runBy step d (call ∷ calls) =
+    let result = step d call in
+    let rest = runBy step (result .device) calls in
+    runResult (result .says ∷ rest .answers) (rest .device)

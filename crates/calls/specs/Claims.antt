@@ -6,10 +6,10 @@ use Rattle.calls.specs.Calls.{Call, Device, Step, entry, runResult, runB
 
 -- the entry point's result has all that its contract gives: the answer, the tag and both lent buffers
 abbrev pub EntryTells : Type 0
-EntryTells = (d : Device) (c : Call) → let e = entry d c in
-    stepResult (e .says .answer) (e .device .tag) (e .device .memory) (e .says .buffer) ≡ stepOf (d .tag) (d .memory) (c .buffer) (c .code) (c .value) (c .frame)
+EntryTells = (d : Device) (call : Call) → let result = entry d call in
+    stepResult (result .says .answer) (result .device .tag) (result .device .memory) (result .says .buffer) ≡ stepOf (d .tag) (d .memory) (call .buffer) (call .code) (call .value) (call .frame)
 
 -- each call gets the tag and memory that the last one left
 abbrev pub RunsOn : Type 0
-RunsOn = (step : Step) (d : Device) (cs : List Call) (c : Call) → let r = runBy step d cs in let e = step (r .device) c in
-    runBy step d (cs ++ c ∷ []) ≡ runResult (r .answers ++ e .says ∷ []) (e .device)
+RunsOn = (step : Step) (d : Device) (calls : List Call) (call : Call) → let rest = runBy step d calls in let result = step (rest .device) call in
+    runBy step d (calls ++ call ∷ []) ≡ runResult (rest .answers ++ result .says ∷ []) (result .device)

@@ -28,7 +28,7 @@ zeros n = replicate n 0
 
 -- ---- calls, by the codes of model/specs/Signals, each with a reply buffer of 643 zeros
 abbrev pub callOf : ℕ → ℕ → List ℕ → Call
-callOf code value s = record { buffer = zeros replyBytes; code = code; value = value; frame = s }
+callOf code value f = record { buffer = zeros replyBytes; code = code; value = value; frame = f }
 
 -- VCC and the field, 0 or 1
 abbrev pub vccTo : ℕ → Call
@@ -63,7 +63,7 @@ programmingEnd = callOf 7 0 []
 
 -- a frame, with its CRC
 abbrev pub frame : List ℕ → Call
-frame s = callOf 8 0 (closed s)
+frame f = callOf 8 0 (closed f)
 
 -- ---- tags, written down from 01's words
 -- the bench's UID
@@ -85,16 +85,16 @@ abbrev pub _but_ : Device → (Device → Device) → Device
 _but_ d f = f d
 
 abbrev pub onAir : (Air → Air) → Device → Device
-onAir f d = device (withTagAir (f (d .tag .air)) (d .tag)) (d .memory)
+onAir change d = device (withTagAir (change (d .tag .air)) (d .tag)) (d .memory)
 
 abbrev pub onHost : (Host → Host) → Device → Device
-onHost f d = device (withTagHost (f (d .tag .host)) (d .tag)) (d .memory)
+onHost change d = device (withTagHost (change (d .tag .host)) (d .tag)) (d .memory)
 
 abbrev pub onCore : (Core → Core) → Device → Device
-onCore f d = device (withTagCore (f (d .tag .core)) (d .tag)) (d .memory)
+onCore change d = device (withTagCore (change (d .tag .core)) (d .tag)) (d .memory)
 
 abbrev pub onRegisters : (Registers → Registers) → Device → Device
-onRegisters f d = onCore (λ (c : Core). withRegisters (f (c .registers)) c) d
+onRegisters change d = onCore (λ (c : Core). withRegisters (change (c .registers)) c) d
 
 -- ---- the radio side
 abbrev pub fieldIs : Bool → Device → Device
@@ -126,11 +126,11 @@ onBus b d = onHost (withBus b) d
 -- ---- registers
 -- ENDA1 to ENDA3
 abbrev pub areaEnds : ℕ → ℕ → ℕ → Device → Device
-areaEnds a b c d = onRegisters (withEnds (record { end1 = endA a; end2 = endA b; end3 = endA c })) d
+areaEnds end1 end2 end3 d = onRegisters (withEnds (record { end1 = endA end1; end2 = endA end2; end3 = endA end3 })) d
 
 -- RFA1SS to RFA4SS
 abbrev pub areaRights : ℕ → ℕ → ℕ → ℕ → Device → Device
-areaRights a b c e d = onRegisters (withSecurity (record { area1 = rfaSs a; area2 = rfaSs b; area3 = rfaSs c; area4 = rfaSs e })) d
+areaRights area1 area2 area3 area4 d = onRegisters (withSecurity (record { area1 = rfaSs area1; area2 = rfaSs area2; area3 = rfaSs area3; area4 = rfaSs area4 })) d
 
 abbrev pub mailboxMode : ℕ → Device → Device
 mailboxMode n d = onRegisters (withMode (mbMode n)) d

@@ -11,14 +11,14 @@ use Rattle.next_state.specs.After.{stateAfter}
 
 -- a number below 0x100 is a refusal: every byte of every lent buffer is as before
 abbrev pub RefusedStepKeeps : Type 0
-RefusedStepKeeps = (s m o : List ℕ) (code value : ℕ) (f : List ℕ) → let c = stepCall s m o code value f in
-    c .number < 0x100 → c ≡ callResult (c .number) s m o
+RefusedStepKeeps = (s m o : List ℕ) (code value : ℕ) (f : List ℕ) → let result = stepCall s m o code value f in
+    result .number < 0x100 → result ≡ callResult (result .number) s m o
 
 abbrev pub RefusedFreshKeeps : Type 0
-RefusedFreshKeeps = (u m s : List ℕ) → let c = freshCall u m s in
-    c .number < 0x100 → c ≡ freshCallResult (c .number) s m
+RefusedFreshKeeps = (uid m s : List ℕ) → let result = freshCall uid m s in
+    result .number < 0x100 → result ≡ freshCallResult (result .number) s m
 
 -- a call over a tag's bytes is the model's call of that tag
 abbrev pub StepsTheTag : Type 0
 StepsTheTag = (t : Tag) (m o : List ℕ) (code value : ℕ) (f : List ℕ) → Fits t → stepCall (bytesOf t) m o code value f
-    ≡ (let e = stepOf t m o code value f in callResult (answerNumber (e .answer)) (stateAfter (bytesOf t) (e .answer) (e .tag)) (e .memory) (e .reply))
+    ≡ (let result = stepOf t m o code value f in callResult (answerNumber (result .answer)) (stateAfter (bytesOf t) (result .answer) (result .tag)) (result .memory) (result .reply))

@@ -14,7 +14,7 @@ use Rattle.library_refusals.specs.Rules.{stepRules, freshCallRules}
 -- ---- the numbers
 -- of an answer; the n bytes of a reply include its CRC
 unfoldable pub answerNumber : Answer → ℕ
-answerNumber (Refused r) = number r
+answerNumber (Refused refusal) = number refusal
 answerNumber Nothing = 0x100
 answerNumber Ack = 0x101
 answerNumber NoAck = 0x102
@@ -36,9 +36,9 @@ callResult n s m o = record { number = n; state = s; memory = m; reply = o }
 -- the model's step of the tag; f is the frame. After a refusal every lent byte is as before.
 unfoldable pub stepCall : List ℕ → List ℕ → List ℕ → ℕ → ℕ → List ℕ → CallResult
 stepCall s m o code value f =
-    unlessRefused (judgement (stepRules s m o code value)) (λ (r : Refusal). callResult (number r) s m o)
-    (let e = stepOf (tagOf s) m o code value f in
-    callResult (answerNumber (e .answer)) (stateAfter s (e .answer) (e .tag)) (e .memory) (e .reply))
+    unlessRefused (judgement (stepRules s m o code value)) (λ (refusal : Refusal). callResult (number refusal) s m o)
+    (let result = stepOf (tagOf s) m o code value f in
+    callResult (answerNumber (result .answer)) (stateAfter s (result .answer) (result .tag)) (result .memory) (result .reply))
 
 -- ---- the fresh tag
 pub record FreshCallResult : Type 0 where
@@ -50,7 +50,7 @@ abbrev pub freshCallResult : ℕ → List ℕ → List ℕ → FreshCallResult
 freshCallResult n s m = record { number = n; state = s; memory = m }
 
 unfoldable pub freshCall : List ℕ → List ℕ → List ℕ → FreshCallResult
-freshCall u m s =
-    unlessRefused (judgement (freshCallRules u m s)) (λ (r : Refusal). freshCallResult (number r) s m)
-    (let e = freshOf (uidAt u 0) m in
-    freshCallResult (answerNumber (e .answer)) (stateAfter s (e .answer) (e .tag)) (e .memory))
+freshCall uid m s =
+    unlessRefused (judgement (freshCallRules uid m s)) (λ (refusal : Refusal). freshCallResult (number refusal) s m)
+    (let result = freshOf (uidAt uid 0) m in
+    freshCallResult (answerNumber (result .answer)) (stateAfter s (result .answer) (result .tag)) (result .memory))

@@ -9,11 +9,11 @@ use model::Answer;
 use refusals::Judgement;
 
 // ---- the answers
-fn answer_number(a: Answer) -> u32
-    requires { ⌜ replyFits a ≡ true ⌝ }
-    ensures { λ r. ⌜ r ≡ answerNumber a ⌝ }
+fn answer_number(answer: Answer) -> u32
+    requires { ⌜ replyFits answer ≡ true ⌝ }
+    ensures { λ r. ⌜ r ≡ answerNumber answer ⌝ }
 {
-    match a {
+    match answer {
         Answer::Refused(r) => r.number() as u32,
         Answer::Nothing => 0x100,
         Answer::Ack => 0x101,

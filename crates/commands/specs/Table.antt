@@ -59,15 +59,15 @@ commandTable =
 
 -- what a code stands for
 unfoldable pub commandOf : ℕ → CommandCode
-commandOf code = firstSays (λ r. eqb code (r .code)) (λ r. Known (r .row)) Unknown commandTable
+commandOf code = firstSays (λ coded. eqb code (coded .code)) (λ coded. Known (coded .row)) Unknown commandTable
 
 unfoldable pub isKnown : CommandCode → Bool
 isKnown Unknown = false
-isKnown (Known r) = true
+isKnown (Known row) = true
 
 unfoldable pub takesOption : CommandCode → Bool
 takesOption Unknown = false
-takesOption (Known r) = r .option
+takesOption (Known row) = row .option
 
 -- how many bytes of parameters; first and second are the frame's own first two, for
 -- first, count-1 and four bytes a block, and for length-1 and data
@@ -78,4 +78,4 @@ sizeOf MessageData first second = 1 + (first + 1)
 
 unfoldable pub paramBytes : CommandCode → ℕ → ℕ → ℕ
 paramBytes Unknown first second = 0
-paramBytes (Known r) first second = sizeOf (r .size) first second
+paramBytes (Known row) first second = sizeOf (row .size) first second

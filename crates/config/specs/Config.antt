@@ -21,26 +21,26 @@ use Rattle.reply.specs.Outcome.{CommandResult, commandResult, fails, withRadioC
 
 -- "A0 Config": the register's byte
 unfoldable pub readConfigOf : RadioSide → List ℕ → ℕ → CommandResult
-readConfigOf s m p =
-    pick (not (isPointer p)) (fails NoSuchRegister s m)
-    (commandResult (good (registerAt (s .core .registers) p ∷ [])) s m)
+readConfigOf v m pointer =
+    pick (not (isPointer pointer)) (fails NoSuchRegister v m)
+    (commandResult (good (registerAt (v .core .registers) pointer ∷ [])) v m)
 
 -- a register written: MB_MODE with bit 0 clear also disables the mailbox (000, MB_CTRL_Dyn: MB_EN falls when MB_MODE is written 0)
 abbrev pub mailboxByRule : WriteRule → ℕ → Mailbox → Mailbox
-mailboxByRule Plain x m = m
-mailboxByRule (AreaEnd i) x m = m
-mailboxByRule MailboxMode x m = pick (isSet 1 x) m (disabled m)
+mailboxByRule Plain x mailbox = mailbox
+mailboxByRule (AreaEnd i) x mailbox = mailbox
+mailboxByRule MailboxMode x mailbox = pick (isSet 1 x) mailbox (disabled mailbox)
 
 unfoldable pub mailboxAfterWrite : ℕ → ℕ → Mailbox → Mailbox
-mailboxAfterWrite p x m = mailboxByRule (rowOf p .rule) x m
+mailboxAfterWrite pointer x mailbox = mailboxByRule (rowOf pointer .rule) x mailbox
 
 unfoldable pub writtenCore : Core → ℕ → ℕ → Core
-writtenCore c p x = withMailbox (mailboxAfterWrite p x (c .mailbox)) (withRegisters (written (c .registers) p x) c)
+writtenCore c pointer x = withMailbox (mailboxAfterWrite pointer x (c .mailbox)) (withRegisters (written (c .registers) pointer x) c)
 
 -- "A1: 12h if LOCK_CFG or password 0 session closed; 0Fh ENDA"
 unfoldable pub writeConfigOf : RadioSide → List ℕ → ℕ → ℕ → CommandResult
-writeConfigOf s m p x =
-    pick (not (isPointer p)) (fails NoSuchRegister s m)
-    (pick (isSet 1 (s .core .registers .config .bits) || not (eqb (s .air .session) 1)) (fails ConfigurationClosed s m)
-    (pick (not (endAllows (s .core .registers .ends) p x)) (fails EndRefused s m)
-    (commandResult (good []) (withRadioCore (writtenCore (s .core) p x) s) m)))
+writeConfigOf v m pointer x =
+    pick (not (isPointer pointer)) (fails NoSuchRegister v m)
+    (pick (isSet 1 (v .core .registers .config .bits) || not (eqb (v .air .session) 1)) (fails ConfigurationClosed v m)
+    (pick (not (endAllows (v .core .registers .ends) pointer x)) (fails EndRefused v m)
+    (commandResult (good []) (withRadioCore (writtenCore (v .core) pointer x) v) m)))

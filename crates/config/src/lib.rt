@@ -10,45 +10,45 @@ use reply::RadioSide;
 use tag::Core;
 
 // A0.
-pub fn read(s: RadioSide, m: &[u8], out: &mut [u8], p: u8) -> RadioOutcome
-    ensures { λ r. ⌜ radioResult r (now (m .entry)) (now (out .exit)) ≡ finish (readConfigOf s (now (m .entry)) p) (now (out .entry)) ⌝ }
+pub fn read(v: RadioSide, m: &[u8], out: &mut [u8], pointer: u8) -> RadioOutcome
+    ensures { λ r. ⌜ radioResult r (now (m .entry)) (now (out .exit)) ≡ finish (readConfigOf v (now (m .entry)) pointer) (now (out .entry)) ⌝ }
 {
-    let row = register_table::row_of(p as u32);
+    let row = register_table::row_of(pointer as u32);
     if !row.radio {
         return RadioOutcome {
             answer: reply::error(out, RadioError::NoSuchRegister),
-            side: s,
+            side: v,
         };
     }
-    let x = s.core.registers.read(p as u16);
+    let x = v.core.registers.read(pointer as u16);
     RadioOutcome {
         answer: reply::byte(out, x),
-        side: s,
+        side: v,
     }
 }
 
-fn mailbox_after(p: u8, x: u8, m: Mailbox) -> Mailbox
-    ensures { λ r. ⌜ r ≡ mailboxAfterWrite p x m ⌝ }
+fn mailbox_after(pointer: u8, x: u8, mailbox: Mailbox) -> Mailbox
+    ensures { λ r. ⌜ r ≡ mailboxAfterWrite pointer x mailbox ⌝ }
 {
-    let row = register_table::row_of(p as u32);
+    let row = register_table::row_of(pointer as u32);
     let rule = row.rule;
     match rule {
-        WriteRule::Plain => m,
-        WriteRule::AreaEnd(_) => m,
+        WriteRule::Plain => mailbox,
+        WriteRule::AreaEnd(_) => mailbox,
         WriteRule::MailboxMode => {
             if x / 1 % 2 == 1 {
-                return m;
+                return mailbox;
             }
-            m.disable()
+            mailbox.disable()
         }
     }
 }
 
-fn written_core(c: Core, p: u8, x: u8) -> Core
-    ensures { λ r. ⌜ r ≡ writtenCore c p x ⌝ }
+fn written_core(c: Core, pointer: u8, x: u8) -> Core
+    ensures { λ r. ⌜ r ≡ writtenCore c pointer x ⌝ }
 {
-    let registers = c.registers.write(p as u16, x);
-    let mailbox = mailbox_after(p, x, c.mailbox);
+    let registers = c.registers.write(pointer as u16, x);
+    let mailbox = mailbox_after(pointer, x, c.mailbox);
     let mut n = c;
     n.registers = registers;
     n.mailbox = mailbox;
@@ -56,31 +56,31 @@ fn written_core(c: Core, p: u8, x: u8) -> Core
 }
 
 // A1.
-pub fn write(s: RadioSide, m: &[u8], out: &mut [u8], p: u8, x: u8) -> RadioOutcome
-    ensures { λ r. ⌜ radioResult r (now (m .entry)) (now (out .exit)) ≡ finish (writeConfigOf s (now (m .entry)) p x) (now (out .entry)) ⌝ }
+pub fn write(v: RadioSide, m: &[u8], out: &mut [u8], pointer: u8, x: u8) -> RadioOutcome
+    ensures { λ r. ⌜ radioResult r (now (m .entry)) (now (out .exit)) ≡ finish (writeConfigOf v (now (m .entry)) pointer x) (now (out .entry)) ⌝ }
 {
-    let r = s.core.registers;
-    let row = register_table::row_of(p as u32);
+    let r = v.core.registers;
+    let row = register_table::row_of(pointer as u32);
     if !row.radio {
         return RadioOutcome {
             answer: reply::error(out, RadioError::NoSuchRegister),
-            side: s,
+            side: v,
         };
     }
-    if (r.config.bits / 1 % 2 == 1) | (s.air.session != 1) {
+    if (r.config.bits / 1 % 2 == 1) | (v.air.session != 1) {
         return RadioOutcome {
             answer: reply::error(out, RadioError::ConfigurationClosed),
-            side: s,
+            side: v,
         };
     }
-    if !areas::end_allows(r.ends, p as u32, x) {
+    if !areas::end_allows(r.ends, pointer as u32, x) {
         return RadioOutcome {
             answer: reply::error(out, RadioError::EndRefused),
-            side: s,
+            side: v,
         };
     }
-    let core = written_core(s.core, p, x);
-    let mut next = s;
+    let core = written_core(v.core, pointer, x);
+    let mut next = v;
     next.core = core;
     RadioOutcome {
         answer: reply::done(out),

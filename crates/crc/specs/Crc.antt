@@ -11,27 +11,27 @@ use Rattle.parts.specs.Pick.{pick}
 
 -- "8408h": the register is shifted down by one bit, and takes the polynomial where the bit shifted out is 1
 unfoldable pub shifted : ℕ → ℕ → ℕ
-shifted zero h = h
-shifted (suc o) h = bitXor h 0x8408
+shifted zero n = n
+shifted (suc o) n = bitXor n 0x8408
 
 unfoldable pub bit : ℕ → ℕ
-bit c = shifted (c % 2) (c / 2)
+bit register = shifted (register % 2) (register / 2)
 
 unfoldable pub bits : ℕ → ℕ → ℕ
-bits zero c = c
-bits (suc n) c = bits n (bit c)
+bits zero register = register
+bits (suc n) register = bits n (bit register)
 
 -- "a sixteen-entry table": entry k is the register k after four bits
 abbrev pub remainders : List ℕ → Type 0
-remainders t = (k : ℕ) → k < 16 → getD t k 0 ≡ bits 4 k
+remainders table = (k : ℕ) → k < 16 → getD table k 0 ≡ bits 4 k
 
 -- the register after a byte, and after a list of bytes
 unfoldable pub byte : ℕ → ℕ → ℕ
-byte c b = bits 8 (bitXor c b)
+byte register x = bits 8 (bitXor register x)
 
 unfoldable pub run : ℕ → List ℕ → ℕ
-run c [] = c
-run c (b ∷ s) = run (byte c b) s
+run register [] = register
+run register (x ∷ s) = run (byte register x) s
 
 -- "start FFFFh, complemented"
 unfoldable pub crcOf : List ℕ → ℕ

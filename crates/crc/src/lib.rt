@@ -24,24 +24,24 @@ const NIBBLES: [u16; 16] = [
 
 // The register after a byte, whose low four bits go first. An entry's low four bits are its place: so the second
 // entry is known without waiting for the first.
-fn feed(t: &[u16; 16], c: u16, b: u8) -> u16
-    requires { ⌜ remainders (now t) ⌝ }
-    ensures { λ r. ⌜ r ≡ byte c b ⌝ }
+fn feed(table: &[u16; 16], register: u16, x: u8) -> u16
+    requires { ⌜ remainders (now table) ⌝ }
+    ensures { λ r. ⌜ r ≡ byte register x ⌝ }
 {
-    let v = c ^ (b as u16);
-    let low = t[(v % 16) as usize];
-    let high = t[(((v >> 4) ^ v) % 16) as usize];
+    let v = register ^ (x as u16);
+    let low = table[(v % 16) as usize];
+    let high = table[(((v >> 4) ^ v) % 16) as usize];
     (v >> 8) ^ (low >> 4) ^ high
 }
 
-fn over(t: &[u16; 16], s: &[u8]) -> u16
-    requires { ⌜ remainders (now t) ⌝ }
+fn over(table: &[u16; 16], s: &[u8]) -> u16
+    requires { ⌜ remainders (now table) ⌝ }
     ensures { λ r. ⌜ r ≡ crcOf (now (s .entry)) ⌝ }
 {
     let mut c: u16 = 0xffff;
     let mut i = 0;
     while i < s.len() {
-        c = feed(t, c, s[i]);
+        c = feed(table, c, s[i]);
         i += 1;
     }
     c ^ 0xffff

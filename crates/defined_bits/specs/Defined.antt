@@ -9,14 +9,14 @@ use Rattle.register_table.specs.Table.{RegisterEntry, registerTable}
 use Rattle.registers.specs.declared.Registers.{Registers}
 use Rattle.registers.specs.Map.{byteOf}
 
--- "undefined register bits 0": none of b's bits is set but the n lowest
+-- "undefined register bits 0": none of x's bits is set but the n lowest
 abbrev pub onlyBits : ℕ → ℕ → Bool
-onlyBits n b = eqb (keepBits n b) b
+onlyBits n x = eqb (keepBits n x) x
 
 -- "undefined register bits 0", of the registers of a table
 unfoldable pub definedIn : List RegisterEntry → Registers → Bool
 definedIn [] r = true
-definedIn (e ∷ es) r = onlyBits (e .definedBits) (byteOf (e .row .register) r) && definedIn es r
+definedIn (entry ∷ entries) r = onlyBits (entry .definedBits) (byteOf (entry .row .register) r) && definedIn entries r
 
 -- of all registers and of RF_MNGT_Dyn
 unfoldable pub definedOnly : Registers → Bool

@@ -30,22 +30,22 @@ pub record WireCall : Type 0 where
 
 -- its call, by the codes of model/specs/Signals
 abbrev pub call : WireCall → ℕ → ℕ → Call
-call w code value = record { buffer = w .buffer; code = code; value = value; frame = w .frame }
+call wireCall code value = record { buffer = wireCall .buffer; code = code; value = value; frame = wireCall .frame }
 
 unfoldable pub callBy : Noted → WireCall → Call
-callBy NotedStart w = call w 3 0
-callBy (NotedSend x) w = call w 4 x
-callBy (NotedFetch ack) w = call w 5 (pick ack 1 0)
-callBy NotedStop w = call w 6 0
-callBy NotedVccOff w = call w 1 0
+callBy NotedStart wireCall = call wireCall 3 0
+callBy (NotedSend x) wireCall = call wireCall 4 x
+callBy (NotedFetch ack) wireCall = call wireCall 5 (pick ack 1 0)
+callBy NotedStop wireCall = call wireCall 6 0
+callBy NotedVccOff wireCall = call wireCall 1 0
 
 unfoldable pub wireCalls : List WireCall → List Call
 wireCalls [] = []
-wireCalls (w ∷ ws) = callBy (w .signal) w ∷ wireCalls ws
+wireCalls (wireCall ∷ handed) = callBy (wireCall .signal) wireCall ∷ wireCalls handed
 
 unfoldable pub signals : List WireCall → List Noted
 signals [] = []
-signals (w ∷ ws) = w .signal ∷ signals ws
+signals (wireCall ∷ handed) = wireCall .signal ∷ signals handed
 
 -- a byte sent is a byte
 unfoldable pub sendsByte : Noted → Bool
@@ -58,30 +58,30 @@ sendsByte NotedVccOff = true
 -- each reply buffer has at least 643 bytes, each byte sent is a byte
 unfoldable pub allServed : List WireCall → Bool
 allServed [] = true
-allServed (w ∷ ws) = leb replyBytes (length (w .buffer)) && sendsByte (w .signal) && allServed ws
+allServed (wireCall ∷ handed) = leb replyBytes (length (wireCall .buffer)) && sendsByte (wireCall .signal) && allServed handed
 
 -- each answer with its call's reply buffer, which stays
 unfoldable pub answersOf : List WireAnswer → List WireCall → List CallAnswer
-answersOf [] ws = []
-answersOf (a ∷ s) [] = []
-answersOf (a ∷ s) (w ∷ ws) = callAnswer (fromWire a) (w .buffer) ∷ answersOf s ws
+answersOf [] handed = []
+answersOf (answer ∷ answers) [] = []
+answersOf (answer ∷ answers) (wireCall ∷ handed) = callAnswer (fromWire answer) (wireCall .buffer) ∷ answersOf answers handed
 
 abbrev pub TransferServed : Type 0
-TransferServed = (d : Device) (ws : List WireCall)
+TransferServed = (d : Device) (handed : List WireCall)
     → tagInRange (d .tag) (d .memory) ≡ true → length (d .memory) ≡ memoryBytes
     -- the bus is started and no transfer open, and a select would be Acked
     → d .tag .host .bus ≡ Started false → d .tag .host .vcc ≡ true → d .tag .host .programming ≡ false
-    → finished true (signals ws) ≡ true → allServed ws ≡ true
-    → runBy entry d (wireCalls ws)
-    ≡ (let r = transferOf (wireSide (d .tag)) (d .tag .uid) (d .memory) (signals ws) in
-    runResult (answersOf (r .answers) ws) (device (withWire (r .side) (d .tag)) (r .memory)))
+    → finished true (signals handed) ≡ true → allServed handed ≡ true
+    → runBy entry d (wireCalls handed)
+    ≡ (let result = transferOf (wireSide (d .tag)) (d .tag .uid) (d .memory) (signals handed) in
+    runResult (answersOf (result .answers) handed) (device (withWire (result .side) (d .tag)) (result .memory)))
 
 -- ---- till direction: a frame's call is the judge and the table of commands
 abbrev pub FrameServed : Type 0
-FrameServed = (t : Tag) (m o s : List ℕ) → Fit t m → replyBytes ≤ length o
-    → stepOf t m o 8 0 s
-    ≡ (let r = radioOf (radioSide t) (t .uid) (t .host .vcc) (transferOpen t) (t .host .programming) m s in
-    stepResult (fromRadio (answerOf (r .reply))) (withRadio (r .side) t) (r .memory) (bufferOf (r .reply) o))
+FrameServed = (t : Tag) (m o f : List ℕ) → Fit t m → replyBytes ≤ length o
+    → stepOf t m o 8 0 f
+    ≡ (let result = radioOf (radioSide t) (t .uid) (t .host .vcc) (transferOpen t) (t .host .programming) m f in
+    stepResult (fromRadio (answerOf (result .reply))) (withRadio (result .side) t) (result .memory) (bufferOf (result .reply) o))
 
 -- ---- both
 abbrev pub Demand2 : Type 0

@@ -41,49 +41,49 @@ refusedByState (ReplyOf k) = false
 -- an answer of the list is refusal 1 or 4
 unfoldable pub stateRefused : List CallAnswer → Bool
 stateRefused [] = false
-stateRefused (a ∷ s) = refusedByState (a .answer) || stateRefused s
+stateRefused (answer ∷ answers) = refusedByState (answer .answer) || stateRefused answers
 
 -- ---- the unrefused frames that came inside a transfer are struck out
 unfoldable pub isFrame : Signal → Bool
-isFrame (Wire x) = false
+isFrame (Wire signal) = false
 isFrame (Field on) = false
 isFrame Frame = true
 
 unfoldable pub struck : Step → Device → Call → Bool
-struck step d c = transferOpen (d .tag) && isFrame (signalBy (c .code) (c .value)) && not (isRefused (step d c .says .answer))
+struck step d call = transferOpen (d .tag) && isFrame (signalBy (call .code) (call .value)) && not (isRefused (step d call .says .answer))
 
 -- the calls that are left
 unfoldable pub others : Step → Device → List Call → List Call
 others step d [] = []
-others step d (c ∷ cs) =
-    let rest = others step (step d c .device) cs in
-    pick (struck step d c) rest (c ∷ rest)
+others step d (call ∷ calls) =
+    let rest = others step (step d call .device) calls in
+    pick (struck step d call) rest (call ∷ rest)
 
 -- the answers that those had
 unfoldable pub otherAnswers : Step → Device → List Call → List CallAnswer
 otherAnswers step d [] = []
-otherAnswers step d (c ∷ cs) =
-    let rest = otherAnswers step (step d c .device) cs in
-    pick (struck step d c) rest (step d c .says ∷ rest)
+otherAnswers step d (call ∷ calls) =
+    let rest = otherAnswers step (step d call .device) calls in
+    pick (struck step d call) rest (step d call .says ∷ rest)
 
 -- ---- a struck frame's reply: silence or 0Fh, as 01 fixes from the frame, the tag at the transfer's start,
 -- and the field and radio state when it came
 abbrev pub shutReply : Tag → Air → List ℕ → ReplyBody
-shutReply start air s =
-    pick (isSilent s air (start .uid) (start .core .registers .dynamic) || isMute s (start .uid)) nothing
+shutReply start air f =
+    pick (isSilent f air (start .uid) (start .core .registers .dynamic) || isMute f (start .uid)) nothing
     (fault ShutOut)
 
 -- a struck frame changed nothing
 abbrev pub Unchanged : Step → Tag → Device → Call → Type 0
-Unchanged step start d c = step d c .device ≡ d
+Unchanged step start d call = step d call .device ≡ d
 
 -- and its reply is that
 abbrev pub RepliesShut : Step → Tag → Device → Call → Type 0
-RepliesShut step start d c = step d c .says ≡ callReply (shutReply start (d .tag .air) (c .frame)) (c .buffer)
+RepliesShut step start d call = step d call .says ≡ callReply (shutReply start (d .tag .air) (call .frame)) (call .buffer)
 
-pub record Shut (step : Step) (start : Tag) (d : Device) (c : Call) : Type 0 where
-  pub unchanged : Unchanged step start d c
-  pub reply : RepliesShut step start d c
+pub record Shut (step : Step) (start : Tag) (d : Device) (call : Call) : Type 0 where
+  pub unchanged : Unchanged step start d call
+  pub reply : RepliesShut step start d call
 
 -- the tag at the start of the transfer that is open; with none open, the tag itself
 abbrev pub startAfter : Tag → Tag → Tag
@@ -92,52 +92,52 @@ startAfter start t = pick (transferOpen t) start t
 -- every struck frame of a list has P; `start` is the tag at the start of the transfer that is open
 unfoldable pub EachStruck : Step → (Tag → Device → Call → Type 0) → Tag → Device → List Call → Type 0
 EachStruck step P start d [] = Unit {0}
-EachStruck step P start d (c ∷ cs) =
-    (struck step d c ≡ true → P (startAfter start (d .tag)) d c)
-    × EachStruck step P (startAfter start (d .tag)) (step d c .device) cs
+EachStruck step P start d (call ∷ calls) =
+    (struck step d call ≡ true → P (startAfter start (d .tag)) d call)
+    × EachStruck step P (startAfter start (d .tag)) (step d call .device) calls
 
 unfoldable pub AllShut : Step → Tag → Device → List Call → Type 0
 unfolding EachStruck
-AllShut step start d cs = EachStruck step (Shut step) start d cs
+AllShut step start d calls = EachStruck step (Shut step) start d calls
 
--- ---- the claim: from device d, the calls cs
+-- ---- the claim: from device d, the calls
 -- the same answer to every call, reply bytes and refusal numbers included, and the same final tag, state and every byte
 abbrev pub Same : Step → Device → List Call → Type 0
-Same step d cs = waitRun (noTransfer [] d) cs ≡ noTransfer (runBy step d cs .answers) (runBy step d cs .device)
+Same step d calls = waitRun (noTransfer [] d) calls ≡ noTransfer (runBy step d calls .answers) (runBy step d calls .device)
 
 -- refusals 1 and 4 never occur
 abbrev pub Judged : Step → Device → List Call → Type 0
-Judged step d cs = stateRefused (runBy step d cs .answers) ≡ false
+Judged step d calls = stateRefused (runBy step d calls .answers) ≡ false
 
 -- without the struck frames all else stays the same
 abbrev pub Striking : Step → Device → List Call → Type 0
-Striking step d cs = runBy step d (others step d cs) ≡ runResult (otherAnswers step d cs) (runBy step d cs .device)
+Striking step d calls = runBy step d (others step d calls) ≡ runResult (otherAnswers step d calls) (runBy step d calls .device)
 
-pub record Agrees (step : Step) (d : Device) (cs : List Call) : Type 0 where
-  pub same : Same step d cs
-  pub judged : Judged step d cs
-  pub striking : Striking step d cs
+pub record Agrees (step : Step) (d : Device) (calls : List Call) : Type 0 where
+  pub same : Same step d calls
+  pub judged : Judged step d calls
+  pub striking : Striking step d calls
   -- every struck frame changed nothing, and its reply was silence or 0Fh
-  pub shut : AllShut step (d .tag) d cs
+  pub shut : AllShut step (d .tag) d calls
 
 -- the list finishes with no transfer open: the waiting tag says so, since a wrong tag might never close its own
 unfoldable pub isClosed : Waiting → Bool
-isClosed (noTransfer out k) = true
-isClosed (inside out k n sl) = false
+isClosed (noTransfer out d) = true
+isClosed (inside out d noted slots) = false
 
 -- from any tag within 01's ranges with no transfer open, for every list of calls that finishes with none open
 abbrev pub EveryList : (Device → List Call → Type 0) → Type 0
-EveryList P = (d : Device) (cs : List Call)
-    → tagInRange (d .tag) (d .memory) ≡ true → length (d .memory) ≡ memoryBytes → framesFit cs ≡ true
-    → transferOpen (d .tag) ≡ false → isClosed (waitRun (noTransfer [] d) cs) ≡ true
-    → P d cs
+EveryList P = (d : Device) (calls : List Call)
+    → tagInRange (d .tag) (d .memory) ≡ true → length (d .memory) ≡ memoryBytes → framesFit calls ≡ true
+    → transferOpen (d .tag) ≡ false → isClosed (waitRun (noTransfer [] d) calls) ≡ true
+    → P d calls
 
 abbrev pub Demand3 : Step → Type 0
 Demand3 step = EveryList (Agrees step)
 
 -- for the entry point that is what its own tag shows: a list that it finishes with no transfer open is such a list
 abbrev pub EndsAlike : Type 0
-EndsAlike = (d : Device) (cs : List Call)
-    → tagInRange (d .tag) (d .memory) ≡ true → length (d .memory) ≡ memoryBytes → framesFit cs ≡ true
-    → transferOpen (d .tag) ≡ false → transferOpen (runBy entry d cs .device .tag) ≡ false
-    → isClosed (waitRun (noTransfer [] d) cs) ≡ true
+EndsAlike = (d : Device) (calls : List Call)
+    → tagInRange (d .tag) (d .memory) ≡ true → length (d .memory) ≡ memoryBytes → framesFit calls ≡ true
+    → transferOpen (d .tag) ≡ false → transferOpen (runBy entry d calls .device .tag) ≡ false
+    → isClosed (waitRun (noTransfer [] d) calls) ≡ true

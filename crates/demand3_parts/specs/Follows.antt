@@ -15,8 +15,8 @@ StrikingFollows = (step : Step) → EveryList (Same step) → EveryList (Strikin
 
 -- ---- of a struck frame its answer; the reply's bytes follow from it
 abbrev pub AnswersShut : Step → Tag → Device → Call → Type 0
-AnswersShut step start d c = step d c .says .answer ≡ callReply (shutReply start (d .tag .air) (c .frame)) (c .buffer) .answer
+AnswersShut step start d call = step d call .says .answer ≡ callReply (shutReply start (d .tag .air) (call .frame)) (call .buffer) .answer
 
 abbrev pub BytesFollow : Type 0
 BytesFollow = (step : Step) → EveryList (Same step)
-    → EveryList (λ (d : Device) (cs : List Call). EachStruck step (AnswersShut step) (d .tag) d cs → EachStruck step (RepliesShut step) (d .tag) d cs)
+    → EveryList (λ (d : Device) (calls : List Call). EachStruck step (AnswersShut step) (d .tag) d calls → EachStruck step (RepliesShut step) (d .tag) d calls)

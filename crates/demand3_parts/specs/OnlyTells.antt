@@ -7,13 +7,13 @@ use Rattle.wrong_tags.specs.Pinned.{sessionPastRange, marksFrames, hidesField}
 
 -- every answer of this one is right, so that only the final tag tells it
 abbrev pub OnlyTagTells : Type 0
-OnlyTagTells = EveryList (λ (d : Device) (cs : List Call). runBy sessionPastRange d cs .answers ≡ runBy entry d cs .answers)
+OnlyTagTells = EveryList (λ (d : Device) (calls : List Call). runBy sessionPastRange d calls .answers ≡ runBy entry d calls .answers)
 
 -- of these two all else holds, so that only `unchanged` tells the one and only `reply` the other
 abbrev pub OnlyUnchangedTells : Type 0
 OnlyUnchangedTells = EveryList (Same marksFrames)
-    × EveryList (λ (d : Device) (cs : List Call). EachStruck marksFrames (RepliesShut marksFrames) (d .tag) d cs)
+    × EveryList (λ (d : Device) (calls : List Call). EachStruck marksFrames (RepliesShut marksFrames) (d .tag) d calls)
 
 abbrev pub OnlyReplyTells : Type 0
 OnlyReplyTells = EveryList (Same hidesField)
-    × EveryList (λ (d : Device) (cs : List Call). EachStruck hidesField (Unchanged hidesField) (d .tag) d cs)
+    × EveryList (λ (d : Device) (calls : List Call). EachStruck hidesField (Unchanged hidesField) (d .tag) d calls)

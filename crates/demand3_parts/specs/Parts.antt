@@ -6,7 +6,7 @@ use Rattle.wrong_tags.specs.Told.{ClaimPart, partOf, WrongTag}
 use Rattle.wrong_tags.specs.Pinned.{wrongTags}
 
 abbrev pub HasParts : Type 0
-HasParts = (step : Step) → Demand3 step → (p : ClaimPart) → EveryList (partOf p step)
+HasParts = (step : Step) → Demand3 step → (part : ClaimPart) → EveryList (partOf part step)
 
 unfoldable pub AllRefuted : List WrongTag → Type 0
 AllRefuted [] = Unit {0}

@@ -22,7 +22,7 @@ mailboxLast = 0x2107
 
 -- an address of one that the host may write: "RF_MNGT_Dyn and MB_CTRL_Dyn, always". The host reads each.
 abbrev pub hostWrites : ℕ → Bool
-hostWrites a = eqb a (dynamicAt rfMngtDyn) || eqb a (dynamicAt mbCtrlDyn)
+hostWrites address = eqb address (dynamicAt rfMngtDyn) || eqb address (dynamicAt mbCtrlDyn)
 
 -- the radio's pointer to MB_CTRL_Dyn, which it reads and writes: "AD, AE Dynamic: pointer 0D". It has none to the others.
 abbrev pub mbCtrlPointer : ℕ

@@ -13,11 +13,11 @@ use Rattle.reply.specs.Outcome.{CommandResult, commandResult, fails, sideMailbo
 
 -- "AD, AE Dynamic: pointer 0D, else 10h; as MB_CTRL_Dyn"
 unfoldable pub readDynamicOf : RadioSide → List ℕ → ℕ → CommandResult
-readDynamicOf s m p =
-    pick (not (eqb p mbCtrlPointer)) (fails NoSuchDynamicRegister s m)
-    (commandResult (good (controlByte (s .core .mailbox) ∷ [])) s m)
+readDynamicOf v m pointer =
+    pick (not (eqb pointer mbCtrlPointer)) (fails NoSuchDynamicRegister v m)
+    (commandResult (good (controlByte (v .core .mailbox) ∷ [])) v m)
 
 unfoldable pub writeDynamicOf : RadioSide → List ℕ → Bool → ℕ → ℕ → CommandResult
-writeDynamicOf s m vcc p x =
-    pick (not (eqb p mbCtrlPointer)) (fails NoSuchDynamicRegister s m)
-    (commandResult (good []) (sideMailbox (controlled x (s .core .registers .mode) vcc (s .core .mailbox)) s) m)
+writeDynamicOf v m vcc pointer x =
+    pick (not (eqb pointer mbCtrlPointer)) (fails NoSuchDynamicRegister v m)
+    (commandResult (good []) (sideMailbox (controlled x (v .core .registers .mode) vcc (v .core .mailbox)) v) m)

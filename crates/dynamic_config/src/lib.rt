@@ -7,41 +7,41 @@ use reply::RadioOutcome;
 use reply::RadioSide;
 
 // AD.
-pub fn read_dynamic(s: RadioSide, m: &[u8], out: &mut [u8], p: u8) -> RadioOutcome
-    ensures { λ r. ⌜ radioResult r (now (m .entry)) (now (out .exit)) ≡ finish (readDynamicOf s (now (m .entry)) p) (now (out .entry)) ⌝ }
+pub fn read_dynamic(v: RadioSide, m: &[u8], out: &mut [u8], pointer: u8) -> RadioOutcome
+    ensures { λ r. ⌜ radioResult r (now (m .entry)) (now (out .exit)) ≡ finish (readDynamicOf v (now (m .entry)) pointer) (now (out .entry)) ⌝ }
 {
-    if p != dynamic::MB_CTRL_POINTER {
+    if pointer != dynamic::MB_CTRL_POINTER {
         return RadioOutcome {
             answer: reply::error(out, RadioError::NoSuchDynamicRegister),
-            side: s,
+            side: v,
         };
     }
-    let x = s.core.mailbox.control_byte();
+    let x = v.core.mailbox.control_byte();
     RadioOutcome {
         answer: reply::byte(out, x),
-        side: s,
+        side: v,
     }
 }
 
 // AE.
 pub fn write_dynamic(
-    s: RadioSide,
+    v: RadioSide,
     m: &[u8],
     out: &mut [u8],
     vcc: bool,
-    p: u8,
+    pointer: u8,
     x: u8,
 ) -> RadioOutcome
-    ensures { λ r. ⌜ radioResult r (now (m .entry)) (now (out .exit)) ≡ finish (writeDynamicOf s (now (m .entry)) vcc p x) (now (out .entry)) ⌝ }
+    ensures { λ r. ⌜ radioResult r (now (m .entry)) (now (out .exit)) ≡ finish (writeDynamicOf v (now (m .entry)) vcc pointer x) (now (out .entry)) ⌝ }
 {
-    if p != dynamic::MB_CTRL_POINTER {
+    if pointer != dynamic::MB_CTRL_POINTER {
         return RadioOutcome {
             answer: reply::error(out, RadioError::NoSuchDynamicRegister),
-            side: s,
+            side: v,
         };
     }
-    let mode = s.core.registers.mode;
-    let next = s.with_mailbox(s.core.mailbox.control(x, mode, vcc));
+    let mode = v.core.registers.mode;
+    let next = v.with_mailbox(v.core.mailbox.control(x, mode, vcc));
     RadioOutcome {
         answer: reply::done(out),
         side: next,

@@ -50,8 +50,8 @@ fn begin() -> EntryRun {
     }
 }
 
-fn with_tag(r: EntryRun, t: Tag) -> EntryRun {
-    let mut n = r;
+fn with_tag(run: EntryRun, t: Tag) -> EntryRun {
+    let mut n = run;
     n.tag = t;
     n
 }
@@ -61,47 +61,47 @@ fn says(run: EntryRun, said: EntryPrint) -> EntryLineOutcome {
 }
 
 // A line that is none of these.
-fn bad(r: EntryRun) -> EntryLineOutcome {
-    says(r, EntryPrint::Bad)
+fn bad(run: EntryRun) -> EntryLineOutcome {
+    says(run, EntryPrint::Bad)
 }
 
-fn nothing(r: EntryRun) -> EntryLineOutcome {
-    says(r, EntryPrint::Answer(Answer::Nothing))
+fn nothing(run: EntryRun) -> EntryLineOutcome {
+    says(run, EntryPrint::Answer(Answer::Nothing))
 }
 
 // The fresh tag; a refusal leaves the tag that there was.
-fn fresh(r: EntryRun, m: &mut [u8]) -> EntryLineOutcome {
-    let size = r.memory;
+fn fresh(run: EntryRun, m: &mut [u8]) -> EntryLineOutcome {
+    let size = run.memory;
     if m.len() < size {
-        return bad(r);
+        return bad(run);
     }
     let o = model::fresh(example_lines::uid(), &mut m[0..size]);
     let a = o.answer;
     match a {
-        Answer::Refused(why) => says(r, EntryPrint::Answer(Answer::Refused(why))),
+        Answer::Refused(why) => says(run, EntryPrint::Answer(Answer::Refused(why))),
         _ => {
             let t = o.tag;
-            nothing(with_tag(r, t))
+            nothing(with_tag(run, t))
         }
     }
 }
 
 // A call and its answer.
-fn call(r: EntryRun, m: &mut [u8], out: &mut [u8], bytes: &[u8]) -> EntryLineOutcome {
+fn call(run: EntryRun, m: &mut [u8], out: &mut [u8], bytes: &[u8]) -> EntryLineOutcome {
     if bytes.len() < 3 {
-        return bad(r);
+        return bad(run);
     }
-    let memory = r.memory;
-    let reply = r.reply;
+    let memory = run.memory;
+    let reply = run.reply;
     if m.len() < memory {
-        return bad(r);
+        return bad(run);
     }
     if out.len() < reply {
-        return bad(r);
+        return bad(run);
     }
     let code = parts::byte_at(bytes, 0);
     let value = example_states::word_at(bytes, 1);
-    let t = r.tag;
+    let t = run.tag;
     let o = model::step(
         t,
         &mut m[0..memory],
@@ -112,19 +112,19 @@ fn call(r: EntryRun, m: &mut [u8], out: &mut [u8], bytes: &[u8]) -> EntryLineOut
     );
     let a = o.answer;
     let after = o.tag;
-    says(with_tag(r, after), EntryPrint::Answer(a))
+    says(with_tag(run, after), EntryPrint::Answer(a))
 }
 
 // How much of a buffer of `most` bytes calls hand in from here on.
-fn lent(r: EntryRun, kind: u8, bytes: &[u8], most: usize) -> EntryLineOutcome {
+fn lent(run: EntryRun, kind: u8, bytes: &[u8], most: usize) -> EntryLineOutcome {
     let size = example_states::word_at(bytes, 0) as usize;
     if bytes.len() != 2 {
-        return bad(r);
+        return bad(run);
     }
     if most < size {
-        return bad(r);
+        return bad(run);
     }
-    let mut next = r;
+    let mut next = run;
     if kind == b'J' {
         next.memory = size;
         return nothing(next);
@@ -133,58 +133,64 @@ fn lent(r: EntryRun, kind: u8, bytes: &[u8], most: usize) -> EntryLineOutcome {
     nothing(next)
 }
 
-fn memory(r: EntryRun, m: &mut [u8], bytes: &[u8]) -> EntryLineOutcome {
+fn memory(run: EntryRun, m: &mut [u8], bytes: &[u8]) -> EntryLineOutcome {
     if example_states::store(m, bytes) {
-        return nothing(r);
+        return nothing(run);
     }
-    bad(r)
+    bad(run)
 }
 
-fn patch(r: EntryRun, bytes: &[u8]) -> EntryLineOutcome {
-    let p = example_states::patch(r.tag, bytes);
+fn patch(run: EntryRun, bytes: &[u8]) -> EntryLineOutcome {
+    let p = example_states::patch(run.tag, bytes);
     if !p.fits {
-        return bad(r);
+        return bad(run);
     }
     let t = p.tag;
-    nothing(with_tag(r, t))
+    nothing(with_tag(run, t))
 }
 
 // A letter with bytes.
-fn given(r: EntryRun, kind: u8, m: &mut [u8], out: &mut [u8], bytes: &[u8]) -> EntryLineOutcome {
+fn given(run: EntryRun, kind: u8, m: &mut [u8], out: &mut [u8], bytes: &[u8]) -> EntryLineOutcome {
     match kind {
-        b'C' => call(r, m, out, bytes),
-        b'J' => lent(r, kind, bytes, MEMORY),
-        b'O' => lent(r, kind, bytes, REPLY),
-        b'M' => memory(r, m, bytes),
-        b'T' => patch(r, bytes),
-        _ => bad(r),
+        b'C' => call(run, m, out, bytes),
+        b'J' => lent(run, kind, bytes, MEMORY),
+        b'O' => lent(run, kind, bytes, REPLY),
+        b'M' => memory(run, m, bytes),
+        b'T' => patch(run, bytes),
+        _ => bad(run),
     }
 }
 
 // A letter alone.
-fn alone(r: EntryRun, kind: u8, m: &mut [u8]) -> EntryLineOutcome {
+fn alone(run: EntryRun, kind: u8, m: &mut [u8]) -> EntryLineOutcome {
     match kind {
-        b'N' => fresh(r, m),
-        b'Z' => says(r, EntryPrint::State),
-        b'E' => says(r, EntryPrint::Crcs),
-        _ => bad(r),
+        b'N' => fresh(run, m),
+        b'Z' => says(run, EntryPrint::State),
+        b'E' => says(run, EntryPrint::Crcs),
+        _ => bad(run),
     }
 }
 
 // What a line does, and what it prints.
-fn act(r: EntryRun, s: &[u8], m: &mut [u8], out: &mut [u8], bytes: &mut [u8]) -> EntryLineOutcome {
+fn act(
+    run: EntryRun,
+    s: &[u8],
+    m: &mut [u8],
+    out: &mut [u8],
+    bytes: &mut [u8],
+) -> EntryLineOutcome {
     let kind = parts::byte_at(s, 0);
     if s.len() == 1 {
-        return alone(r, kind, m);
+        return alone(run, kind, m);
     }
     if lines::has_bytes(s) {
         let n = lines::line_bytes(s, bytes);
         if bytes.len() < n {
-            return bad(r);
+            return bad(run);
         }
-        return given(r, kind, m, out, &bytes[0..n]);
+        return given(run, kind, m, out, &bytes[0..n]);
     }
-    bad(r)
+    bad(run)
 }
 
 fn put_refusal(text: &mut [u8], at: usize, why: Refusal) -> usize {
@@ -192,8 +198,8 @@ fn put_refusal(text: &mut [u8], at: usize, why: Refusal) -> usize {
     text::put_decimal(text, number, why.number() as u64)
 }
 
-fn put_answer(text: &mut [u8], at: usize, a: Answer, out: &[u8]) -> usize {
-    match a {
+fn put_answer(text: &mut [u8], at: usize, answer: Answer, out: &[u8]) -> usize {
+    match answer {
         Answer::Refused(why) => put_refusal(text, at, why),
         Answer::Nothing => text::put_mark(text, at, b'-'),
         Answer::Ack => text::put_mark(text, at, b'A'),
@@ -226,9 +232,9 @@ fn print(number: u64, said: EntryPrint, t: Tag, m: &[u8], out: &[u8]) -> bool {
     example_lines::write_line(&mut text, feed)
 }
 
-fn line(r: EntryRun, s: &[u8], m: &mut [u8], out: &mut [u8], bytes: &mut [u8]) -> EntryRun {
-    let number = std::num::wrapping_add_u64(r.number, 1);
-    let o = act(r, s, m, out, bytes);
+fn line(run: EntryRun, s: &[u8], m: &mut [u8], out: &mut [u8], bytes: &mut [u8]) -> EntryRun {
+    let number = std::num::wrapping_add_u64(run.number, 1);
+    let o = act(run, s, m, out, bytes);
     let said = o.said;
     let mut n = o.run;
     let t = n.tag;

@@ -9,13 +9,13 @@ use Rattle.example_states.specs.declared.PatchOutcome.{PatchOutcome}
 use Rattle.example_states.specs.Store.{StoreResult, storeOf}
 
 abbrev pub patchOutcome : Bool → Tag → PatchOutcome
-patchOutcome b t = record { fits = b; tag = t }
+patchOutcome on t = record { fits = on; tag = t }
 
 -- the state's bytes after a line, if it took them and they are a state's; else the tag as it was
 unfoldable pub patchBy : Tag → StoreResult → PatchOutcome
-patchBy t p =
-    pick (p .taken) (pick (decodes (p .memory)) (patchOutcome true (tagOf (p .memory))) (patchOutcome false t)) (patchOutcome false t)
+patchBy t result =
+    pick (result .taken) (pick (decodes (result .memory)) (patchOutcome true (tagOf (result .memory))) (patchOutcome false t)) (patchOutcome false t)
 
 -- a line's bytes: two of a place, and those of the state from there on
 abbrev pub patchOf : Tag → List ℕ → PatchOutcome
-patchOf t b = patchBy t (storeOf (bytesOf t) b)
+patchOf t s = patchBy t (storeOf (bytesOf t) s)

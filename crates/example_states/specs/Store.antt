@@ -19,12 +19,12 @@ pub record StoreResult : Type 0 where
   pub memory : List ℕ
 
 abbrev pub storeResult : Bool → List ℕ → StoreResult
-storeResult b m = record { taken = b; memory = m }
+storeResult on m = record { taken = on; memory = m }
 
 -- a line's bytes: two of a place, and those that lie in the memory from there on, all or none
 unfoldable pub storeOf : List ℕ → List ℕ → StoreResult
-storeOf m b =
-    pick (ltb (length b) 2) (storeResult false m)
-    (pick (ltb (length m) (wordAt b 0)) (storeResult false m)
-    (pick (ltb (length m - wordAt b 0) (length b - 2)) (storeResult false m)
-    (storeResult true (sets m (wordAt b 0) (bytesAt b 2 (length b - 2))))))
+storeOf m s =
+    pick (ltb (length s) 2) (storeResult false m)
+    (pick (ltb (length m) (wordAt s 0)) (storeResult false m)
+    (pick (ltb (length m - wordAt s 0) (length s - 2)) (storeResult false m)
+    (storeResult true (sets m (wordAt s 0) (bytesAt s 2 (length s - 2))))))

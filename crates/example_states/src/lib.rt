@@ -15,20 +15,20 @@ pub fn word_at(s: &[u8], i: usize) -> u16
 }
 
 // Stores a line's bytes at the place that its first two name, and says whether they lie in the memory. Else none is.
-pub fn store(m: &mut [u8], b: &[u8]) -> bool
-    ensures { λ r. ⌜ storeResult r (now (m .exit)) ≡ storeOf (now (m .entry)) (now (b .entry)) ⌝ }
+pub fn store(m: &mut [u8], s: &[u8]) -> bool
+    ensures { λ r. ⌜ storeResult r (now (m .exit)) ≡ storeOf (now (m .entry)) (now (s .entry)) ⌝ }
 {
-    if b.len() < 2 {
+    if s.len() < 2 {
         return false;
     }
-    let at = word_at(b, 0) as usize;
+    let at = word_at(s, 0) as usize;
     if m.len() < at {
         return false;
     }
-    if m.len() - at < b.len() - 2 {
+    if m.len() - at < s.len() - 2 {
         return false;
     }
-    parts::put_bytes(m, at, b, 2, b.len() - 2);
+    parts::put_bytes(m, at, s, 2, s.len() - 2);
     true
 }
 
@@ -39,8 +39,8 @@ pub struct PatchOutcome {
 }
 
 // Sets bytes of a tag's state from a line's bytes, of which the first two name the place.
-pub fn patch(t: Tag, b: &[u8]) -> PatchOutcome
-    ensures { λ r. ⌜ r ≡ patchOf t (now (b .entry)) ⌝ }
+pub fn patch(t: Tag, line: &[u8]) -> PatchOutcome
+    ensures { λ r. ⌜ r ≡ patchOf t (now (line .entry)) ⌝ }
 {
     let mut s = [0u8; state::STATE_BYTES];
     state_encode::encode(t, &mut s);
@@ -48,7 +48,7 @@ pub fn patch(t: Tag, b: &[u8]) -> PatchOutcome
         fits: false,
         tag: t,
     };
-    if !store(&mut s, b) {
+    if !store(&mut s, line) {
         return kept;
     }
     if !state_judge::decodes(&s) {

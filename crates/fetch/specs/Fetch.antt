@@ -20,32 +20,32 @@ use Rattle.dynamic.specs.Dynamic.{rfMngtDyn, i2cSsoDyn, mbCtrlDyn, mbLenDyn, dy
 
 -- "FFh where .. read-protected"
 unfoldable pub memoryByte : Core → Bool → List ℕ → ℕ → ℕ
-memoryByte c session m a = pick (mayRead (c .registers) (Wire session) (a / 4)) (getD m a 0) 0xFF
+memoryByte c session m address = pick (mayRead (c .registers) (Wire session) (address / 4)) (getD m address 0) 0xFF
 
 -- "FFh .. in the mailbox past the length or with MB_EN 0"
 unfoldable pub mailboxByte : Mailbox → List ℕ → ℕ → ℕ
-mailboxByte b m a = pick (b .enabled && ltb (a - mailboxFirst) (b .length)) (getD m (mailboxPlace + (a - mailboxFirst)) 0) 0xFF
+mailboxByte mailbox m address = pick (mailbox .enabled && ltb (address - mailboxFirst) (mailbox .length)) (getD m (mailboxPlace + (address - mailboxFirst)) 0) 0xFF
 
 -- "user space: 0000h-01FFh memory; 2003h RF_MNGT_Dyn; 2004h I2C_SSO_Dyn; 2006h MB_CTRL_Dyn; 2007h MB_LEN_Dyn; 2008h-2107h mailbox"
 unfoldable pub userByte : Core → Bool → List ℕ → ℕ → ℕ
-userByte c session m a =
-    pick (ltb a userBytes) (memoryByte c session m a)
-    (pick (eqb a (dynamicAt rfMngtDyn)) (c .registers .dynamic .bits)
-    (pick (eqb a (dynamicAt i2cSsoDyn)) (pick session 1 0)
-    (pick (eqb a (dynamicAt mbCtrlDyn)) (controlByte (c .mailbox))
-    (pick (eqb a (dynamicAt mbLenDyn)) (lengthByte (c .mailbox))
-    (pick (leb mailboxFirst a && leb a mailboxLast) (mailboxByte (c .mailbox) m a)
+userByte c session m address =
+    pick (ltb address userBytes) (memoryByte c session m address)
+    (pick (eqb address (dynamicAt rfMngtDyn)) (c .registers .dynamic .bits)
+    (pick (eqb address (dynamicAt i2cSsoDyn)) (pick session 1 0)
+    (pick (eqb address (dynamicAt mbCtrlDyn)) (controlByte (c .mailbox))
+    (pick (eqb address (dynamicAt mbLenDyn)) (lengthByte (c .mailbox))
+    (pick (leb mailboxFirst address && leb address mailboxLast) (mailboxByte (c .mailbox) m address)
     0xFF)))))
 
 -- "0018h-001Fh UID (read only)"; the other registers, and FFh where unmapped and at 0900h-0907h
 unfoldable pub systemByte : Core → Uid → ℕ → ℕ
-systemByte c u a = pick (leb 0x0018 a && leb a 0x001F) (uidByte u (a - 0x0018)) (registerAt (c .registers) a)
+systemByte c u address = pick (leb 0x0018 address && leb address 0x001F) (uidByte u (address - 0x0018)) (registerAt (c .registers) address)
 
 unfoldable pub fetched : Space → Core → Bool → Uid → List ℕ → ℕ → ℕ
-fetched User c session u m a = userByte c session m a
-fetched System c session u m a = systemByte c u a
+fetched User c session u m address = userByte c session m address
+fetched System c session u m address = systemByte c u address
 
 -- a is the last byte of an RF message
 unfoldable pub isLast : Space → Mailbox → ℕ → Bool
-isLast User b a = b .rf .current && eqb (a + 1) (mailboxFirst + b .length)
-isLast System b a = false
+isLast User mailbox address = mailbox .rf .current && eqb (address + 1) (mailboxFirst + mailbox .length)
+isLast System mailbox address = false

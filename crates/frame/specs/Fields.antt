@@ -11,49 +11,49 @@ use Rattle.keys.specs.declared.Uid.{Uid}
 use Rattle.keys.specs.Keys.{uidAt, sameUid}
 
 abbrev pub flags : List ℕ → ℕ
-flags s = getD s 0 0
+flags f = getD f 0 0
 
 abbrev pub command : List ℕ → ℕ
-command s = getD s 1 0
+command f = getD f 1 0
 
 -- "Flags: 04h inventory, 08h extension, 10h select, 20h address, 40h option, 80h reserved."
 abbrev pub inventoryFlag : List ℕ → Bool
-inventoryFlag s = isSet 0x04 (flags s)
+inventoryFlag f = isSet 0x04 (flags f)
 
 abbrev pub extensionFlag : List ℕ → Bool
-extensionFlag s = isSet 0x08 (flags s)
+extensionFlag f = isSet 0x08 (flags f)
 
 abbrev pub selectFlag : List ℕ → Bool
-selectFlag s = isSet 0x10 (flags s)
+selectFlag f = isSet 0x10 (flags f)
 
 abbrev pub addressFlag : List ℕ → Bool
-addressFlag s = isSet 0x20 (flags s)
+addressFlag f = isSet 0x20 (flags f)
 
 abbrev pub optionFlag : List ℕ → Bool
-optionFlag s = isSet 0x40 (flags s)
+optionFlag f = isSet 0x40 (flags f)
 
 abbrev pub reservedFlag : List ℕ → Bool
-reservedFlag s = isSet 0x80 (flags s)
+reservedFlag f = isSet 0x80 (flags f)
 
 -- "02h for commands from A0h"
 abbrev pub isCustom : List ℕ → Bool
-isCustom s = leb 0xA0 (command s)
+isCustom f = leb 0xA0 (command f)
 
 -- where the UID stands, if addressed, and where the parameters stand
 unfoldable pub uidPlace : List ℕ → ℕ
-uidPlace s = pick (isCustom s) 3 2
+uidPlace f = pick (isCustom f) 3 2
 
 unfoldable pub paramPlace : List ℕ → ℕ
-paramPlace s = uidPlace s + pick (addressFlag s) 8 0
+paramPlace f = uidPlace f + pick (addressFlag f) 8 0
 
 -- where the CRC stands
 abbrev pub crcPlace : List ℕ → ℕ
-crcPlace s = length s - 2
+crcPlace f = length f - 2
 
 -- the UID in the frame is the tag's
 unfoldable pub ownUid : List ℕ → Uid → Bool
-ownUid s u = sameUid (uidAt s (uidPlace s)) u
+ownUid f u = sameUid (uidAt f (uidPlace f)) u
 
 -- parameter byte i
 unfoldable pub param : List ℕ → ℕ → ℕ
-param s i = getD s (paramPlace s + i) 0
+param f i = getD f (paramPlace f + i) 0

@@ -84,20 +84,20 @@ pub fn put_byte(text: &mut [u8], at: usize, x: u8) -> usize
 }
 
 // Stores the four digits of two bytes, high first.
-pub fn put_word(text: &mut [u8], at: usize, w: u16) -> usize
-    ensures { λ r. ⌜ stored r (now (text .exit)) ≡ textAt (now (text .entry)) at (hexText (w / 256 ∷ w % 256 ∷ [])) ⌝ }
+pub fn put_word(text: &mut [u8], at: usize, n: u16) -> usize
+    ensures { λ r. ⌜ stored r (now (text .exit)) ≡ textAt (now (text .entry)) at (hexText (n / 256 ∷ n % 256 ∷ [])) ⌝ }
 {
-    let low = put_byte(text, at, (w / 256) as u8);
-    put_byte(text, low, (w % 256) as u8)
+    let low = put_byte(text, at, (n / 256) as u8);
+    put_byte(text, low, (n % 256) as u8)
 }
 
-fn least(a: usize, b: usize) -> usize
-    ensures { λ r. ⌜ r ≡ min a b ⌝ }
+fn least(n: usize, k: usize) -> usize
+    ensures { λ r. ⌜ r ≡ min n k ⌝ }
 {
-    if a < b {
-        return a;
+    if n < k {
+        return n;
     }
-    b
+    k
 }
 
 // Stores the digits of the first n bytes of s at a place, where there is room for all: no store needs a test, and the

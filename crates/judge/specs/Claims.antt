@@ -14,8 +14,8 @@ use Rattle.judge.specs.Judge.{shutOut, judge}
 
 -- with RF_MNGT_Dyn b0, a transfer open or programming, the verdict is the one of `shutOut`
 abbrev pub ShutOutDecides : Type 0
-ShutOutDecides = (s : List ℕ) (a : Air) (u : Uid) (d : RfMngt) (busy : Bool) → (isSet 1 (d .bits) || busy) ≡ true → judge s a u d busy ≡ shutOut s a u d
+ShutOutDecides = (f : List ℕ) (a : Air) (u : Uid) (dynamic : RfMngt) (busy : Bool) → (isSet 1 (dynamic .bits) || busy) ≡ true → judge f a u dynamic busy ≡ shutOut f a u dynamic
 
 -- and that is silence or error 0Fh
 abbrev pub ShutOutAnswers : Type 0
-ShutOutAnswers = (s : List ℕ) (a : Air) (u : Uid) (d : RfMngt) → (shutOut s a u d ≡ Silence) ⊎ (shutOut s a u d ≡ Error ShutOut)
+ShutOutAnswers = (f : List ℕ) (a : Air) (u : Uid) (dynamic : RfMngt) → (shutOut f a u dynamic ≡ Silence) ⊎ (shutOut f a u dynamic ≡ Error ShutOut)

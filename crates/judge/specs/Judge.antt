@@ -19,23 +19,23 @@ use Rattle.silence.specs.Silence.{isSilent}
 
 -- "Stay Quiet, and Select with another UID: silence"
 unfoldable pub isMute : List ℕ → Uid → Bool
-isMute s u = eqb (command s) stayQuietCode || (eqb (command s) selectCode && not (ownUid s u))
+isMute f u = eqb (command f) stayQuietCode || (eqb (command f) selectCode && not (ownUid f u))
 
 -- an error of the judge's own, or that silence
 unfoldable pub errorOf : List ℕ → Uid → RadioError → Verdict
-errorOf s u e = pick (isMute s u) Silence (Error e)
+errorOf f u error = pick (isMute f u) Silence (Error error)
 
 -- the answer while shut out: from the frame, the air side, the UID and RF_MNGT_Dyn alone
 unfoldable pub shutOut : List ℕ → Air → Uid → RfMngt → Verdict
-shutOut s a u d = pick (isSilent s a u d) Silence (errorOf s u ShutOut)
+shutOut f a u dynamic = pick (isSilent f a u dynamic) Silence (errorOf f u ShutOut)
 
 -- "extension, reserved bit or unsupported option"
 unfoldable pub badFlags : List ℕ → Bool
-badFlags s = extensionFlag s || reservedFlag s || (optionFlag s && not (takesOption (commandOf (command s))))
+badFlags f = extensionFlag f || reservedFlag f || (optionFlag f && not (takesOption (commandOf (command f))))
 
 -- "wrong length"
 unfoldable pub wrongLength : List ℕ → Bool
-wrongLength s = not (eqb (paramPlace s + paramBytes (commandOf (command s)) (param s 0) (param s 1)) (crcPlace s))
+wrongLength f = not (eqb (paramPlace f + paramBytes (commandOf (command f)) (param f 0) (param f 1)) (crcPlace f))
 
 pub data ErrorRule : Type 0 where
   isShutOut isUnknown hasBadFlags hasWrongLength : ErrorRule
@@ -65,4 +65,4 @@ errorRules = isShutOut ∷ isUnknown ∷ hasBadFlags ∷ hasWrongLength ∷ []
 unfoldable pub judge : List ℕ → Air → Uid → RfMngt → Bool → Verdict
 judge f a u dynamic busy =
     pick (isSilent f a u dynamic) Silence
-    (firstSays (errorHolds f dynamic busy) (λ r. errorOf f u (ruleError r)) Request errorRules)
+    (firstSays (errorHolds f dynamic busy) (λ rule. errorOf f u (ruleError rule)) Request errorRules)

@@ -12,71 +12,71 @@ pub enum Verdict {
     Request,
 }
 
-fn is_mute(s: &[u8], u: Uid) -> bool
-    ensures { λ r. ⌜ r ≡ isMute (now (s .entry)) u ⌝ }
+fn is_mute(f: &[u8], u: Uid) -> bool
+    ensures { λ r. ⌜ r ≡ isMute (now (f .entry)) u ⌝ }
 {
-    let c = frame::command(s);
-    let own = frame::own_uid(s, u);
+    let c = frame::command(f);
+    let own = frame::own_uid(f, u);
     (c == commands::STAY_QUIET) | ((c == commands::SELECT) & !own)
 }
 
-fn error_of(s: &[u8], u: Uid, e: RadioError) -> Verdict
-    ensures { λ r. ⌜ r ≡ errorOf (now (s .entry)) u e ⌝ }
+fn error_of(f: &[u8], u: Uid, error: RadioError) -> Verdict
+    ensures { λ r. ⌜ r ≡ errorOf (now (f .entry)) u error ⌝ }
 {
-    if is_mute(s, u) {
+    if is_mute(f, u) {
         return Verdict::Silence;
     }
-    Verdict::Error(e)
+    Verdict::Error(error)
 }
 
 // The verdict while shut out.
-pub fn shut_out(s: &[u8], a: Air, u: Uid, d: RfMngt) -> Verdict
-    ensures { λ r. ⌜ r ≡ shutOut (now (s .entry)) a u d ⌝ }
+pub fn shut_out(f: &[u8], a: Air, u: Uid, dynamic: RfMngt) -> Verdict
+    ensures { λ r. ⌜ r ≡ shutOut (now (f .entry)) a u dynamic ⌝ }
 {
-    if silence::is_silent(s, a, u, d) {
+    if silence::is_silent(f, a, u, dynamic) {
         return Verdict::Silence;
     }
-    error_of(s, u, RadioError::ShutOut)
+    error_of(f, u, RadioError::ShutOut)
 }
 
-fn bad_flags(s: &[u8]) -> bool
-    ensures { λ r. ⌜ r ≡ badFlags (now (s .entry)) ⌝ }
+fn bad_flags(f: &[u8]) -> bool
+    ensures { λ r. ⌜ r ≡ badFlags (now (f .entry)) ⌝ }
 {
-    let flags = parts::byte_at(s, 0);
-    let takes = commands::command_of(frame::command(s)).takes_option();
+    let flags = parts::byte_at(f, 0);
+    let takes = commands::command_of(frame::command(f)).takes_option();
     (flags / 0x08 % 2 == 1) | (flags / 0x80 % 2 == 1) | ((flags / 0x40 % 2 == 1) & !takes)
 }
 
-fn wrong_length(s: &[u8]) -> bool
-    ensures { λ r. ⌜ r ≡ wrongLength (now (s .entry)) ⌝ }
+fn wrong_length(f: &[u8]) -> bool
+    ensures { λ r. ⌜ r ≡ wrongLength (now (f .entry)) ⌝ }
 {
-    let takes = commands::command_of(frame::command(s)).param_bytes(
-        frame::param(s, 0),
-        frame::param(s, 1),
+    let takes = commands::command_of(frame::command(f)).param_bytes(
+        frame::param(f, 0),
+        frame::param(f, 1),
     );
-    let at = frame::param_place(s);
-    let end = frame::crc_place(s);
+    let at = frame::param_place(f);
+    let end = frame::crc_place(f);
     !(at + takes == end)
 }
 
 // The verdict on a frame.
-pub fn judge(s: &[u8], a: Air, u: Uid, d: RfMngt, busy: bool) -> Verdict
-    ensures { λ r. ⌜ r ≡ judge (now (s .entry)) a u d busy ⌝ }
+pub fn judge(f: &[u8], a: Air, u: Uid, dynamic: RfMngt, busy: bool) -> Verdict
+    ensures { λ r. ⌜ r ≡ judge (now (f .entry)) a u dynamic busy ⌝ }
 {
-    if silence::is_silent(s, a, u, d) {
+    if silence::is_silent(f, a, u, dynamic) {
         return Verdict::Silence;
     }
-    if (d.bits / 1 % 2 == 1) | busy {
-        return error_of(s, u, RadioError::ShutOut);
+    if (dynamic.bits / 1 % 2 == 1) | busy {
+        return error_of(f, u, RadioError::ShutOut);
     }
-    if !commands::command_of(frame::command(s)).is_known() {
-        return error_of(s, u, RadioError::UnknownCommand);
+    if !commands::command_of(frame::command(f)).is_known() {
+        return error_of(f, u, RadioError::UnknownCommand);
     }
-    if bad_flags(s) {
-        return error_of(s, u, RadioError::UnsupportedFlags);
+    if bad_flags(f) {
+        return error_of(f, u, RadioError::UnsupportedFlags);
     }
-    if wrong_length(s) {
-        return error_of(s, u, RadioError::WrongLength);
+    if wrong_length(f) {
+        return error_of(f, u, RadioError::WrongLength);
     }
     Verdict::Request
 }

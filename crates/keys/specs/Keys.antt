@@ -18,10 +18,10 @@ abbrev pub uidAt : List ℕ → ℕ → Uid
 uidAt s at = record { bytes = bytesAt s at 8 }
 
 abbrev pub samePassword : Password → Password → Bool
-samePassword a b = agree 8 (a .bytes) (b .bytes)
+samePassword one other = agree 8 (one .bytes) (other .bytes)
 
 abbrev pub sameUid : Uid → Uid → Bool
-sameUid a b = agree 8 (a .bytes) (b .bytes)
+sameUid u other = agree 8 (u .bytes) (other .bytes)
 
 -- byte i of the UID
 abbrev pub uidByte : Uid → ℕ → ℕ

@@ -10,10 +10,10 @@ use Rattle.effect.specs.Effect.{LegResult, legResult}
 use Rattle.user_leg.specs.UserLeg.{userWritten}
 use Rattle.system_leg.specs.SystemLeg.{systemWritten}
 
--- the bytes bs, one or more, all Acked, of a write leg in a space from address f
+-- the bytes, one or more, all Acked, of a write leg in a space from its first address on
 unfoldable pub legWritten : Space → WireSide → List ℕ → ℕ → List ℕ → LegResult
-legWritten User w m f bs = userWritten w m f bs
-legWritten System w m f bs = systemWritten w m f bs
+legWritten User w m first bytes = userWritten w m first bytes
+legWritten System w m first bytes = systemWritten w m first bytes
 
 -- how a leg ends
 pub data End : Type 0 where
@@ -35,10 +35,10 @@ lastFetched w = withWireCore (withMailbox (hostRead (w .core .mailbox)) (w .core
 unfoldable pub settle : End → Due → WireSide → List ℕ → LegResult
 settle stopped nothingDue w m = legResult w m
 settle stopped clears w m = legResult (lastFetched w) m
-settle stopped (writes s f bs) w m = legWritten s w m f bs
+settle stopped (writes space first bytes) w m = legWritten space w m first bytes
 settle started nothingDue w m = legResult w m
 settle started clears w m = legResult (lastFetched w) m
-settle started (writes s f bs) w m = legResult w m
+settle started (writes space first bytes) w m = legResult w m
 settle powerLost nothingDue w m = legResult w m
 settle powerLost clears w m = legResult w m
-settle powerLost (writes s f bs) w m = legResult w m
+settle powerLost (writes space first bytes) w m = legResult w m

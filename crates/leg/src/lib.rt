@@ -6,13 +6,13 @@ ghost use Rattle.leg.specs.Leg.{legWritten, lastFetched};
 use bus::Space;
 use tag::WireSide;
 
-// A write leg's effect: the page's k bytes, all Acked, in a space from address f on.
-pub fn leg_written(s: Space, w: WireSide, m: &mut [u8], f: u16, k: u16) -> WireSide
-    ensures { λ r. ⌜ legResult r (now (m .exit)) ≡ legWritten s w (now (m .entry)) f (page k (now (m .entry))) ⌝ }
+// A write leg's effect: the page's k bytes, all Acked, in a space from the first address on.
+pub fn leg_written(space: Space, w: WireSide, m: &mut [u8], first: u16, k: u16) -> WireSide
+    ensures { λ r. ⌜ legResult r (now (m .exit)) ≡ legWritten space w (now (m .entry)) first (page k (now (m .entry))) ⌝ }
 {
-    match s {
-        Space::User => user_leg::user_written(w, m, f, k),
-        Space::System => system_leg::system_written(w, m, f, k),
+    match space {
+        Space::User => user_leg::user_written(w, m, first, k),
+        Space::System => system_leg::system_written(w, m, first, k),
     }
 }
 

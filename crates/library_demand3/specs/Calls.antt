@@ -11,7 +11,7 @@ LibraryStep = List ℕ → List ℕ → Call → CallResult
 
 -- the exported function, as the contract of its code has it; s is the state, m the memory
 unfoldable pub exported : List ℕ → List ℕ → Call → CallResult
-exported s m c = stepCall s m (c .buffer) (c .code) (c .value) (c .frame)
+exported s m call = stepCall s m (call .buffer) (call .code) (call .value) (call .frame)
 
 -- the answer to a call: its number, with the whole reply buffer as the call leaves it
 pub record LibraryAnswer : Type 0 where
@@ -22,7 +22,7 @@ abbrev pub libraryAnswer : ℕ → List ℕ → LibraryAnswer
 libraryAnswer n o = record { number = n; buffer = o }
 
 abbrev pub answerBy : CallResult → LibraryAnswer
-answerBy e = libraryAnswer (e .number) (e .reply)
+answerBy result = libraryAnswer (result .number) (result .reply)
 
 -- the answers to a list of calls, in their order, and the bytes that are left at its end
 pub record LibraryRunResult : Type 0 where
@@ -31,11 +31,11 @@ pub record LibraryRunResult : Type 0 where
   pub memory : List ℕ
 
 abbrev pub libraryRunResult : List LibraryAnswer → List ℕ → List ℕ → LibraryRunResult
-libraryRunResult a s m = record { answers = a; state = s; memory = m }
+libraryRunResult answers s m = record { answers = answers; state = s; memory = m }
 
 unfoldable pub libraryRun : LibraryStep → List ℕ → List ℕ → List Call → LibraryRunResult
 libraryRun step s m [] = libraryRunResult [] s m
-libraryRun step s m (c ∷ cs) =
-    let e = step s m c in
-    let r = libraryRun step (e .state) (e .memory) cs in
-    libraryRunResult (answerBy e ∷ r .answers) (r .state) (r .memory)
+libraryRun step s m (call ∷ calls) =
+    let result = step s m call in
+    let rest = libraryRun step (result .state) (result .memory) calls in
+    libraryRunResult (answerBy result ∷ rest .answers) (rest .state) (rest .memory)

@@ -10,16 +10,16 @@ use Rattle.library_demand3.specs.Claim.{shutAnswer, EachLibraryStruck, L
 
 -- where each struck frame changed no byte, the others can be called without it
 abbrev pub LibraryStrikingFollows : Type 0
-LibraryStrikingFollows = (step : LibraryStep) (start : Tag) (s m : List ℕ) (cs : List Call)
-    → EachLibraryStruck step (LibraryShut step) start s m cs → LibraryStriking step s m cs
+LibraryStrikingFollows = (step : LibraryStep) (start : Tag) (s m : List ℕ) (calls : List Call)
+    → EachLibraryStruck step (LibraryShut step) start s m calls → LibraryStriking step s m calls
 
 -- ---- of a struck frame's answer: the reply buffer follows from the number, for a step whose every list has the waiting tag's answers and bytes
 abbrev pub NumberShut : LibraryStep → Tag → List ℕ → List ℕ → Call → Type 0
-NumberShut step start s m c = step s m c .number ≡ shutAnswer start (tagOf s .air) c .number
+NumberShut step start s m call = step s m call .number ≡ shutAnswer start (tagOf s .air) call .number
 
 abbrev pub AnswerShut : LibraryStep → Tag → List ℕ → List ℕ → Call → Type 0
-AnswerShut step start s m c = answerBy (step s m c) ≡ shutAnswer start (tagOf s .air) c
+AnswerShut step start s m call = answerBy (step s m call) ≡ shutAnswer start (tagOf s .air) call
 
 abbrev pub BufferFollows : Type 0
 BufferFollows = (step : LibraryStep) → EveryLibraryList (LibrarySame step)
-    → EveryLibraryList (λ (s m : List ℕ) (cs : List Call). EachLibraryStruck step (NumberShut step) (tagOf s) s m cs → EachLibraryStruck step (AnswerShut step) (tagOf s) s m cs)
+    → EveryLibraryList (λ (s m : List ℕ) (calls : List Call). EachLibraryStruck step (NumberShut step) (tagOf s) s m calls → EachLibraryStruck step (AnswerShut step) (tagOf s) s m calls)

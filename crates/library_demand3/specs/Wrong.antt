@@ -21,43 +21,43 @@ LibraryRefuted step = LibraryDemand3 step → ⊥
 -- ---- `same`: the numbers
 -- one answer's number and no byte: a Stop is answered Ack
 unfoldable pub acksStop : List ℕ → List ℕ → Call → CallResult
-acksStop s m c =
-    let e = exported s m c in
-    callResult (pick (eqb (c .code) 6 && eqb (e .number) 0x100) 0x101 (e .number)) (e .state) (e .memory) (e .reply)
+acksStop s m call =
+    let result = exported s m call in
+    callResult (pick (eqb (call .code) 6 && eqb (result .number) 0x100) 0x101 (result .number)) (result .state) (result .memory) (result .reply)
 
 -- refusal 2 comes as refusal 3
 unfoldable pub refusesBy3 : List ℕ → List ℕ → Call → CallResult
-refusesBy3 s m c =
-    let e = exported s m c in
-    callResult (pick (eqb (e .number) 2) 3 (e .number)) (e .state) (e .memory) (e .reply)
+refusesBy3 s m call =
+    let result = exported s m call in
+    callResult (pick (eqb (result .number) 2) 3 (result .number)) (result .state) (result .memory) (result .reply)
 
 -- ---- `same`: the reply buffers
 -- a byte of a reply that is served is one more
 unfoldable pub raisesReply : List ℕ → List ℕ → Call → CallResult
-raisesReply s m c =
-    let e = exported s m c in
-    callResult (e .number) (e .state) (e .memory)
-    (pick (leb 0x1000 (e .number) && not (transferOpen (tagOf s))) (set (e .reply) 1 (getD (e .reply) 1 0 + 1)) (e .reply))
+raisesReply s m call =
+    let result = exported s m call in
+    callResult (result .number) (result .state) (result .memory)
+    (pick (leb 0x1000 (result .number) && not (transferOpen (tagOf s))) (set (result .reply) 1 (getD (result .reply) 1 0 + 1)) (result .reply))
 
 -- a byte past it
 unfoldable pub writesPast : List ℕ → List ℕ → Call → CallResult
-writesPast s m c =
-    let e = exported s m c in
-    callResult (e .number) (e .state) (e .memory)
-    (pick (leb 0x1000 (e .number) && not (transferOpen (tagOf s))) (set (e .reply) 642 1) (e .reply))
+writesPast s m call =
+    let result = exported s m call in
+    callResult (result .number) (result .state) (result .memory)
+    (pick (leb 0x1000 (result .number) && not (transferOpen (tagOf s))) (set (result .reply) 642 1) (result .reply))
 
 -- a trace of a struck frame, in the reply buffer alone
 unfoldable pub leavesTrace : List ℕ → List ℕ → Call → CallResult
-leavesTrace s m c =
-    let e = exported s m c in
-    callResult (e .number) (e .state) (e .memory) (pick (libraryStruck exported s m c) (set (e .reply) 642 1) (e .reply))
+leavesTrace s m call =
+    let result = exported s m call in
+    callResult (result .number) (result .state) (result .memory) (pick (libraryStruck exported s m call) (set (result .reply) 642 1) (result .reply))
 
 -- ---- `same`: the bytes at the end
 -- it stores no state: the old bytes stay
 unfoldable pub keepsState : List ℕ → List ℕ → Call → CallResult
-keepsState s m c =
-    let e = exported s m c in
-    callResult (e .number) s (e .memory) (e .reply)
+keepsState s m call =
+    let result = exported s m call in
+    callResult (result .number) s (result .memory) (result .reply)
 
 -- its own number, 2, for an open I2C session; it reads it as the 1 that it is, so that every answer is right
 unfoldable pub coded : List ℕ → List ℕ
@@ -67,15 +67,15 @@ unfoldable pub decoded : List ℕ → List ℕ
 decoded s = pick (eqb (getD s 4 0) 2) (set s 4 1) s
 
 unfoldable pub codesSession : List ℕ → List ℕ → Call → CallResult
-codesSession s m c =
-    let e = exported (decoded s) m c in
-    callResult (e .number) (coded (e .state)) (e .memory) (e .reply)
+codesSession s m call =
+    let result = exported (decoded s) m call in
+    callResult (result .number) (coded (result .state)) (result .memory) (result .reply)
 
 -- a Stop clears the page's first byte, which no later answer shows
 unfoldable pub dropsPageByte : List ℕ → List ℕ → Call → CallResult
-dropsPageByte s m c =
-    let e = exported s m c in
-    callResult (e .number) (e .state) (pick (eqb (c .code) 6) (set (e .memory) pagePlace 0) (e .memory)) (e .reply)
+dropsPageByte s m call =
+    let result = exported s m call in
+    callResult (result .number) (result .state) (pick (eqb (call .code) 6) (set (result .memory) pagePlace 0) (result .memory)) (result .reply)
 
 -- ---- `shut`: what is put right before the transfer ends, so that every answer and all bytes at the end are right
 -- a struck frame leaves VCC 0 in the state
@@ -83,30 +83,30 @@ unfoldable pub supplied : List ℕ → List ℕ
 supplied s = pick (transferOpen (tagOf s)) (set s 3 1) s
 
 unfoldable pub marksState : List ℕ → List ℕ → Call → CallResult
-marksState s m c =
-    let e = exported (supplied s) m c in
-    callResult (e .number) (pick (libraryStruck exported (supplied s) m c) (set (e .state) 3 0) (e .state)) (e .memory) (e .reply)
+marksState s m call =
+    let result = exported (supplied s) m call in
+    callResult (result .number) (pick (libraryStruck exported (supplied s) m call) (set (result .state) 3 0) (result .state)) (result .memory) (result .reply)
 
 -- a struck frame leaves 256 more in the memory's last place
 unfoldable pub restored : List ℕ → List ℕ
 restored m = set m 1023 (getD m 1023 0 % 256)
 
 unfoldable pub marksMemory : List ℕ → List ℕ → Call → CallResult
-marksMemory s m c =
-    let e = exported s (restored m) c in
-    callResult (e .number) (e .state) (pick (libraryStruck exported s (restored m) c) (set (e .memory) 1023 (getD (e .memory) 1023 0 + 256)) (e .memory)) (e .reply)
+marksMemory s m call =
+    let result = exported s (restored m) call in
+    callResult (result .number) (result .state) (pick (libraryStruck exported s (restored m) call) (set (result .memory) 1023 (getD (result .memory) 1023 0 + 256)) (result .memory)) (result .reply)
 
 -- in a transfer the field stands the wrong way round in the state: by that state a struck frame's reply is another
 unfoldable pub turned : List ℕ → List ℕ
 turned s = pick (transferOpen (tagOf s)) (set s 0 (1 - getD s 0 0)) s
 
 unfoldable pub turnsField : List ℕ → List ℕ → Call → CallResult
-turnsField s m c =
-    let e = exported (turned s) m c in
-    callResult (e .number) (turned (e .state)) (e .memory) (e .reply)
+turnsField s m call =
+    let result = exported (turned s) m call in
+    callResult (result .number) (turned (result .state)) (result .memory) (result .reply)
 
 -- ---- the start: a programming end is answered Ack, but only where the tag has something that a narrower claim would leave out
 unfoldable pub wrongWhere : (Tag → Bool) → List ℕ → List ℕ → Call → CallResult
-wrongWhere has s m c =
-    let e = exported s m c in
-    callResult (pick (eqb (c .code) 7 && has (tagOf s)) 0x101 (e .number)) (e .state) (e .memory) (e .reply)
+wrongWhere has s m call =
+    let result = exported s m call in
+    callResult (pick (eqb (call .code) 7 && has (tagOf s)) 0x101 (result .number)) (result .state) (result .memory) (result .reply)

@@ -18,13 +18,13 @@ decodesRule s = refusalRule (not (decodes s)) OutOfRange
 
 -- the UID has not its 8 bytes
 abbrev pub uidRule : List ℕ → RefusalRule
-uidRule u = refusalRule (not (eqb (length u) 8)) UidLength
+uidRule uid = refusalRule (not (eqb (length uid) 8)) UidLength
 
 -- 1, 2 and 3 are judged without a state: each is given exactly when document 01 says. 13 comes right before the first refusal that reads the state,
 -- which is 4: bytes that decode to no state, or (by the model) a tag that breaks a range.
 abbrev pub stepRules : List ℕ → List ℕ → List ℕ → ℕ → ℕ → List RefusalRule
 stepRules s m o code value = callRules m o code value ++ stateRule s ∷ decodesRule s ∷ []
 
--- 1 without a state, as above; then 13, then 14; u is the UID
+-- 1 without a state, as above; then 13, then 14
 abbrev pub freshCallRules : List ℕ → List ℕ → List ℕ → List RefusalRule
-freshCallRules u m s = freshRules m ++ stateRule s ∷ uidRule u ∷ []
+freshCallRules uid m s = freshRules m ++ stateRule s ∷ uidRule uid ∷ []

@@ -10,7 +10,7 @@ use Rattle.hex.specs.Hex.{allHex}
 -- the bytes before the first line feed, counted
 unfoldable pub lineLength : List ℕ → ℕ
 lineLength [] = 0
-lineLength (b ∷ s) = pick (eqb b 10) 0 (suc (lineLength s))
+lineLength (x ∷ s) = pick (eqb x 10) 0 (suc (lineLength s))
 
 -- 0 or 1 behind the tab
 abbrev pub isLevel : List ℕ → Bool

@@ -10,20 +10,20 @@ use Rattle.mailbox.specs.declared.Mailbox.{Mailbox}
 use Rattle.mailbox.specs.Parts.{withPut, withCurrent, withEnabled, withHostMessage, withRfMessage, withLength}
 
 abbrev pub weight : Bool → ℕ → ℕ
-weight b w = pick b w 0
+weight on n = pick on n 0
 
 -- MB_CTRL_Dyn
 unfoldable pub controlByte : Mailbox → ℕ
-controlByte m =
-    weight (m .enabled) 0x01
-    + weight (m .host .put) 0x02
-    + weight (m .rf .put) 0x04
-    + weight (m .host .current) 0x40
-    + weight (m .rf .current) 0x80
+controlByte mailbox =
+    weight (mailbox .enabled) 0x01
+    + weight (mailbox .host .put) 0x02
+    + weight (mailbox .rf .put) 0x04
+    + weight (mailbox .host .current) 0x40
+    + weight (mailbox .rf .current) 0x80
 
 -- "MB_LEN_Dyn is length minus 1, or 0 when empty": one byte, for a length of at most 256
 unfoldable pub lengthByte : Mailbox → ℕ
-lengthByte m = (m .length - 1) % 256
+lengthByte mailbox = (mailbox .length - 1) % 256
 
 abbrev pub noMessage : Message
 noMessage = record { put = false; current = false }
@@ -33,35 +33,35 @@ abbrev pub emptyMailbox : Mailbox
 emptyMailbox = record { enabled = false; host = noMessage; rf = noMessage; length = 0 }
 
 abbrev pub disabled : Mailbox → Mailbox
-disabled m = emptyMailbox
+disabled mailbox = emptyMailbox
 
 -- "Setting b0 works only with MB_MODE 1 and VCC, otherwise it stays as it was"
 unfoldable pub enabled : MbMode → Bool → Mailbox → Mailbox
-enabled mode vcc m =
-    pick (isSet 1 (mode .bits) && vcc) (withEnabled true m)
-    m
+enabled mode vcc mailbox =
+    pick (isSet 1 (mode .bits) && vcc) (withEnabled true mailbox)
+    mailbox
 
 -- a write of MB_CTRL_Dyn, "using bit 0 only"
 unfoldable pub controlled : ℕ → MbMode → Bool → Mailbox → Mailbox
-controlled x mode vcc m = pick (isSet 1 x) (enabled mode vcc m) (disabled m)
+controlled x mode vcc mailbox = pick (isSet 1 x) (enabled mode vcc mailbox) (disabled mailbox)
 
 -- "A put sets bytes, length, its PUT and CURRENT, and clears the other CURRENT."
 abbrev pub putMessage : Message
 putMessage = record { put = true; current = true }
 
 abbrev pub replaced : Message → Message
-replaced m = withCurrent false m
+replaced message = withCurrent false message
 
 abbrev pub hostPut : ℕ → Mailbox → Mailbox
-hostPut n m = withLength n (withHostMessage putMessage (withRfMessage (replaced (m .rf)) m))
+hostPut n mailbox = withLength n (withHostMessage putMessage (withRfMessage (replaced (mailbox .rf)) mailbox))
 
 abbrev pub radioPut : ℕ → Mailbox → Mailbox
-radioPut n m = withLength n (withRfMessage putMessage (withHostMessage (replaced (m .host)) m))
+radioPut n mailbox = withLength n (withRfMessage putMessage (withHostMessage (replaced (mailbox .host)) mailbox))
 
 -- "Fetching the last byte of an RF message clears RF_PUT"
 abbrev pub hostRead : Mailbox → Mailbox
-hostRead m = withRfMessage (withPut false (m .rf)) m
+hostRead mailbox = withRfMessage (withPut false (mailbox .rf)) mailbox
 
 -- "a till's reading of the last byte of a host message clears HOST_PUT"
 abbrev pub radioRead : Mailbox → Mailbox
-radioRead m = withHostMessage (withPut false (m .host)) m
+radioRead mailbox = withHostMessage (withPut false (mailbox .host)) mailbox

@@ -6,20 +6,20 @@ use Rattle.mailbox.specs.declared.Mailbox.{Mailbox}
 
 -- ---- one side's bits of MB_CTRL_Dyn
 abbrev pub withPut : Bool → Message → Message
-withPut x m = record { put = x; current = m .current }
+withPut x message = record { put = x; current = message .current }
 
 abbrev pub withCurrent : Bool → Message → Message
-withCurrent x m = record { put = m .put; current = x }
+withCurrent x message = record { put = message .put; current = x }
 
 -- ---- the mailbox
 abbrev pub withEnabled : Bool → Mailbox → Mailbox
-withEnabled x b = record { enabled = x; host = b .host; rf = b .rf; length = b .length }
+withEnabled x mailbox = record { enabled = x; host = mailbox .host; rf = mailbox .rf; length = mailbox .length }
 
 abbrev pub withHostMessage : Message → Mailbox → Mailbox
-withHostMessage m b = record { enabled = b .enabled; host = m; rf = b .rf; length = b .length }
+withHostMessage message mailbox = record { enabled = mailbox .enabled; host = message; rf = mailbox .rf; length = mailbox .length }
 
 abbrev pub withRfMessage : Message → Mailbox → Mailbox
-withRfMessage m b = record { enabled = b .enabled; host = b .host; rf = m; length = b .length }
+withRfMessage message mailbox = record { enabled = mailbox .enabled; host = mailbox .host; rf = message; length = mailbox .length }
 
 abbrev pub withLength : ℕ → Mailbox → Mailbox
-withLength n b = record { enabled = b .enabled; host = b .host; rf = b .rf; length = n }
+withLength n mailbox = record { enabled = mailbox .enabled; host = mailbox .host; rf = mailbox .rf; length = n }

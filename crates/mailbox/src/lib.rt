@@ -21,12 +21,12 @@ pub struct Mailbox {
     pub length: u16,
 }
 
-fn weight(b: bool, w: u8) -> u8
-    ensures { λ r. ⌜ r ≡ weight b w ⌝ }
-    ensures { λ r. ⌜ r ≤ w ⌝ }
+fn weight(on: bool, n: u8) -> u8
+    ensures { λ r. ⌜ r ≡ weight on n ⌝ }
+    ensures { λ r. ⌜ r ≤ n ⌝ }
 {
-    if b {
-        return w;
+    if on {
+        return n;
     }
     0
 }

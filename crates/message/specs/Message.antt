@@ -15,22 +15,22 @@ use Rattle.reply.specs.Outcome.{CommandResult, commandResult, fails, sideMailbo
 
 -- "AB Length: 0Fh if MB_EN is 0; MB_LEN_Dyn"
 unfoldable pub lengthOf : RadioSide → List ℕ → CommandResult
-lengthOf s m =
-    pick (not (s .core .mailbox .enabled)) (fails MailboxDisabled s m)
-    (commandResult (good (lengthByte (s .core .mailbox) ∷ [])) s m)
+lengthOf v m =
+    pick (not (v .core .mailbox .enabled)) (fails MailboxDisabled v m)
+    (commandResult (good (lengthByte (v .core .mailbox) ∷ [])) v m)
 
 -- "pointer p, n; 0,0 is the whole, else n+1 bytes"
 unfoldable pub asked : Mailbox → ℕ → ℕ → ℕ
-asked b p n = pick (eqb p 0 && eqb n 0) (b .length) (n + 1)
+asked mailbox pointer n = pick (eqb pointer 0 && eqb n 0) (mailbox .length) (n + 1)
 
 -- "a till's reading of the last byte of a host message clears HOST_PUT"
 unfoldable pub mailboxAfterRead : Mailbox → ℕ → ℕ → Mailbox
-mailboxAfterRead b p count = pick (b .host .current && eqb (p + count) (b .length)) (radioRead b) b
+mailboxAfterRead mailbox pointer count = pick (mailbox .host .current && eqb (pointer + count) (mailbox .length)) (radioRead mailbox) mailbox
 
 -- "AC Read: 0Fh if MB_EN is 0; .. 0Fh past or empty"
 unfoldable pub readMessageOf : RadioSide → List ℕ → ℕ → ℕ → CommandResult
-readMessageOf s m p n =
-    let b = s .core .mailbox in
-    pick (not (b .enabled)) (fails MailboxDisabled s m)
-    (pick (ltb (b .length) (p + asked b p n) || eqb (b .length) 0) (fails PastMessage s m)
-    (commandResult (good (bytesAt m (mailboxPlace + p) (asked b p n))) (sideMailbox (mailboxAfterRead b p (asked b p n)) s) m))
+readMessageOf v m pointer n =
+    let mailbox = v .core .mailbox in
+    pick (not (mailbox .enabled)) (fails MailboxDisabled v m)
+    (pick (ltb (mailbox .length) (pointer + asked mailbox pointer n) || eqb (mailbox .length) 0) (fails PastMessage v m)
+    (commandResult (good (bytesAt m (mailboxPlace + pointer) (asked mailbox pointer n))) (sideMailbox (mailboxAfterRead mailbox pointer (asked mailbox pointer n)) v) m))

@@ -8,62 +8,68 @@ use reply::RadioOutcome;
 use reply::RadioSide;
 
 // AB.
-pub fn length(s: RadioSide, m: &[u8], out: &mut [u8]) -> RadioOutcome
-    ensures { λ r. ⌜ radioResult r (now (m .entry)) (now (out .exit)) ≡ finish (lengthOf s (now (m .entry))) (now (out .entry)) ⌝ }
+pub fn length(v: RadioSide, m: &[u8], out: &mut [u8]) -> RadioOutcome
+    ensures { λ r. ⌜ radioResult r (now (m .entry)) (now (out .exit)) ≡ finish (lengthOf v (now (m .entry))) (now (out .entry)) ⌝ }
 {
-    let b = s.core.mailbox;
+    let b = v.core.mailbox;
     if !b.enabled {
         return RadioOutcome {
             answer: reply::error(out, RadioError::MailboxDisabled),
-            side: s,
+            side: v,
         };
     }
     RadioOutcome {
         answer: reply::byte(out, b.length_byte()),
-        side: s,
+        side: v,
     }
 }
 
 // How many bytes are asked for.
-fn asked(b: Mailbox, p: u8, n: u8) -> u16
-    ensures { λ r. ⌜ r ≡ asked b p n ⌝ }
+fn asked(mailbox: Mailbox, pointer: u8, n: u8) -> u16
+    ensures { λ r. ⌜ r ≡ asked mailbox pointer n ⌝ }
 {
-    if (p == 0) & (n == 0) {
-        return b.length;
+    if (pointer == 0) & (n == 0) {
+        return mailbox.length;
     }
     n as u16 + 1
 }
 
-fn mailbox_after(b: Mailbox, p: u8, count: u16) -> Mailbox
-    ensures { λ r. ⌜ r ≡ mailboxAfterRead b p count ⌝ }
+fn mailbox_after(mailbox: Mailbox, pointer: u8, count: u16) -> Mailbox
+    ensures { λ r. ⌜ r ≡ mailboxAfterRead mailbox pointer count ⌝ }
 {
-    if b.host.current & (p as u32 + count as u32 == b.length as u32) {
-        return b.radio_read();
+    if mailbox.host.current & (pointer as u32 + count as u32 == mailbox.length as u32) {
+        return mailbox.radio_read();
     }
-    b
+    mailbox
 }
 
 // AC.
-pub fn read(s: RadioSide, m: &[u8], out: &mut [u8], p: u8, n: u8) -> RadioOutcome
-    ensures { λ r. ⌜ radioResult r (now (m .entry)) (now (out .exit)) ≡ finish (readMessageOf s (now (m .entry)) p n) (now (out .entry)) ⌝ }
+pub fn read(v: RadioSide, m: &[u8], out: &mut [u8], pointer: u8, n: u8) -> RadioOutcome
+    ensures { λ r. ⌜ radioResult r (now (m .entry)) (now (out .exit)) ≡ finish (readMessageOf v (now (m .entry)) pointer n) (now (out .entry)) ⌝ }
 {
-    let b = s.core.mailbox;
+    let b = v.core.mailbox;
     if !b.enabled {
         return RadioOutcome {
             answer: reply::error(out, RadioError::MailboxDisabled),
-            side: s,
+            side: v,
         };
     }
-    let count = asked(b, p, n);
-    if ((b.length as u32) < p as u32 + count as u32) | (b.length == 0) {
+    let count = asked(b, pointer, n);
+    if ((b.length as u32) < pointer as u32 + count as u32) | (b.length == 0) {
         return RadioOutcome {
             answer: reply::error(out, RadioError::PastMessage),
-            side: s,
+            side: v,
         };
     }
     parts::put(out, 0, 0x00);
-    parts::put_bytes(out, 1, m, tag::MAILBOX_AT + p as usize, count as usize);
-    let next = s.with_mailbox(mailbox_after(b, p, count));
+    parts::put_bytes(
+        out,
+        1,
+        m,
+        tag::MAILBOX_AT + pointer as usize,
+        count as usize,
+    );
+    let next = v.with_mailbox(mailbox_after(b, pointer, count));
     RadioOutcome {
         answer: reply::close(out, 1 + count as u32),
         side: next,

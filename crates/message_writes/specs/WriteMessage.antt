@@ -15,10 +15,10 @@ use Rattle.reply.specs.Outcome.{CommandResult, commandResult, fails, sideMailbo
 
 -- "MB_EN and no PUT"
 unfoldable pub takesMessage : Mailbox → Bool
-takesMessage b = b .enabled && not (b .host .put) && not (b .rf .put)
+takesMessage mailbox = mailbox .enabled && not (mailbox .host .put) && not (mailbox .rf .put)
 
 -- "AA Write Message: length-1, data; 0Fh unless MB_EN and no PUT"; more is length-1, the data stand at place `at` of the frame
 unfoldable pub writeMessageOf : RadioSide → List ℕ → ℕ → List ℕ → ℕ → CommandResult
-writeMessageOf s m more frame at =
-    pick (not (takesMessage (s .core .mailbox))) (fails MailboxUnavailable s m)
-    (commandResult (good []) (sideMailbox (radioPut (more + 1) (s .core .mailbox)) s) (sets m mailboxPlace (bytesAt frame at (more + 1))))
+writeMessageOf v m more frame at =
+    pick (not (takesMessage (v .core .mailbox))) (fails MailboxUnavailable v m)
+    (commandResult (good []) (sideMailbox (radioPut (more + 1) (v .core .mailbox)) v) (sets m mailboxPlace (bytesAt frame at (more + 1))))

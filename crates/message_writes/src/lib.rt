@@ -7,33 +7,33 @@ use mailbox::Mailbox;
 use reply::RadioOutcome;
 use reply::RadioSide;
 
-fn takes_message(b: Mailbox) -> bool
-    ensures { λ r. ⌜ r ≡ takesMessage b ⌝ }
+fn takes_message(mailbox: Mailbox) -> bool
+    ensures { λ r. ⌜ r ≡ takesMessage mailbox ⌝ }
 {
-    b.enabled & !b.host.put & !b.rf.put
+    mailbox.enabled & !mailbox.host.put & !mailbox.rf.put
 }
 
 // AA, more being one less than the length; the data stand at a place of the frame.
 pub fn write(
-    s: RadioSide,
+    v: RadioSide,
     m: &mut [u8],
     out: &mut [u8],
     more: u8,
     frame: &[u8],
     at: usize,
 ) -> RadioOutcome
-    ensures { λ r. ⌜ radioResult r (now (m .exit)) (now (out .exit)) ≡ finish (writeMessageOf s (now (m .entry)) more (now (frame .entry)) at) (now (out .entry)) ⌝ }
+    ensures { λ r. ⌜ radioResult r (now (m .exit)) (now (out .exit)) ≡ finish (writeMessageOf v (now (m .entry)) more (now (frame .entry)) at) (now (out .entry)) ⌝ }
 {
-    let b = s.core.mailbox;
+    let b = v.core.mailbox;
     if !takes_message(b) {
         return RadioOutcome {
             answer: reply::error(out, RadioError::MailboxUnavailable),
-            side: s,
+            side: v,
         };
     }
     let n = more as u16 + 1;
     parts::put_bytes(m, tag::MAILBOX_AT, frame, at, n as usize);
-    let next = s.with_mailbox(b.radio_put(n));
+    let next = v.with_mailbox(b.radio_put(n));
     RadioOutcome {
         answer: reply::done(out),
         side: next,

@@ -19,8 +19,8 @@ pub record Fit (t : Tag) (m : List ℕ) : Type 0 where
 
 -- every call keeps that
 abbrev pub StepKeepsFit : Type 0
-StepKeepsFit = (t : Tag) (m o : List ℕ) (code value : ℕ) (s : List ℕ) → areBytes s ≡ true → Fit t m
-    → Fit (stepOf t m o code value s .tag) (stepOf t m o code value s .memory)
+StepKeepsFit = (t : Tag) (m o : List ℕ) (code value : ℕ) (f : List ℕ) → areBytes f ≡ true → Fit t m
+    → Fit (stepOf t m o code value f .tag) (stepOf t m o code value f .memory)
 
 -- the fresh tag has it
 abbrev pub FreshFits : Type 0

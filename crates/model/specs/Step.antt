@@ -35,11 +35,11 @@ pub record StepResult : Type 0 where
   pub reply : List ℕ
 
 abbrev pub stepResult : Answer → Tag → List ℕ → List ℕ → StepResult
-stepResult a t m o = record { answer = a; tag = t; memory = m; reply = o }
+stepResult answer t m o = record { answer = answer; tag = t; memory = m; reply = o }
 
 -- what a function over both lent buffers leaves
 abbrev pub stepResultOf : Outcome → List ℕ → List ℕ → StepResult
-stepResultOf r m o = stepResult (r .answer) (r .tag) m o
+stepResultOf outcome m o = stepResult (outcome .answer) (outcome .tag) m o
 
 -- ---- the answers, case by case
 -- an answer is a refusal
@@ -54,7 +54,7 @@ isRefused (Reply n) = false
 
 -- "A refusal returns the number and the state handed in; every lent byte stays."
 abbrev pub refused : Refusal → Tag → List ℕ → List ℕ → StepResult
-refused r t m o = stepResult (Refused r) t m o
+refused refusal t m o = stepResult (Refused refusal) t m o
 
 -- to a wire signal: none, Ack, NoAck or a byte
 unfoldable pub fromWire : WireAnswer → Answer
@@ -72,22 +72,22 @@ fromRadio (RadioReply n) = Reply n
 abbrev pub transferOpen : Tag → Bool
 transferOpen t = isOpen (t .host .bus)
 
--- ---- one signal that is not refused; s is the frame, o the reply buffer
+-- ---- one signal that is not refused; f is the frame, o the reply buffer
 unfoldable pub actOf : Signal → Tag → List ℕ → List ℕ → List ℕ → StepResult
-actOf (Wire x) t m o s =
-    let e = signalOf (wireSide t) (t .uid) m x in
-    stepResult (fromWire (e .answer)) (withWire (e .side) t) (e .memory) o
-actOf (Field on) t m o s = stepResult Nothing (withTagAir (fieldAt on (t .air)) t) m o
-actOf Frame t m o s =
-    let r = radioOf (radioSide t) (t .uid) (t .host .vcc) (transferOpen t) (t .host .programming) m s in
-    stepResult (fromRadio (answerOf (r .reply))) (withRadio (r .side) t) (r .memory) (bufferOf (r .reply) o)
+actOf (Wire signal) t m o f =
+    let result = signalOf (wireSide t) (t .uid) m signal in
+    stepResult (fromWire (result .answer)) (withWire (result .side) t) (result .memory) o
+actOf (Field on) t m o f = stepResult Nothing (withTagAir (fieldAt on (t .air)) t) m o
+actOf Frame t m o f =
+    let result = radioOf (radioSide t) (t .uid) (t .host .vcc) (transferOpen t) (t .host .programming) m f in
+    stepResult (fromRadio (answerOf (result .reply))) (withRadio (result .side) t) (result .memory) (bufferOf (result .reply) o)
 
 -- ---- the two entry points
 -- one call: the refusals "in this order", then the signal
 unfoldable pub stepOf : Tag → List ℕ → List ℕ → ℕ → ℕ → List ℕ → StepResult
-stepOf t m o code value s =
-    unlessRefused (judgement (entryRules t m o code value)) (λ (r : Refusal). refused r t m o)
-    (actOf (signalBy code value) t m o s)
+stepOf t m o code value f =
+    unlessRefused (judgement (entryRules t m o code value)) (λ (refusal : Refusal). refused refusal t m o)
+    (actOf (signalBy code value) t m o f)
 
 -- without a reply buffer
 pub record FreshResult : Type 0 where
@@ -96,10 +96,10 @@ pub record FreshResult : Type 0 where
   pub memory : List ℕ
 
 abbrev pub freshResult : Answer → Tag → List ℕ → FreshResult
-freshResult a t m = record { answer = a; tag = t; memory = m }
+freshResult answer t m = record { answer = answer; tag = t; memory = m }
 
 -- the fresh tag; "all bytes .. 0". Memory of another length is refusal 1 and stays.
 unfoldable pub freshOf : Uid → List ℕ → FreshResult
 freshOf u m =
-    unlessRefused (judgement (freshRules m)) (λ (r : Refusal). freshResult (Refused r) (freshTag u) m)
+    unlessRefused (judgement (freshRules m)) (λ (refusal : Refusal). freshResult (Refused refusal) (freshTag u) m)
     (freshResult Nothing (freshTag u) (replicate memoryBytes 0))

@@ -58,10 +58,10 @@ fn signal_by(code: u8, value: u16) -> Signal
 }
 
 // ---- the answers
-fn from_wire(a: signal::WireAnswer) -> Answer
-    ensures { λ r. ⌜ r ≡ fromWire a ⌝ }
+fn from_wire(answer: signal::WireAnswer) -> Answer
+    ensures { λ r. ⌜ r ≡ fromWire answer ⌝ }
 {
-    match a {
+    match answer {
         signal::WireAnswer::Nothing => Answer::Nothing,
         signal::WireAnswer::Ack => Answer::Ack,
         signal::WireAnswer::NoAck => Answer::NoAck,
@@ -69,22 +69,22 @@ fn from_wire(a: signal::WireAnswer) -> Answer
     }
 }
 
-fn from_radio(a: reply::RadioAnswer) -> Answer
-    ensures { λ r. ⌜ r ≡ fromRadio a ⌝ }
+fn from_radio(answer: reply::RadioAnswer) -> Answer
+    ensures { λ r. ⌜ r ≡ fromRadio answer ⌝ }
 {
-    match a {
+    match answer {
         reply::RadioAnswer::Silence => Answer::Silence,
         reply::RadioAnswer::Reply(n) => Answer::Reply(n),
     }
 }
 
 // ---- a signal that is not refused
-fn by_wire(t: Tag, m: &mut [u8], s: signal::WireSignal) -> Outcome
-    ensures { λ r. ⌜ freshResult (r .answer) (r .tag) (now (m .exit)) ≡ (let e = signalOf (wireSide t) (t .uid) (now (m .entry)) s in freshResult (fromWire (e .answer)) (withWire (e .side) t) (e .memory)) ⌝ }
+fn by_wire(t: Tag, m: &mut [u8], signal: signal::WireSignal) -> Outcome
+    ensures { λ r. ⌜ freshResult (r .answer) (r .tag) (now (m .exit)) ≡ (let result = signalOf (wireSide t) (t .uid) (now (m .entry)) signal in freshResult (fromWire (result .answer)) (withWire (result .side) t) (result .memory)) ⌝ }
 {
     let host = t.host;
     let core = t.core;
-    let o = wire::step(WireSide { host, core }, t.uid, m, s);
+    let o = wire::step(WireSide { host, core }, t.uid, m, signal);
     let answer = o.answer;
     let side = o.side;
     let next_host = side.host;
@@ -140,10 +140,10 @@ fn by_frame(t: Tag, m: &mut [u8], out: &mut [u8], frame: &[u8]) -> Outcome
     }
 }
 
-fn act(s: Signal, t: Tag, m: &mut [u8], out: &mut [u8], frame: &[u8]) -> Outcome
-    ensures { λ r. ⌜ stepResultOf r (now (m .exit)) (now (out .exit)) ≡ actOf s t (now (m .entry)) (now (out .entry)) (now (frame .entry)) ⌝ }
+fn act(signal: Signal, t: Tag, m: &mut [u8], out: &mut [u8], frame: &[u8]) -> Outcome
+    ensures { λ r. ⌜ stepResultOf r (now (m .exit)) (now (out .exit)) ≡ actOf signal t (now (m .entry)) (now (out .entry)) (now (frame .entry)) ⌝ }
 {
-    match s {
+    match signal {
         Signal::Wire(x) => by_wire(t, m, x),
         Signal::Field(on) => by_field(t, on),
         Signal::Frame => by_frame(t, m, out, frame),

@@ -9,4 +9,4 @@ use Rattle.model.specs.Step.{isRefused}
 
 -- "After any refusal every byte of every lent buffer is as before, the state's too. Otherwise the state buffer holds the next state."
 unfoldable pub stateAfter : List ℕ → Answer → Tag → List ℕ
-stateAfter s a t = pick (isRefused a) s (bytesOf t)
+stateAfter s answer t = pick (isRefused answer) s (bytesOf t)

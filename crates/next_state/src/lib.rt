@@ -7,10 +7,10 @@ ghost use Rattle.next_state.specs.After.{stateAfter};
 use model::Answer;
 use model::Outcome;
 
-fn is_refused(a: Answer) -> bool
-    ensures { λ r. ⌜ r ≡ isRefused a ⌝ }
+fn is_refused(answer: Answer) -> bool
+    ensures { λ r. ⌜ r ≡ isRefused answer ⌝ }
 {
-    match a {
+    match answer {
         Answer::Refused(r) => true,
         Answer::Nothing => false,
         Answer::Ack => false,
@@ -22,15 +22,15 @@ fn is_refused(a: Answer) -> bool
 }
 
 // Stores the next state, unless the call was refused. A buffer of another length stays.
-pub fn keep(o: Outcome, s: &mut [u8])
-    ensures { λ _. ⌜ (length (now (s .entry)) ≡ stateBytes → now (s .exit) ≡ stateAfter (now (s .entry)) (o .answer) (o .tag)) ⌝ }
+pub fn keep(outcome: Outcome, s: &mut [u8])
+    ensures { λ _. ⌜ (length (now (s .entry)) ≡ stateBytes → now (s .exit) ≡ stateAfter (now (s .entry)) (outcome .answer) (outcome .tag)) ⌝ }
 {
     // Known from here on, the length is not tested again at each byte.
     if s.len() != state::STATE_BYTES {
         return;
     }
-    let answer = o.answer;
+    let answer = outcome.answer;
     if !is_refused(answer) {
-        state_encode::encode(o.tag, s);
+        state_encode::encode(outcome.tag, s);
     }
 }

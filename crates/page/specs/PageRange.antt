@@ -13,8 +13,8 @@ use Rattle.rule.specs.Rule.{acked}
 
 -- each of the page's k bytes would be Acked at its place
 unfoldable pub pageAcked : Space → Core → Bool → ℕ → List ℕ → ℕ → Bool
-pageAcked s c session f m zero = true
-pageAcked s c session f m (suc k) = pageAcked s c session f m k && acked s c session f k (page k m) (getD m (pagePlace + k) 0)
+pageAcked space c session first m zero = true
+pageAcked space c session first m (suc k) = pageAcked space c session first m k && acked space c session first k (page k m) (getD m (pagePlace + k) 0)
 
 -- of a bus with counter c
 unfoldable pub busInRange : Bus → ℕ → Core → Bool → List ℕ → Bool

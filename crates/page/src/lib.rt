@@ -10,30 +10,30 @@ use tag::Core;
 
 // A page of user space, whatever its bytes. At most three places decide for all: the first and the last, since the bytes
 // between two of one area lie in it, and place 4 in the block after the first, since only blocks 0 and 1 can be locked.
-fn user_page(c: Core, session: bool, f: u16, k: u16) -> bool
-    ensures { λ r. ⌜ ((m : List ℕ) → r ≡ pageAcked User c session f m k) ⌝ }
+fn user_page(c: Core, session: bool, first: u16, k: u16) -> bool
+    ensures { λ r. ⌜ ((m : List ℕ) → r ≡ pageAcked User c session first m k) ⌝ }
 {
     if k == 0 {
         return true;
     }
     let last = k - 1;
-    let first_acked = user_rule::user_acked(c, session, f, 0);
-    let last_acked = user_rule::user_acked(c, session, f, last);
+    let first_acked = user_rule::user_acked(c, session, first, 0);
+    let last_acked = user_rule::user_acked(c, session, first, last);
     let both = (last < 256) & first_acked & last_acked;
     if last < 4 {
         return both;
     }
-    both & user_rule::user_acked(c, session, f, 4)
+    both & user_rule::user_acked(c, session, first, 4)
 }
 
 // A page of system space, byte for byte. It stops at the first that would not be Acked.
-fn system_page(c: Core, session: bool, m: &[u8], f: u16, k: u16) -> bool
-    ensures { λ r. ⌜ r ≡ pageAcked System c session f (now (m .entry)) k ⌝ }
+fn system_page(c: Core, session: bool, m: &[u8], first: u16, k: u16) -> bool
+    ensures { λ r. ⌜ r ≡ pageAcked System c session first (now (m .entry)) k ⌝ }
 {
     let mut i: u16 = 0;
     while i < k {
         let x = parts::byte_in(m, tag::PAGE_AT, i as usize);
-        if !rule::acked(Space::System, c, session, m, f, i, x) {
+        if !rule::acked(Space::System, c, session, m, first, i, x) {
             return false;
         }
         i += 1;
@@ -41,13 +41,13 @@ fn system_page(c: Core, session: bool, m: &[u8], f: u16, k: u16) -> bool
     true
 }
 
-// Whether each of the page's k bytes, from address f on, would be Acked.
-fn page_acked(s: Space, c: Core, session: bool, m: &[u8], f: u16, k: u16) -> bool
-    ensures { λ r. ⌜ r ≡ pageAcked s c session f (now (m .entry)) k ⌝ }
+// Whether each of the page's k bytes, from the first address on, would be Acked.
+fn page_acked(space: Space, c: Core, session: bool, m: &[u8], first: u16, k: u16) -> bool
+    ensures { λ r. ⌜ r ≡ pageAcked space c session first (now (m .entry)) k ⌝ }
 {
-    match s {
-        Space::User => user_page(c, session, f, k),
-        Space::System => system_page(c, session, m, f, k),
+    match space {
+        Space::User => user_page(c, session, first, k),
+        Space::System => system_page(c, session, m, first, k),
     }
 }
 

@@ -27,7 +27,7 @@ pub data Value : Type 0 where
   replied : List ℕ → Value
 
 unfoldable pub valueOf : Answer → List ℕ → Value
-valueOf (Refused r) o = refusedWith r
+valueOf (Refused refusal) o = refusedWith refusal
 valueOf Nothing o = noAnswer
 valueOf Ack o = ack
 valueOf NoAck o = noAck
@@ -37,7 +37,7 @@ valueOf (Reply n) o = replied (take n o)
 
 unfoldable pub values : List CallAnswer → List Value
 values [] = []
-values (a ∷ s) = valueOf (a .answer) (a .buffer) ∷ values s
+values (answer ∷ answers) = valueOf (answer .answer) (answer .buffer) ∷ values answers
 
 -- a reply of these bytes and their CRC
 abbrev pub reply : List ℕ → Value
@@ -50,14 +50,14 @@ pub record Result : Type 0 where
   pub leaves : Device
 
 abbrev pub resultOf : RunResult → Result
-resultOf r = record { answers = values (r .answers); leaves = r .device }
+resultOf result = record { answers = values (result .answers); leaves = result .device }
 
 pub record Part : Type 0 where
   pub calls : List Call
   pub result : Result
 
 abbrev pub part : List Call → List Value → Device → Part
-part cs vs d = record { calls = cs; result = record { answers = vs; leaves = d } }
+part calls values d = record { calls = calls; result = record { answers = values; leaves = d } }
 
 pub data Pair : Type 0 where
   crcIs : List ℕ → ℕ → Pair
@@ -88,9 +88,9 @@ AllHold (p ∷ ps) = Holds p × AllHold ps
 abbrev pub present : ℕ → Call
 present n = frame (0x02 ∷ 0xB3 ∷ 0x02 ∷ n ∷ zeros 8)
 
--- register p written by radio
+-- a register written by radio
 abbrev pub config : ℕ → ℕ → Call
-config p x = frame (0x02 ∷ 0xA1 ∷ 0x02 ∷ p ∷ x ∷ [])
+config pointer x = frame (0x02 ∷ 0xA1 ∷ 0x02 ∷ pointer ∷ x ∷ [])
 
 abbrev pub goodReply : Value
 goodReply = reply (0x00 ∷ [])
@@ -99,7 +99,7 @@ abbrev pub error : ℕ → Value
 error code = reply (0x01 ∷ code ∷ [])
 
 abbrev pub readBlock : ℕ → Call
-readBlock b = frame (0x02 ∷ 0x20 ∷ b ∷ [])
+readBlock x = frame (0x02 ∷ 0x20 ∷ x ∷ [])
 
 -- a block of zeros
 abbrev pub block : Value
@@ -203,7 +203,7 @@ pair9more = goes (fillPage
 
 -- 10. "A 3-byte host message: AC 02 at 02,00 gives its last byte; at 03,00 and FF,00 01 0F.": reading the last byte clears HOST_PUT
 abbrev pub readMessage : ℕ → ℕ → Call
-readMessage p n = frame (0x02 ∷ 0xAC ∷ 0x02 ∷ p ∷ n ∷ [])
+readMessage pointer n = frame (0x02 ∷ 0xAC ∷ 0x02 ∷ pointer ∷ n ∷ [])
 
 abbrev pub message : List ℕ
 message = 0x11 ∷ 0x22 ∷ 0x33 ∷ []

@@ -16,10 +16,10 @@ unfoldable pub copied : List ℕ → ℕ → ℕ → ℕ → List ℕ
 copied m to from zero = m
 copied m to from (suc n) = set (copied m to from n) (to + n) (getD (copied m to from n) (from + n) 0)
 
--- the first n bytes of x and of y are the same
+-- the first n bytes of s and of the other list are the same
 unfoldable pub agree : ℕ → List ℕ → List ℕ → Bool
-agree zero x y = true
-agree (suc n) x y = agree n x y && eqb (getD x n 0) (getD y n 0)
+agree zero s other = true
+agree (suc n) s other = agree n s other && eqb (getD s n 0) (getD other n 0)
 
 -- every number of a list is a byte
 unfoldable pub areBytes : List ℕ → Bool

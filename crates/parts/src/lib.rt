@@ -30,23 +30,23 @@ pub fn byte_in(s: &[u8], at: usize, i: usize) -> u8
 }
 
 // Stores a byte at a place.
-pub fn put(m: &mut [u8], i: usize, b: u8)
-    ensures { λ _. ⌜ now (m .exit) ≡ set (now (m .entry)) i b ⌝ }
+pub fn put(m: &mut [u8], i: usize, x: u8)
+    ensures { λ _. ⌜ now (m .exit) ≡ set (now (m .entry)) i x ⌝ }
 {
     if i < m.len() {
-        m[i] = b;
+        m[i] = x;
     }
 }
 
 // Stores a byte at place i of what starts at a place.
-pub fn put_in(m: &mut [u8], at: usize, i: usize, b: u8)
-    ensures { λ _. ⌜ now (m .exit) ≡ set (now (m .entry)) (at + i) b ⌝ }
+pub fn put_in(m: &mut [u8], at: usize, i: usize, x: u8)
+    ensures { λ _. ⌜ now (m .exit) ≡ set (now (m .entry)) (at + i) x ⌝ }
 {
     if m.len() <= at {
         return;
     }
     if i < m.len() - at {
-        m[at + i] = b;
+        m[at + i] = x;
     }
 }
 

@@ -13,14 +13,14 @@ use Rattle.reply.specs.Outcome.{CommandResult, commandResult, fails, withAir, s
 
 -- "B3 Present (n, 8 bytes): 10h n above 3, session kept; wrong: session closed, 0Fh"; the password stands at place `at` of the frame
 unfoldable pub presentOf : RadioSide → List ℕ → ℕ → List ℕ → ℕ → CommandResult
-presentOf s m n frame at =
-    pick (ltb 3 n) (fails NoSuchPassword s m)
-    (pick (not (samePassword (radioPassword (s .core .passwords) n) (passwordAt frame at))) (commandResult (fault WrongPassword) (withAir (withRadioSession 0 (s .air)) s) m)
-    (commandResult (good []) (withAir (withRadioSession (n + 1) (s .air)) s) m))
+presentOf v m n frame at =
+    pick (ltb 3 n) (fails NoSuchPassword v m)
+    (pick (not (samePassword (radioPassword (v .core .passwords) n) (passwordAt frame at))) (commandResult (fault WrongPassword) (withAir (withRadioSession 0 (v .air)) v) m)
+    (commandResult (good []) (withAir (withRadioSession (n + 1) (v .air)) v) m))
 
 -- "B1 Write Password: 10h; 12h unless session n"
 unfoldable pub writePasswordOf : RadioSide → List ℕ → ℕ → List ℕ → ℕ → CommandResult
-writePasswordOf s m n frame at =
-    pick (ltb 3 n) (fails NoSuchPassword s m)
-    (pick (not (eqb (s .air .session) (n + 1))) (fails PasswordSessionClosed s m)
-    (commandResult (good []) (sidePasswords (withRadioPassword n (passwordAt frame at) (s .core .passwords)) s) m))
+writePasswordOf v m n frame at =
+    pick (ltb 3 n) (fails NoSuchPassword v m)
+    (pick (not (eqb (v .air .session) (n + 1))) (fails PasswordSessionClosed v m)
+    (commandResult (good []) (sidePasswords (withRadioPassword n (passwordAt frame at) (v .core .passwords)) v) m))

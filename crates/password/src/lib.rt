@@ -12,30 +12,30 @@ const LAST: u8 = 3;
 
 // B3; the password stands at a place of the frame.
 pub fn present(
-    s: RadioSide,
+    v: RadioSide,
     m: &[u8],
     out: &mut [u8],
     n: u8,
     frame: &[u8],
     at: usize,
 ) -> RadioOutcome
-    ensures { λ r. ⌜ radioResult r (now (m .entry)) (now (out .exit)) ≡ finish (presentOf s (now (m .entry)) n (now (frame .entry)) at) (now (out .entry)) ⌝ }
+    ensures { λ r. ⌜ radioResult r (now (m .entry)) (now (out .exit)) ≡ finish (presentOf v (now (m .entry)) n (now (frame .entry)) at) (now (out .entry)) ⌝ }
 {
     if LAST < n {
         return RadioOutcome {
             answer: reply::error(out, RadioError::NoSuchPassword),
-            side: s,
+            side: v,
         };
     }
-    let air = s.air;
-    if !s.core.passwords.radio(n).equals(Password::at(frame, at)) {
-        let closed = s.with_air(air.with_session(0));
+    let air = v.air;
+    if !v.core.passwords.radio(n).equals(Password::at(frame, at)) {
+        let closed = v.with_air(air.with_session(0));
         return RadioOutcome {
             answer: reply::error(out, RadioError::WrongPassword),
             side: closed,
         };
     }
-    let opened = s.with_air(air.with_session(n + 1));
+    let opened = v.with_air(air.with_session(n + 1));
     RadioOutcome {
         answer: reply::done(out),
         side: opened,
@@ -43,24 +43,24 @@ pub fn present(
 }
 
 // B1; the password stands at a place of the frame.
-pub fn write(s: RadioSide, m: &[u8], out: &mut [u8], n: u8, frame: &[u8], at: usize) -> RadioOutcome
-    ensures { λ r. ⌜ radioResult r (now (m .entry)) (now (out .exit)) ≡ finish (writePasswordOf s (now (m .entry)) n (now (frame .entry)) at) (now (out .entry)) ⌝ }
+pub fn write(v: RadioSide, m: &[u8], out: &mut [u8], n: u8, frame: &[u8], at: usize) -> RadioOutcome
+    ensures { λ r. ⌜ radioResult r (now (m .entry)) (now (out .exit)) ≡ finish (writePasswordOf v (now (m .entry)) n (now (frame .entry)) at) (now (out .entry)) ⌝ }
 {
     if LAST < n {
         return RadioOutcome {
             answer: reply::error(out, RadioError::NoSuchPassword),
-            side: s,
+            side: v,
         };
     }
-    if s.air.session != n + 1 {
+    if v.air.session != n + 1 {
         return RadioOutcome {
             answer: reply::error(out, RadioError::PasswordSessionClosed),
-            side: s,
+            side: v,
         };
     }
-    let passwords = s.core.passwords.with_radio(n, Password::at(frame, at));
+    let passwords = v.core.passwords.with_radio(n, Password::at(frame, at));
     RadioOutcome {
         answer: reply::done(out),
-        side: s.with_passwords(passwords),
+        side: v.with_passwords(passwords),
     }
 }

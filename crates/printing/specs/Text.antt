@@ -25,4 +25,4 @@ answerText (Reply n) o = hexText (take (n - 2) o)
 
 -- number, tab, answer, line feed
 unfoldable pub lineText : ℕ → List ℕ → List ℕ
-lineText n a = decimal n ++ 0x09 ∷ a ++ 0x0A ∷ []
+lineText n answer = decimal n ++ 0x09 ∷ answer ++ 0x0A ∷ []

@@ -18,10 +18,10 @@ fn shown_bytes(n: usize) -> usize
 }
 
 // Stores the text of an answer at a place, and gives the place behind it.
-fn put_answer(a: Answer, out: &[u8], text: &mut [u8], at: usize) -> usize
-    ensures { λ r. ⌜ stored r (now (text .exit)) ≡ textAt (now (text .entry)) at (answerText a (now (out .entry))) ⌝ }
+fn put_answer(answer: Answer, out: &[u8], text: &mut [u8], at: usize) -> usize
+    ensures { λ r. ⌜ stored r (now (text .exit)) ≡ textAt (now (text .entry)) at (answerText answer (now (out .entry))) ⌝ }
 {
-    match a {
+    match answer {
         Answer::Refused(_) => text::put_mark(text, at, b'?'),
         Answer::Nothing => text::put_mark(text, at, b'-'),
         Answer::Ack => text::put_mark(text, at, b'A'),
@@ -33,12 +33,12 @@ fn put_answer(a: Answer, out: &[u8], text: &mut [u8], at: usize) -> usize
 }
 
 // Stores a line: its number, a tab, an answer, a line feed. Gives the line's length.
-pub fn put_line(text: &mut [u8], number: u64, a: Answer, out: &[u8; 643]) -> usize
-    ensures { λ r. ⌜ r ≡ length (lineText number (answerText a (now (out .entry)))) ⌝ }
-    ensures { λ _. ⌜ now (text .exit) ≡ sets (now (text .entry)) 0 (lineText number (answerText a (now (out .entry)))) ⌝ }
+pub fn put_line(text: &mut [u8], number: u64, said: Answer, out: &[u8; 643]) -> usize
+    ensures { λ r. ⌜ r ≡ length (lineText number (answerText said (now (out .entry)))) ⌝ }
+    ensures { λ _. ⌜ now (text .exit) ≡ sets (now (text .entry)) 0 (lineText number (answerText said (now (out .entry)))) ⌝ }
 {
     let tab = text::put_decimal(text, 0, number);
     let answer = text::put_mark(text, tab, 0x09);
-    let end = put_answer(a, out, text, answer);
+    let end = put_answer(said, out, text, answer);
     text::put_mark(text, end, 0x0A)
 }

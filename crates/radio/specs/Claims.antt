@@ -17,26 +17,26 @@ use Rattle.radio.specs.Radio.{radioOf}
 
 -- while shut out a frame changes nothing, and its answer is silence or 0Fh
 abbrev pub ShutOutChangesNothing : Type 0
-ShutOutChangesNothing = (t : RadioSide) (u : Uid) (vcc transfer programming : Bool) (m s : List ℕ)
-    → (isSet 1 (t .core .registers .dynamic .bits) || (transfer || programming)) ≡ true
-    → (radioOf t u vcc transfer programming m s ≡ commandResult nothing t m) ⊎ (radioOf t u vcc transfer programming m s ≡ commandResult (fault ShutOut) t m)
+ShutOutChangesNothing = (v : RadioSide) (u : Uid) (vcc transfer programming : Bool) (m f : List ℕ)
+    → (isSet 1 (v .core .registers .dynamic .bits) || (transfer || programming)) ≡ true
+    → (radioOf v u vcc transfer programming m f ≡ commandResult nothing v m) ⊎ (radioOf v u vcc transfer programming m f ≡ commandResult (fault ShutOut) v m)
 
 -- the ranges of what a request may change; MB_EN only with VCC
 abbrev pub radioInRange : RadioSide → Bool → Bool
-radioInRange t vcc = airInRange (t .air) && coreInRange (t .core) && (vcc || not (t .core .mailbox .enabled))
+radioInRange v vcc = airInRange (v .air) && coreInRange (v .core) && (vcc || not (v .core .mailbox .enabled))
 
 -- every frame keeps them, and the memory's length; a frame's bytes are below 256
 abbrev pub FrameKeepsRange : Type 0
-FrameKeepsRange = (t : RadioSide) (u : Uid) (vcc transfer programming : Bool) (m s : List ℕ)
-    → ((i : ℕ) → getD s i 0 < 256) → radioInRange t vcc ≡ true
-    → (radioInRange (radioOf t u vcc transfer programming m s .side) vcc ≡ true) × (length (radioOf t u vcc transfer programming m s .memory) ≡ length m)
+FrameKeepsRange = (v : RadioSide) (u : Uid) (vcc transfer programming : Bool) (m f : List ℕ)
+    → ((i : ℕ) → getD f i 0 < 256) → radioInRange v vcc ≡ true
+    → (radioInRange (radioOf v u vcc transfer programming m f .side) vcc ≡ true) × (length (radioOf v u vcc transfer programming m f .memory) ≡ length m)
 
 -- how many bytes a reply has, CRC included
 unfoldable pub replySize : ReplyBody → ℕ
 replySize nothing = 0
-replySize (body b) = length b + 2
+replySize (body s) = length s + 2
 
 -- with the mailbox in range, every reply has room in the 643 bytes of the reply buffer
 abbrev pub RepliesFit : Type 0
-RepliesFit = (t : RadioSide) (u : Uid) (vcc transfer programming : Bool) (m s : List ℕ)
-    → mailboxInRange (t .core .mailbox) ≡ true → replySize (radioOf t u vcc transfer programming m s .reply) ≤ replyBytes
+RepliesFit = (v : RadioSide) (u : Uid) (vcc transfer programming : Bool) (m f : List ℕ)
+    → mailboxInRange (v .core .mailbox) ≡ true → replySize (radioOf v u vcc transfer programming m f .reply) ≤ replyBytes

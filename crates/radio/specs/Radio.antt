@@ -14,12 +14,12 @@ use Rattle.serve.specs.Commands.{serveOf}
 
 -- what each verdict comes to: silence, 01h and the code, or the command
 unfoldable pub verdictResult : Verdict → RadioSide → Uid → Bool → List ℕ → List ℕ → CommandResult
-verdictResult Silence t u vcc m s = commandResult nothing t m
-verdictResult (Error e) t u vcc m s = fails e t m
-verdictResult Request t u vcc m s = serveOf (requestOf s u) t vcc m s
+verdictResult Silence v u vcc m f = commandResult nothing v m
+verdictResult (Error error) v u vcc m f = fails error v m
+verdictResult Request v u vcc m f = serveOf (requestOf f u) v vcc m f
 
--- the frame s, for the tag's radio side t with UID u, VCC, a transfer open, programming, and memory m.
+-- the frame f, for the tag's radio side v with UID u, VCC, a transfer open, programming, and memory m.
 -- It holds for memory of every length: a byte past its end reads 0, a store past it changes nothing.
 unfoldable pub radioOf : RadioSide → Uid → Bool → Bool → Bool → List ℕ → List ℕ → CommandResult
-radioOf t u vcc transfer programming m s =
-    verdictResult (judge s (t .air) u (t .core .registers .dynamic) (transfer || programming)) t u vcc m s
+radioOf v u vcc transfer programming m f =
+    verdictResult (judge f (v .air) u (v .core .registers .dynamic) (transfer || programming)) v u vcc m f

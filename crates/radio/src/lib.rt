@@ -10,27 +10,27 @@ use reply::RadioSide;
 
 // A frame answered.
 pub fn radio(
-    t: RadioSide,
+    v: RadioSide,
     u: Uid,
     vcc: bool,
     transfer: bool,
     programming: bool,
     m: &mut [u8],
     out: &mut [u8],
-    s: &[u8],
+    f: &[u8],
 ) -> RadioOutcome
-    ensures { λ r. ⌜ radioResult r (now (m .exit)) (now (out .exit)) ≡ finish (radioOf t u vcc transfer programming (now (m .entry)) (now (s .entry))) (now (out .entry)) ⌝ }
+    ensures { λ r. ⌜ radioResult r (now (m .exit)) (now (out .exit)) ≡ finish (radioOf v u vcc transfer programming (now (m .entry)) (now (f .entry))) (now (out .entry)) ⌝ }
 {
-    let d = t.core.registers.dynamic;
-    match judge::judge(s, t.air, u, d, transfer | programming) {
+    let d = v.core.registers.dynamic;
+    match judge::judge(f, v.air, u, d, transfer | programming) {
         Verdict::Silence => RadioOutcome {
             answer: RadioAnswer::Silence,
-            side: t,
+            side: v,
         },
         Verdict::Error(e) => RadioOutcome {
             answer: reply::error(out, e),
-            side: t,
+            side: v,
         },
-        Verdict::Request => serve::serve(request::fields(s, u), t, vcc, m, out, s),
+        Verdict::Request => serve::serve(request::fields(f, u), v, vcc, m, out, f),
     }
 }

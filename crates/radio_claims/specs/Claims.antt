@@ -27,67 +27,67 @@ use Rattle.model.specs.Step.{transferOpen, stepOf}
 -- ---- "01h and the code (nothing changed but by B3)"
 -- without B3: a reply that begins with 01h has the code of an error rule, and tag and memory stay
 abbrev pub ErrorsChangeNothing : Type 0
-ErrorsChangeNothing = (t : RadioSide) (u : Uid) (vcc transfer programming : Bool) (m s rest : List ℕ)
-    → (command s ≡ 0xB3 → ⊥)
-    → radioOf t u vcc transfer programming m s .reply ≡ body (0x01 ∷ rest)
-    → (e : RadioError) × (radioOf t u vcc transfer programming m s ≡ fails e t m)
+ErrorsChangeNothing = (v : RadioSide) (u : Uid) (vcc transfer programming : Bool) (m f rest : List ℕ)
+    → (command f ≡ 0xB3 → ⊥)
+    → radioOf v u vcc transfer programming m f .reply ≡ body (0x01 ∷ rest)
+    → (error : RadioError) × (radioOf v u vcc transfer programming m f ≡ fails error v m)
 
 -- the verdict lets the frame be served
 unfoldable pub isRequest : Verdict → Bool
 isRequest Silence = false
-isRequest (Error e) = false
+isRequest (Error error) = false
 isRequest Request = true
 
 -- B3 "wrong": n at most 3, and other bytes than password n's
 abbrev pub presentsWrong : RadioSide → List ℕ → Bool
-presentsWrong t s =
-    leb (param s 0) 3
-    && not (samePassword (radioPassword (t .core .passwords) (param s 0)) (passwordAt s (paramPlace s + 1)))
+presentsWrong v f =
+    leb (param f 0) 3
+    && not (samePassword (radioPassword (v .core .passwords) (param f 0)) (passwordAt f (paramPlace f + 1)))
 
 abbrev pub sessionClosed : RadioSide → RadioSide
-sessionClosed t = withAir (withRadioSession 0 (t .air)) t
+sessionClosed v = withAir (withRadioSession 0 (v .air)) v
 
 -- what an error reply leaves: "session closed" by a B3 that is served and wrong, and nothing else changed
 abbrev pub errorLeaves : RadioSide → Uid → Bool → List ℕ → RadioSide
-errorLeaves t u busy s =
-    pick (isRequest (judge s (t .air) u (t .core .registers .dynamic) busy) && eqb (command s) 0xB3 && presentsWrong t s)
-    (sessionClosed t) t
+errorLeaves v u busy f =
+    pick (isRequest (judge f (v .air) u (v .core .registers .dynamic) busy) && eqb (command f) 0xB3 && presentsWrong v f)
+    (sessionClosed v) v
 
 -- every frame, B3 too
 abbrev pub ErrorsLeave : Type 0
-ErrorsLeave = (t : RadioSide) (u : Uid) (vcc transfer programming : Bool) (m s rest : List ℕ)
-    → radioOf t u vcc transfer programming m s .reply ≡ body (0x01 ∷ rest)
-    → (e : RadioError) × (radioOf t u vcc transfer programming m s ≡ commandResult (fault e) (errorLeaves t u (transfer || programming) s) m)
+ErrorsLeave = (v : RadioSide) (u : Uid) (vcc transfer programming : Bool) (m f rest : List ℕ)
+    → radioOf v u vcc transfer programming m f .reply ≡ body (0x01 ∷ rest)
+    → (error : RadioError) × (radioOf v u vcc transfer programming m f ≡ commandResult (fault error) (errorLeaves v u (transfer || programming) f) m)
 
 -- the same at the entry: a frame's call that is answered by a reply whose first byte is 01h
 abbrev pub ErrorCallsLeave : Type 0
-ErrorCallsLeave = (t : Tag) (m o s : List ℕ) (n : ℕ)
-    → stepOf t m o 8 0 s .answer ≡ Reply n → getD (stepOf t m o 8 0 s .reply) 0 0 ≡ 0x01
-    → (stepOf t m o 8 0 s .tag ≡ withRadio (errorLeaves (radioSide t) (t .uid) (transferOpen t || t .host .programming) s) t)
-    × (stepOf t m o 8 0 s .memory ≡ m)
+ErrorCallsLeave = (t : Tag) (m o f : List ℕ) (n : ℕ)
+    → stepOf t m o 8 0 f .answer ≡ Reply n → getD (stepOf t m o 8 0 f .reply) 0 0 ≡ 0x01
+    → (stepOf t m o 8 0 f .tag ≡ withRadio (errorLeaves (radioSide t) (t .uid) (transferOpen t || t .host .programming) f) t)
+    × (stepOf t m o 8 0 f .memory ≡ m)
 
 -- ---- "1 exactly when 21 would give 12h"
--- the frame s asks for command c, and is served
-pub record Asks (t : RadioSide) (u : Uid) (busy : Bool) (c : ℕ) (s : List ℕ) : Type 0 where
-  pub judged : judge s (t .air) u (t .core .registers .dynamic) busy ≡ Request
-  pub named : command s ≡ c
+-- the frame f asks for the command of a code, and is served
+pub record Asks (v : RadioSide) (u : Uid) (busy : Bool) (code : ℕ) (f : List ℕ) : Type 0 where
+  pub judged : judge f (v .air) u (v .core .registers .dynamic) busy ≡ Request
+  pub named : command f ≡ code
 
 -- a status byte, and 21's reply on that block: 1 and 12h, or 0 and done
 abbrev pub StatusAgrees : ℕ → ReplyBody → Type 0
 StatusAgrees x reply = ((x ≡ 1) × (reply ≡ fault WriteForbidden)) ⊎ ((x ≡ 0) × (reply ≡ good []))
 
--- 2C: byte k of its data is the status of block first + k; w asks for 21 on that block
+-- 2C: byte k of its data is the status of block first + k; `write` asks for 21 on that block
 abbrev pub StatusAsWrite : Type 0
-StatusAsWrite = (t : RadioSide) (u : Uid) (vcc transfer programming : Bool) (m s w data- : List ℕ) (k : ℕ)
-    → Asks t u (transfer || programming) 0x2C s
-    → Asks t u (transfer || programming) 0x21 w → param w 0 ≡ param s 0 + k
-    → radioOf t u vcc transfer programming m s .reply ≡ good data- → k < length data-
-    → StatusAgrees (getD data- k 0) (radioOf t u vcc transfer programming m w .reply)
+StatusAsWrite = (v : RadioSide) (u : Uid) (vcc transfer programming : Bool) (m status write data- : List ℕ) (k : ℕ)
+    → Asks v u (transfer || programming) 0x2C status
+    → Asks v u (transfer || programming) 0x21 write → param write 0 ≡ param status 0 + k
+    → radioOf v u vcc transfer programming m status .reply ≡ good data- → k < length data-
+    → StatusAgrees (getD data- k 0) (radioOf v u vcc transfer programming m write .reply)
 
 -- 20, 23 with the option: "status byte before each block, as 2C", five bytes a block
 abbrev pub OptionStatusAsWrite : Type 0
-OptionStatusAsWrite = (t : RadioSide) (u : Uid) (vcc transfer programming : Bool) (m s w data- : List ℕ) (k : ℕ)
-    → (Asks t u (transfer || programming) 0x20 s) ⊎ (Asks t u (transfer || programming) 0x23 s) → optionFlag s ≡ true
-    → Asks t u (transfer || programming) 0x21 w → param w 0 ≡ param s 0 + k
-    → radioOf t u vcc transfer programming m s .reply ≡ good data- → 5 * k < length data-
-    → StatusAgrees (getD data- (5 * k) 0) (radioOf t u vcc transfer programming m w .reply)
+OptionStatusAsWrite = (v : RadioSide) (u : Uid) (vcc transfer programming : Bool) (m read write data- : List ℕ) (k : ℕ)
+    → (Asks v u (transfer || programming) 0x20 read) ⊎ (Asks v u (transfer || programming) 0x23 read) → optionFlag read ≡ true
+    → Asks v u (transfer || programming) 0x21 write → param write 0 ≡ param read 0 + k
+    → radioOf v u vcc transfer programming m read .reply ≡ good data- → 5 * k < length data-
+    → StatusAgrees (getD data- (5 * k) 0) (radioOf v u vcc transfer programming m write .reply)

@@ -10,14 +10,14 @@ use Rattle.reply.specs.Outcome.{CommandResult, commandResult, withAir}
 
 -- "02 Stay Quiet: Quiet; silent"
 unfoldable pub stayQuietOf : RadioSide → List ℕ → CommandResult
-stayQuietOf s m = commandResult nothing (withAir (quieted (s .air)) s) m
+stayQuietOf v m = commandResult nothing (withAir (quieted (v .air)) v) m
 
 -- "25 Select: own UID Selected; another UID: Selected becomes Ready, silent"
 unfoldable pub selectUidOf : RadioSide → List ℕ → Bool → CommandResult
-selectUidOf s m own =
-    pick own (commandResult (good []) (withAir (selected (s .air)) s) m)
-    (commandResult nothing (withAir (deselected (s .air)) s) m)
+selectUidOf v m own =
+    pick own (commandResult (good []) (withAir (selected (v .air)) v) m)
+    (commandResult nothing (withAir (deselected (v .air)) v) m)
 
 -- "26 Reset gives Ready"
 unfoldable pub resetToReadyOf : RadioSide → List ℕ → CommandResult
-resetToReadyOf s m = commandResult (good []) (withAir (reset (s .air)) s) m
+resetToReadyOf v m = commandResult (good []) (withAir (reset (v .air)) v) m

@@ -7,10 +7,10 @@ use reply::RadioOutcome;
 use reply::RadioSide;
 
 // 02: no answer.
-pub fn stay_quiet(s: RadioSide, m: &[u8], out: &mut [u8]) -> RadioOutcome
-    ensures { λ r. ⌜ radioResult r (now (m .entry)) (now (out .exit)) ≡ finish (stayQuietOf s (now (m .entry))) (now (out .entry)) ⌝ }
+pub fn stay_quiet(v: RadioSide, m: &[u8], out: &mut [u8]) -> RadioOutcome
+    ensures { λ r. ⌜ radioResult r (now (m .entry)) (now (out .exit)) ≡ finish (stayQuietOf v (now (m .entry))) (now (out .entry)) ⌝ }
 {
-    let next = s.with_air(s.air.stay_quiet());
+    let next = v.with_air(v.air.stay_quiet());
     RadioOutcome {
         answer: RadioAnswer::Silence,
         side: next,
@@ -18,17 +18,17 @@ pub fn stay_quiet(s: RadioSide, m: &[u8], out: &mut [u8]) -> RadioOutcome
 }
 
 // 25; own: the frame's UID is the tag's.
-pub fn select(s: RadioSide, m: &[u8], out: &mut [u8], own: bool) -> RadioOutcome
-    ensures { λ r. ⌜ radioResult r (now (m .entry)) (now (out .exit)) ≡ finish (selectUidOf s (now (m .entry)) own) (now (out .entry)) ⌝ }
+pub fn select(v: RadioSide, m: &[u8], out: &mut [u8], own: bool) -> RadioOutcome
+    ensures { λ r. ⌜ radioResult r (now (m .entry)) (now (out .exit)) ≡ finish (selectUidOf v (now (m .entry)) own) (now (out .entry)) ⌝ }
 {
     if own {
-        let next = s.with_air(s.air.select());
+        let next = v.with_air(v.air.select());
         return RadioOutcome {
             answer: reply::done(out),
             side: next,
         };
     }
-    let next = s.with_air(s.air.deselect());
+    let next = v.with_air(v.air.deselect());
     RadioOutcome {
         answer: RadioAnswer::Silence,
         side: next,
@@ -36,10 +36,10 @@ pub fn select(s: RadioSide, m: &[u8], out: &mut [u8], own: bool) -> RadioOutcome
 }
 
 // 26.
-pub fn reset(s: RadioSide, m: &[u8], out: &mut [u8]) -> RadioOutcome
-    ensures { λ r. ⌜ radioResult r (now (m .entry)) (now (out .exit)) ≡ finish (resetToReadyOf s (now (m .entry))) (now (out .entry)) ⌝ }
+pub fn reset(v: RadioSide, m: &[u8], out: &mut [u8]) -> RadioOutcome
+    ensures { λ r. ⌜ radioResult r (now (m .entry)) (now (out .exit)) ≡ finish (resetToReadyOf v (now (m .entry))) (now (out .entry)) ⌝ }
 {
-    let next = s.with_air(s.air.reset());
+    let next = v.with_air(v.air.reset());
     RadioOutcome {
         answer: reply::done(out),
         side: next,

@@ -24,18 +24,18 @@ airInRange a = leb (a .session) 4
 
 -- "a PUT set only with its CURRENT bit"
 abbrev pub putCurrent : Message → Bool
-putCurrent m = not (m .put) || m .current
+putCurrent message = not (message .put) || message .current
 
 -- "message length 0 to 256; at most one of the two CURRENT bits set; a PUT set only with its CURRENT bit;
 -- a CURRENT bit set exactly when length is over 0; length over 0 only with MB_EN"
 unfoldable pub mailboxInRange : Mailbox → Bool
-mailboxInRange m =
-    leb (m .length) 256
-    && not (m .host .current && m .rf .current)
-    && putCurrent (m .host)
-    && putCurrent (m .rf)
-    && ((ltb 0 (m .length) && (m .host .current || m .rf .current)) || (eqb (m .length) 0 && not (m .host .current || m .rf .current)))
-    && (eqb (m .length) 0 || m .enabled)
+mailboxInRange mailbox =
+    leb (mailbox .length) 256
+    && not (mailbox .host .current && mailbox .rf .current)
+    && putCurrent (mailbox .host)
+    && putCurrent (mailbox .rf)
+    && ((ltb 0 (mailbox .length) && (mailbox .host .current || mailbox .rf .current)) || (eqb (mailbox .length) 0 && not (mailbox .host .current || mailbox .rf .current)))
+    && (eqb (mailbox .length) 0 || mailbox .enabled)
 
 -- "MB_EN, I2C session, programming and any bus activity only with VCC"
 unfoldable pub suppliedInRange : Host → Bool → Bool

@@ -22,16 +22,16 @@ fn air_in_range(a: Air) -> bool
     a.session <= 4
 }
 
-fn mailbox_in_range(m: Mailbox) -> bool
-    ensures { λ b. ⌜ b ≡ mailboxInRange m ⌝ }
+fn mailbox_in_range(mailbox: Mailbox) -> bool
+    ensures { λ b. ⌜ b ≡ mailboxInRange mailbox ⌝ }
 {
-    let current = m.host.current | m.rf.current;
-    (m.length <= 256)
-        & !(m.host.current & m.rf.current)
-        & (!m.host.put | m.host.current)
-        & (!m.rf.put | m.rf.current)
-        & (((0 < m.length) & current) | ((m.length == 0) & !current))
-        & ((m.length == 0) | m.enabled)
+    let current = mailbox.host.current | mailbox.rf.current;
+    (mailbox.length <= 256)
+        & !(mailbox.host.current & mailbox.rf.current)
+        & (!mailbox.host.put | mailbox.host.current)
+        & (!mailbox.rf.put | mailbox.rf.current)
+        & (((0 < mailbox.length) & current) | ((mailbox.length == 0) & !current))
+        & ((mailbox.length == 0) | mailbox.enabled)
 }
 
 fn supplied_in_range(h: Host, mailbox: bool) -> bool

@@ -31,7 +31,7 @@ pub record RefusalRule : Type 0 where
   pub refusal : Refusal
 
 abbrev pub refusalRule : Bool → Refusal → RefusalRule
-refusalRule b r = record { applies = b; refusal = r }
+refusalRule on refusal = record { applies = on; refusal = refusal }
 
 -- "tag memory is not 1,024 bytes"
 abbrev pub memoryRule : List ℕ → RefusalRule
@@ -68,9 +68,9 @@ freshRules m = memoryRule m ∷ []
 
 -- ---- the refusal of a call: that of the first rule that applies
 unfoldable pub judgement : List RefusalRule → Judgement
-judgement rules = firstSays (λ (r : RefusalRule). r .applies) (λ (r : RefusalRule). RefusedBy (r .refusal)) NoRefusal rules
+judgement rules = firstSays (λ (rule : RefusalRule). rule .applies) (λ (rule : RefusalRule). RefusedBy (rule .refusal)) NoRefusal rules
 
 -- what a refusal gives, and what a call gives that no rule refuses
 unfoldable pub unlessRefused : {A : Type 0} → Judgement → (Refusal → A) → A → A
 unlessRefused NoRefusal refuses serves = serves
-unlessRefused (RefusedBy r) refuses serves = refuses r
+unlessRefused (RefusedBy refusal) refuses serves = refuses refusal

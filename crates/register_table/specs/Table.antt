@@ -19,7 +19,7 @@ pub record RegisterEntry : Type 0 where
   pub row : RegisterRow
 
 abbrev pub registerEntry : ℕ → Register → ℕ → WriteRule → Bool → Bool → RegisterEntry
-registerEntry a x n rule host radio = record { address = a; definedBits = n; row = record { register = x; rule = rule; host = host; radio = radio } }
+registerEntry address x n rule host radio = record { address = address; definedBits = n; row = record { register = x; rule = rule; host = host; radio = radio } }
 
 -- "System: 0003h RF_MNGT, 0004h-000Ah RFA1SS, ENDA1, RFA2SS, ENDA2, RFA3SS, ENDA3, RFA4SS, 000Bh I2CSS, 000Ch LOCK_CCFILE, 000Dh MB_MODE, 000Fh LOCK_CFG";
 -- A0, A1: "pointers 03-0A, 0D, 0F". The columns: address, register, defined bits, rule on writing, whether the host writes it, whether the radio has a pointer.
@@ -45,16 +45,16 @@ noRow = record { register = Unmapped; rule = Plain; host = false; radio = false 
 
 -- the row of an address
 unfoldable pub rowIn : List RegisterEntry → ℕ → RegisterRow
-rowIn [] a = noRow
-rowIn (e ∷ es) a = pick (eqb a (e .address)) (e .row) (rowIn es a)
+rowIn [] address = noRow
+rowIn (entry ∷ entries) address = pick (eqb address (entry .address)) (entry .row) (rowIn entries address)
 
 unfoldable pub rowOf : ℕ → RegisterRow
-rowOf a = rowIn registerTable a
+rowOf address = rowIn registerTable address
 
 -- "register writable"
 abbrev pub isWritable : ℕ → Bool
-isWritable a = rowOf a .host
+isWritable address = rowOf address .host
 
 -- "pointers 03-0A, 0D, 0F, else 10h"
 abbrev pub isPointer : ℕ → Bool
-isPointer p = rowOf p .radio
+isPointer pointer = rowOf pointer .radio

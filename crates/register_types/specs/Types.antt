@@ -33,28 +33,28 @@ lockCfgBits = 1
 
 -- RF_MNGT and RF_MNGT_Dyn: b0 radio disabled, b1 radio asleep
 abbrev pub rfMngt : ℕ → RfMngt
-rfMngt b = record { bits = keepBits rfMngtBits b }
+rfMngt x = record { bits = keepBits rfMngtBits x }
 
 -- RFAiSS: b1-0 the password, b3-2 the setting
 abbrev pub rfaSs : ℕ → RfaSs
-rfaSs b = record { bits = keepBits rfaSsBits b }
+rfaSs x = record { bits = keepBits rfaSsBits x }
 
 -- ENDAi
 abbrev pub endA : ℕ → EndA
-endA b = record { bits = keepBits endABits b }
+endA x = record { bits = keepBits endABits x }
 
 -- I2CSS: two bits an area, area 1 lowest
 abbrev pub i2cSs : ℕ → I2cSs
-i2cSs b = record { bits = keepBits i2cSsBits b }
+i2cSs x = record { bits = keepBits i2cSsBits x }
 
 -- LOCK_CCFILE: b0 locks block 0, b1 block 1
 abbrev pub lockCcFile : ℕ → LockCcFile
-lockCcFile b = record { bits = keepBits lockCcFileBits b }
+lockCcFile x = record { bits = keepBits lockCcFileBits x }
 
 -- MB_MODE: b0 lets the mailbox be enabled
 abbrev pub mbMode : ℕ → MbMode
-mbMode b = record { bits = keepBits mbModeBits b }
+mbMode x = record { bits = keepBits mbModeBits x }
 
 -- LOCK_CFG: b0 locks the configuration against the radio
 abbrev pub lockCfg : ℕ → LockCfg
-lockCfg b = record { bits = keepBits lockCfgBits b }
+lockCfg x = record { bits = keepBits lockCfgBits x }

@@ -35,21 +35,21 @@ byteOf Unmapped r = 0xFF
 
 -- the byte at address a
 unfoldable pub registerAt : Registers → ℕ → ℕ
-registerAt r a = byteOf (rowOf a .register) r
+registerAt r address = byteOf (rowOf address .register) r
 
 -- ---- the registers with one of them replaced
 abbrev pub withSecurity : Security → Registers → Registers
-withSecurity s r =
-    record { mngt = r .mngt; dynamic = r .dynamic; security = s; ends = r .ends; i2css = r .i2css; ccfile = r .ccfile; mode = r .mode; config = r .config }
+withSecurity security r =
+    record { mngt = r .mngt; dynamic = r .dynamic; security = security; ends = r .ends; i2css = r .i2css; ccfile = r .ccfile; mode = r .mode; config = r .config }
 
 -- RFAiSS of area i replaced
 unfoldable pub withArea : ℕ → RfaSs → Security → Security
-withArea i x s =
-    pick (eqb i 1) (record { area1 = x; area2 = s .area2; area3 = s .area3; area4 = s .area4 })
-    (pick (eqb i 2) (record { area1 = s .area1; area2 = x; area3 = s .area3; area4 = s .area4 })
-    (pick (eqb i 3) (record { area1 = s .area1; area2 = s .area2; area3 = x; area4 = s .area4 })
-    (pick (eqb i 4) (record { area1 = s .area1; area2 = s .area2; area3 = s .area3; area4 = x })
-    s)))
+withArea i x security =
+    pick (eqb i 1) (record { area1 = x; area2 = security .area2; area3 = security .area3; area4 = security .area4 })
+    (pick (eqb i 2) (record { area1 = security .area1; area2 = x; area3 = security .area3; area4 = security .area4 })
+    (pick (eqb i 3) (record { area1 = security .area1; area2 = security .area2; area3 = x; area4 = security .area4 })
+    (pick (eqb i 4) (record { area1 = security .area1; area2 = security .area2; area3 = security .area3; area4 = x })
+    security)))
 
 -- ENDAi replaced
 unfoldable pub withEnd : ℕ → EndA → Ends → Ends
@@ -88,22 +88,22 @@ abbrev pub withConfig : LockCfg → Registers → Registers
 withConfig x r =
     record { mngt = r .mngt; dynamic = r .dynamic; security = r .security; ends = r .ends; i2css = r .i2css; ccfile = r .ccfile; mode = r .mode; config = x }
 
--- the registers after byte b was written to one of them, its defined bits kept
+-- the registers after byte x was written to one of them, its defined bits kept
 abbrev pub writtenTo : Register → ℕ → Registers → Registers
-writtenTo Mngt b r = withMngt (rfMngt b) r
-writtenTo Rfa1Ss b r = withSecurity (withArea 1 (rfaSs b) (r .security)) r
-writtenTo EndA1 b r = withEnds (withEnd 1 (endA b) (r .ends)) r
-writtenTo Rfa2Ss b r = withSecurity (withArea 2 (rfaSs b) (r .security)) r
-writtenTo EndA2 b r = withEnds (withEnd 2 (endA b) (r .ends)) r
-writtenTo Rfa3Ss b r = withSecurity (withArea 3 (rfaSs b) (r .security)) r
-writtenTo EndA3 b r = withEnds (withEnd 3 (endA b) (r .ends)) r
-writtenTo Rfa4Ss b r = withSecurity (withArea 4 (rfaSs b) (r .security)) r
-writtenTo I2css b r = withI2cSs (i2cSs b) r
-writtenTo Ccfile b r = withCcFile (lockCcFile b) r
-writtenTo Mode b r = withMode (mbMode b) r
-writtenTo Config b r = withConfig (lockCfg b) r
-writtenTo Unmapped b r = r
+writtenTo Mngt x r = withMngt (rfMngt x) r
+writtenTo Rfa1Ss x r = withSecurity (withArea 1 (rfaSs x) (r .security)) r
+writtenTo EndA1 x r = withEnds (withEnd 1 (endA x) (r .ends)) r
+writtenTo Rfa2Ss x r = withSecurity (withArea 2 (rfaSs x) (r .security)) r
+writtenTo EndA2 x r = withEnds (withEnd 2 (endA x) (r .ends)) r
+writtenTo Rfa3Ss x r = withSecurity (withArea 3 (rfaSs x) (r .security)) r
+writtenTo EndA3 x r = withEnds (withEnd 3 (endA x) (r .ends)) r
+writtenTo Rfa4Ss x r = withSecurity (withArea 4 (rfaSs x) (r .security)) r
+writtenTo I2css x r = withI2cSs (i2cSs x) r
+writtenTo Ccfile x r = withCcFile (lockCcFile x) r
+writtenTo Mode x r = withMode (mbMode x) r
+writtenTo Config x r = withConfig (lockCfg x) r
+writtenTo Unmapped x r = r
 
 -- the same by the address; nothing changes where no register is
 unfoldable pub written : Registers → ℕ → ℕ → Registers
-written r a b = writtenTo (rowOf a .register) b r
+written r address x = writtenTo (rowOf address .register) x r

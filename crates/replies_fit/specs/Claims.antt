@@ -22,4 +22,4 @@ replyFits (Reply n) = leb n replyBytes
 
 -- every answer's reply fits the 643 bytes
 abbrev pub StepRepliesFit : Type 0
-StepRepliesFit = (t : Tag) (m o : List ℕ) (code value : ℕ) (s : List ℕ) → replyFits (stepOf t m o code value s .answer) ≡ true
+StepRepliesFit = (t : Tag) (m o : List ℕ) (code value : ℕ) (f : List ℕ) → replyFits (stepOf t m o code value f .answer) ≡ true

@@ -8,4 +8,4 @@ use Rattle.reply.specs.Reply.{body, bufferOf}
 
 -- where it has room, the buffer holds the reply, then its CRC, and past it what it held
 abbrev pub ReplyWhole : Type 0
-ReplyWhole = (b o : List ℕ) → length b + 2 ≤ length o → bufferOf (body b) o ≡ closed b ++ drop (length b + 2) o
+ReplyWhole = (s o : List ℕ) → length s + 2 ≤ length o → bufferOf (body s) o ≡ closed s ++ drop (length s + 2) o

@@ -21,11 +21,11 @@ pub record CommandResult : Type 0 where
   pub memory : List ℕ
 
 abbrev pub commandResult : ReplyBody → RadioSide → List ℕ → CommandResult
-commandResult r s m = record { reply = r; side = s; memory = m }
+commandResult reply v m = record { reply = reply; side = v; memory = m }
 
 -- "01h and the code (nothing changed ..)"
 abbrev pub fails : RadioError → RadioSide → List ℕ → CommandResult
-fails e s m = commandResult (fault e) s m
+fails error v m = commandResult (fault error) v m
 
 -- what a function over both lent buffers leaves
 pub record RadioResult : Type 0 where
@@ -35,27 +35,27 @@ pub record RadioResult : Type 0 where
   pub buffer : List ℕ
 
 abbrev pub radioResult : RadioOutcome → List ℕ → List ℕ → RadioResult
-radioResult r m o = record { answer = r .answer; side = r .side; memory = m; buffer = o }
+radioResult outcome m o = record { answer = outcome .answer; side = outcome .side; memory = m; buffer = o }
 
 -- what a command told, in the reply buffer o
 abbrev pub finish : CommandResult → List ℕ → RadioResult
-finish t o = record { answer = answerOf (t .reply); side = t .side; memory = t .memory; buffer = bufferOf (t .reply) o }
+finish result o = record { answer = answerOf (result .reply); side = result .side; memory = result .memory; buffer = bufferOf (result .reply) o }
 
 -- ---- one part of the side replaced
 abbrev pub withAir : Air → RadioSide → RadioSide
-withAir a s = record { air = a; core = s .core }
+withAir a v = record { air = a; core = v .core }
 
 abbrev pub withRadioCore : Core → RadioSide → RadioSide
-withRadioCore c s = record { air = s .air; core = c }
+withRadioCore c v = record { air = v .air; core = c }
 
 abbrev pub sideRegisters : Registers → RadioSide → RadioSide
-sideRegisters r s = withRadioCore (withRegisters r (s .core)) s
+sideRegisters r v = withRadioCore (withRegisters r (v .core)) v
 
 abbrev pub sideMailbox : Mailbox → RadioSide → RadioSide
-sideMailbox m s = withRadioCore (withMailbox m (s .core)) s
+sideMailbox mailbox v = withRadioCore (withMailbox mailbox (v .core)) v
 
 abbrev pub sidePasswords : Passwords → RadioSide → RadioSide
-sidePasswords p s = withRadioCore (withPasswords p (s .core)) s
+sidePasswords p v = withRadioCore (withPasswords p (v .core)) v
 
 -- ---- what a request may change of the tag
 abbrev pub radioSide : Tag → RadioSide

@@ -19,18 +19,18 @@ abbrev pub good : List ℕ → ReplyBody
 good data- = body (0x00 ∷ data-)
 
 abbrev pub fault : RadioError → ReplyBody
-fault e = body (0x01 ∷ errorCode e ∷ [])
+fault error = body (0x01 ∷ errorCode error ∷ [])
 
 -- the answer: silence, or a reply with its length, CRC included
 unfoldable pub answerOf : ReplyBody → RadioAnswer
 answerOf nothing = Silence
-answerOf (body b) = Reply (length b + 2)
+answerOf (body s) = Reply (length s + 2)
 
 -- the buffer: the reply from place 0 on, then its CRC; "reply bytes past the reply, and all of them in silence, also stay".
 -- A buffer that is too short takes the bytes that fit and no CRC.
 unfoldable pub bufferOf : ReplyBody → List ℕ → List ℕ
 bufferOf nothing o = o
-bufferOf (body b) o = closedAt (sets o 0 b) (length b)
+bufferOf (body s) o = closedAt (sets o 0 s) (length s)
 
 -- both
 pub record ReplyResult : Type 0 where
@@ -38,7 +38,7 @@ pub record ReplyResult : Type 0 where
   pub buffer : List ℕ
 
 abbrev pub replyResult : RadioAnswer → List ℕ → ReplyResult
-replyResult a o = record { answer = a; buffer = o }
+replyResult answer o = record { answer = answer; buffer = o }
 
 abbrev pub putReply : ReplyBody → List ℕ → ReplyResult
-putReply r o = replyResult (answerOf r) (bufferOf r o)
+putReply reply o = replyResult (answerOf reply) (bufferOf reply o)

@@ -80,11 +80,11 @@ pub fn close(out: &mut [u8], n: u32) -> RadioAnswer
 }
 
 // An error reply.
-pub fn error(out: &mut [u8], e: RadioError) -> RadioAnswer
-    ensures { λ r. ⌜ replyResult r (now (out .exit)) ≡ putReply (fault e) (now (out .entry)) ⌝ }
+pub fn error(out: &mut [u8], error: RadioError) -> RadioAnswer
+    ensures { λ r. ⌜ replyResult r (now (out .exit)) ≡ putReply (fault error) (now (out .entry)) ⌝ }
 {
     parts::put(out, 0, 0x01);
-    parts::put(out, 1, e.code());
+    parts::put(out, 1, error.code());
     close(out, 2)
 }
 

@@ -8,5 +8,5 @@ use Rattle.request.specs.declared.RequestFields.{RequestFields}
 
 -- a frame's fields: command, first two parameter bytes, option, whether its UID is the tag's, the place of its parameters
 abbrev pub requestOf : List ℕ → Uid → RequestFields
-requestOf s u =
-    record { command = commandOf (command s); first = param s 0; second = param s 1; option = optionFlag s; own = ownUid s u; at = paramPlace s }
+requestOf f u =
+    record { command = commandOf (command f); first = param f 0; second = param f 1; option = optionFlag f; own = ownUid f u; at = paramPlace f }

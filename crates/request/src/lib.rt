@@ -17,17 +17,17 @@ pub struct RequestFields {
     pub at: u8,
 }
 
-pub fn fields(s: &[u8], u: Uid) -> RequestFields
-    ensures { λ r. ⌜ r ≡ requestOf (now (s .entry)) u ⌝ }
+pub fn fields(f: &[u8], u: Uid) -> RequestFields
+    ensures { λ r. ⌜ r ≡ requestOf (now (f .entry)) u ⌝ }
 {
-    let at = frame::param_place(s);
-    let command = commands::command_of(frame::command(s));
+    let at = frame::param_place(f);
+    let command = commands::command_of(frame::command(f));
     RequestFields {
         command: command,
-        first: frame::param(s, 0),
-        second: frame::param(s, 1),
-        option: frame::option(s),
-        own: frame::own_uid(s, u),
+        first: frame::param(f, 0),
+        second: frame::param(f, 1),
+        option: frame::option(f),
+        own: frame::own_uid(f, u),
         at: at as u8,
     }
 }

@@ -15,52 +15,52 @@ use Rattle.areas.specs.Ends.{areaOfBlock}
 
 -- RFAiSS of an area, 1 to 4
 unfoldable pub securityOf : Security → ℕ → RfaSs
-securityOf s area =
-    pick (eqb area 1) (s .area1)
-    (pick (eqb area 2) (s .area2)
-    (pick (eqb area 3) (s .area3)
-    (s .area4)))
+securityOf security area =
+    pick (eqb area 1) (security .area1)
+    (pick (eqb area 2) (security .area2)
+    (pick (eqb area 3) (security .area3)
+    (security .area4)))
 
 -- "RFAiSS bits 1-0 name password 1 to 3 (0: none opens it)"; "radio session 0 none, 1 to 4 for passwords 0 to 3"
 unfoldable pub sessionOpens : RfaSs → ℕ → Bool
-sessionOpens s session = not (eqb (s .bits % 4) 0) && eqb session (s .bits % 4 + 1)
+sessionOpens security session = not (eqb (security .bits % 4) 0) && eqb session (security .bits % 4 + 1)
 
 -- "Bits 3-2: 0 read and write free; 1 write needs the session; 2 read and write need it; 3 read needs it, write never."
 abbrev pub setting : RfaSs → ℕ
-setting s = s .bits / 4 % 4
+setting security = security .bits / 4 % 4
 
 unfoldable pub radioWrites : RfaSs → ℕ → Bool
-radioWrites s session =
-    pick (eqb (setting s) 0) true
-    (pick (eqb (setting s) 3) false
-    (sessionOpens s session))
+radioWrites security session =
+    pick (eqb (setting security) 0) true
+    (pick (eqb (setting security) 3) false
+    (sessionOpens security session))
 
 -- "Area 1 is always readable."
 unfoldable pub radioReads : RfaSs → ℕ → ℕ → Bool
-radioReads s area session =
+radioReads security area session =
     pick (eqb area 1) true
-    (pick (ltb (setting s) 2) true
-    (sessionOpens s session))
+    (pick (ltb (setting security) 2) true
+    (sessionOpens security session))
 
 -- "I2CSS has two bits an area, area 1 lowest"
 unfoldable pub wireBits : I2cSs → ℕ → ℕ
-wireBits s area =
-    pick (eqb area 1) (s .bits % 4)
-    (pick (eqb area 2) (s .bits / 4 % 4)
-    (pick (eqb area 3) (s .bits / 16 % 4)
-    (s .bits / 64 % 4)))
+wireBits security area =
+    pick (eqb area 1) (security .bits % 4)
+    (pick (eqb area 2) (security .bits / 4 % 4)
+    (pick (eqb area 3) (security .bits / 16 % 4)
+    (security .bits / 64 % 4)))
 
 -- "low bit, write needs the I2C session"
 unfoldable pub wireWrites : I2cSs → ℕ → Bool → Bool
-wireWrites s area session = session || not (isSet 1 (wireBits s area))
+wireWrites security area session = session || not (isSet 1 (wireBits security area))
 
 -- "high bit, read needs it, ignored in area 1"
 unfoldable pub wireReads : I2cSs → ℕ → Bool → Bool
-wireReads s area session = session || eqb area 1 || not (isSet 2 (wireBits s area))
+wireReads security area session = session || eqb area 1 || not (isSet 2 (wireBits security area))
 
 -- "LOCK_CCFILE bits 0 and 1 lock blocks 0 and 1 against writing by either side."
 unfoldable pub isLocked : LockCcFile → ℕ → Bool
-isLocked s block = (eqb block 0 && isSet 1 (s .bits)) || (eqb block 1 && isSet 2 (s .bits))
+isLocked lock block = (eqb block 0 && isSet 1 (lock .bits)) || (eqb block 1 && isSet 2 (lock .bits))
 
 -- a side, with the session that it has open, may read or write an area
 unfoldable pub readRight : Registers → Side → ℕ → Bool

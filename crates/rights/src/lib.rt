@@ -8,87 +8,87 @@ use registers::Registers;
 use registers::Security;
 
 // RFAiSS of an area.
-pub fn security_of(s: Security, area: u8) -> RfaSs
-    ensures { λ r. ⌜ r ≡ securityOf s area ⌝ }
+pub fn security_of(security: Security, area: u8) -> RfaSs
+    ensures { λ r. ⌜ r ≡ securityOf security area ⌝ }
 {
     if area == 1 {
-        return s.area1;
+        return security.area1;
     }
     if area == 2 {
-        return s.area2;
+        return security.area2;
     }
     if area == 3 {
-        return s.area3;
+        return security.area3;
     }
-    s.area4
+    security.area4
 }
 
 // Whether the open radio session is the one that an area names.
-fn session_opens(s: RfaSs, session: u8) -> bool
-    ensures { λ r. ⌜ r ≡ sessionOpens s session ⌝ }
+fn session_opens(security: RfaSs, session: u8) -> bool
+    ensures { λ r. ⌜ r ≡ sessionOpens security session ⌝ }
 {
-    (s.bits % 4 != 0) & (session == s.bits % 4 + 1)
+    (security.bits % 4 != 0) & (session == security.bits % 4 + 1)
 }
 
-fn radio_writes(s: RfaSs, session: u8) -> bool
-    ensures { λ r. ⌜ r ≡ radioWrites s session ⌝ }
+fn radio_writes(security: RfaSs, session: u8) -> bool
+    ensures { λ r. ⌜ r ≡ radioWrites security session ⌝ }
 {
-    if s.bits / 4 % 4 == 0 {
+    if security.bits / 4 % 4 == 0 {
         return true;
     }
-    if s.bits / 4 % 4 == 3 {
+    if security.bits / 4 % 4 == 3 {
         return false;
     }
-    session_opens(s, session)
+    session_opens(security, session)
 }
 
-fn radio_reads(s: RfaSs, area: u8, session: u8) -> bool
-    ensures { λ r. ⌜ r ≡ radioReads s area session ⌝ }
+fn radio_reads(security: RfaSs, area: u8, session: u8) -> bool
+    ensures { λ r. ⌜ r ≡ radioReads security area session ⌝ }
 {
     if area == 1 {
         return true;
     }
-    if s.bits / 4 % 4 < 2 {
+    if security.bits / 4 % 4 < 2 {
         return true;
     }
-    session_opens(s, session)
+    session_opens(security, session)
 }
 
 // The two bits of I2CSS of an area.
-fn wire_bits(s: I2cSs, area: u8) -> u8
-    ensures { λ r. ⌜ r ≡ wireBits s area ⌝ }
+fn wire_bits(security: I2cSs, area: u8) -> u8
+    ensures { λ r. ⌜ r ≡ wireBits security area ⌝ }
 {
     if area == 1 {
-        return s.bits % 4;
+        return security.bits % 4;
     }
     if area == 2 {
-        return s.bits / 4 % 4;
+        return security.bits / 4 % 4;
     }
     if area == 3 {
-        return s.bits / 16 % 4;
+        return security.bits / 16 % 4;
     }
-    s.bits / 64 % 4
+    security.bits / 64 % 4
 }
 
-fn wire_writes(s: I2cSs, area: u8, session: bool) -> bool
-    ensures { λ r. ⌜ r ≡ wireWrites s area session ⌝ }
+fn wire_writes(security: I2cSs, area: u8, session: bool) -> bool
+    ensures { λ r. ⌜ r ≡ wireWrites security area session ⌝ }
 {
-    let bits = wire_bits(s, area);
+    let bits = wire_bits(security, area);
     session | !(bits / 1 % 2 == 1)
 }
 
-fn wire_reads(s: I2cSs, area: u8, session: bool) -> bool
-    ensures { λ r. ⌜ r ≡ wireReads s area session ⌝ }
+fn wire_reads(security: I2cSs, area: u8, session: bool) -> bool
+    ensures { λ r. ⌜ r ≡ wireReads security area session ⌝ }
 {
-    let bits = wire_bits(s, area);
+    let bits = wire_bits(security, area);
     session | (area == 1) | !(bits / 2 % 2 == 1)
 }
 
 // Whether LOCK_CCFILE locks a block.
-pub fn is_locked(s: LockCcFile, block: u16) -> bool
-    ensures { λ r. ⌜ r ≡ isLocked s block ⌝ }
+pub fn is_locked(lock: LockCcFile, block: u16) -> bool
+    ensures { λ r. ⌜ r ≡ isLocked lock block ⌝ }
 {
-    ((block == 0) & (s.bits / 1 % 2 == 1)) | ((block == 1) & (s.bits / 2 % 2 == 1))
+    ((block == 0) & (lock.bits / 1 % 2 == 1)) | ((block == 1) & (lock.bits / 2 % 2 == 1))
 }
 
 // The side that asks, with its open session: on the wire whether, on the radio which.

@@ -1,4 +1,4 @@
--- Whether a data byte is Acked: byte x, the leg's data byte k (from 0), of a write leg in a space from address f, after its earlier bytes e.
+-- Whether a data byte is Acked: byte x, the leg's data byte k (from 0), of a write leg in a space from a first address, after its earlier bytes.
 -- The signal step, the whole leg and the range on page bytes all ask this one definition.
 use mathlib.Core.Bool.{Bool, _&&_}
 use mathlib.Core.List.{List}
@@ -15,9 +15,9 @@ use Rattle.user_rule.specs.UserRule.{userAcked}
 use Rattle.system_rule.specs.SystemRule.{systemAcked}
 
 unfoldable pub spaceAcked : Space → Core → Bool → ℕ → ℕ → List ℕ → ℕ → Bool
-spaceAcked User c session f k e x = userAcked c session f k
-spaceAcked System c session f k e x = systemAcked c session f k e x
+spaceAcked User c session first k earlier x = userAcked c session first k
+spaceAcked System c session first k earlier x = systemAcked c session first k earlier x
 
 -- "Data is Acked up to 256 bytes when .."; "All else .. is NoAcked."
 unfoldable pub acked : Space → Core → Bool → ℕ → ℕ → List ℕ → ℕ → Bool
-acked s c session f k e x = ltb k 256 && spaceAcked s c session f k e x
+acked space c session first k earlier x = ltb k 256 && spaceAcked space c session first k earlier x

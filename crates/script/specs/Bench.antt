@@ -23,29 +23,29 @@ abbrev pub longestText : ℕ
 longestText = 1304
 
 abbrev pub prints : Bench → Tag → List ℕ → List ℕ → List ℕ → LineResult
-prints b t m o a = record { bench = record { tag = t; number = nextLine b }; memory = m; reply = o; text = lineText (nextLine b) a }
+prints bench t m o answer = record { bench = record { tag = t; number = nextLine bench }; memory = m; reply = o; text = lineText (nextLine bench) answer }
 
 -- a call with the reply buffer o
 abbrev pub benchCall : Bench → List ℕ → List ℕ → ℕ → ℕ → List ℕ → LineResult
-benchCall b m o code value s =
-    let e = stepOf (b .tag) m o code value s in
-    prints b (e .tag) (e .memory) (e .reply) (answerText (e .answer) (e .reply))
+benchCall bench m o code value f =
+    let result = stepOf (bench .tag) m o code value f in
+    prints bench (result .tag) (result .memory) (result .reply) (answerText (result .answer) (result .reply))
 
 -- the program adds a frame's CRC
 unfoldable pub lineResult : ScriptLine → Bench → List ℕ → List ℕ → LineResult
-lineResult badLine b m o = prints b (b .tag) m o badText
-lineResult (signalLine code value) b m o = benchCall b m o code value []
-lineResult (frameLine s) b m o = benchCall b m o 8 0 (closed s)
+lineResult badLine bench m o = prints bench (bench .tag) m o badText
+lineResult (signalLine code value) bench m o = benchCall bench m o code value []
+lineResult (frameLine f) bench m o = benchCall bench m o 8 0 (closed f)
 
 -- the frame that a line hands over, with its CRC; any other line has none
 unfoldable pub closedFrame : ScriptLine → List ℕ
 closedFrame badLine = []
 closedFrame (signalLine code value) = []
-closedFrame (frameLine s) = closed s
+closedFrame (frameLine f) = closed f
 
 -- the line s
 unfoldable pub benchOf : Bench → List ℕ → List ℕ → List ℕ → LineResult
-benchOf b m o s = lineResult (lineOf s) b m o
+benchOf bench m o s = lineResult (lineOf s) bench m o
 
 -- ---- what the program's function leaves of the lent buffers: the text stands in `buffer` from place 0 on
 pub record LineBuffers : Type 0 where
@@ -56,7 +56,7 @@ pub record LineBuffers : Type 0 where
   pub buffer : List ℕ
 
 abbrev pub lineBuffers : Bench → ℕ → List ℕ → List ℕ → List ℕ → LineBuffers
-lineBuffers b n m o x = record { bench = b; length = n; memory = m; reply = o; buffer = x }
+lineBuffers bench n m o buffer = record { bench = bench; length = n; memory = m; reply = o; buffer = buffer }
 
 abbrev pub putLine : LineResult → List ℕ → LineBuffers
-putLine p x = lineBuffers (p .bench) (size (p .text)) (p .memory) (p .reply) (sets x 0 (p .text))
+putLine result buffer = lineBuffers (result .bench) (size (result .text)) (result .memory) (result .reply) (sets buffer 0 (result .text))

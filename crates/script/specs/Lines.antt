@@ -12,20 +12,20 @@ pub record BenchState : Type 0 where
   pub reply : List ℕ
 
 abbrev pub benchState : Bench → List ℕ → List ℕ → BenchState
-benchState b m o = record { bench = b; memory = m; reply = o }
+benchState bench m o = record { bench = bench; memory = m; reply = o }
 
 -- the line s from there
 abbrev pub lineFrom : BenchState → List ℕ → LineResult
-lineFrom c s = benchOf (c .bench) (c .memory) (c .reply) s
+lineFrom state s = benchOf (state .bench) (state .memory) (state .reply) s
 
 -- what it hands on to the next
 abbrev pub benchAfter : LineResult → BenchState
-benchAfter p = benchState (p .bench) (p .memory) (p .reply)
+benchAfter result = benchState (result .bench) (result .memory) (result .reply)
 
 -- lines, the first one first
 unfoldable pub afterLines : BenchState → List (List ℕ) → BenchState
-afterLines c [] = c
-afterLines c (l ∷ ls) = afterLines (benchAfter (lineFrom c l)) ls
+afterLines state [] = state
+afterLines state (s ∷ lines) = afterLines (benchAfter (lineFrom state s)) lines
 
 -- before line 1, with the lent memory m and the reply buffer o
 abbrev pub beforeLines : List ℕ → List ℕ → BenchState

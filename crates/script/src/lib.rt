@@ -23,7 +23,7 @@ pub struct LineOutcome {
 
 // A call, and its answer's line.
 fn call(
-    b: Bench,
+    bench: Bench,
     m: &mut [u8],
     reply: &mut [u8; 643],
     code: u8,
@@ -31,13 +31,13 @@ fn call(
     frame: &[u8],
     text: &mut [u8],
 ) -> LineOutcome
-    ensures { λ r. ⌜ lineBuffers (r .bench) (r .length) (now (m .exit)) (now (reply .exit)) (now (text .exit)) ≡ putLine (benchCall b (now (m .entry)) (now (reply .entry)) code value (now (frame .entry))) (now (text .entry)) ⌝ }
+    ensures { λ r. ⌜ lineBuffers (r .bench) (r .length) (now (m .exit)) (now (reply .exit)) (now (text .exit)) ≡ putLine (benchCall bench (now (m .entry)) (now (reply .entry)) code value (now (frame .entry))) (now (text .entry)) ⌝ }
 {
-    let t = b.tag;
+    let t = bench.tag;
     let o = model::step(t, m, reply, code, value, frame);
     let answer = o.answer;
     let tag = o.tag;
-    let number = bench_start::next_line(b);
+    let number = bench_start::next_line(bench);
     let length = printing::put_line(text, number, answer, reply);
     LineOutcome {
         bench: Bench { tag, number },
@@ -91,11 +91,11 @@ fn arguments_of(s: &[u8], frame: &mut [u8; 602]) -> Arguments
 }
 
 // A bad line is no call: it prints ? and changes nothing but the number of lines.
-fn bad_line(b: Bench, reply: &[u8; 643], text: &mut [u8]) -> LineOutcome
-    ensures { λ r. ⌜ ((m : List ℕ) → lineBuffers (r .bench) (r .length) m (now (reply .entry)) (now (text .exit)) ≡ putLine (prints b (b .tag) m (now (reply .entry)) badText) (now (text .entry))) ⌝ }
+fn bad_line(bench: Bench, reply: &[u8; 643], text: &mut [u8]) -> LineOutcome
+    ensures { λ r. ⌜ ((m : List ℕ) → lineBuffers (r .bench) (r .length) m (now (reply .entry)) (now (text .exit)) ≡ putLine (prints bench (bench .tag) m (now (reply .entry)) badText) (now (text .entry))) ⌝ }
 {
-    let tag = b.tag;
-    let number = bench_start::next_line(b);
+    let tag = bench.tag;
+    let number = bench_start::next_line(bench);
     let answer = Answer::Refused(Refusal::SignalUnknown);
     let length = printing::put_line(text, number, answer, reply);
     LineOutcome {
@@ -107,22 +107,22 @@ fn bad_line(b: Bench, reply: &[u8; 643], text: &mut [u8]) -> LineOutcome
 // A line without its line feed. Its text stands in `text` from place 0 on, and its frame in `frame`. The caller lends
 // room for a frame: an array of its own would be cleared for each line, and few lines have one.
 pub fn line(
-    b: Bench,
+    bench: Bench,
     m: &mut [u8],
     reply: &mut [u8; 643],
     frame: &mut [u8; 602],
     s: &[u8],
     text: &mut [u8],
 ) -> LineOutcome
-    ensures { λ r. ⌜ lineBuffers (r .bench) (r .length) (now (m .exit)) (now (reply .exit)) (now (text .exit)) ≡ putLine (benchOf b (now (m .entry)) (now (reply .entry)) (now (s .entry))) (now (text .entry)) ⌝ }
+    ensures { λ r. ⌜ lineBuffers (r .bench) (r .length) (now (m .exit)) (now (reply .exit)) (now (text .exit)) ≡ putLine (benchOf bench (now (m .entry)) (now (reply .entry)) (now (s .entry))) (now (text .entry)) ⌝ }
     ensures { λ r. ⌜ r .length ≤ longestText ⌝ }
     ensures { λ _. ⌜ now (frame .exit) ≡ sets (now (frame .entry)) 0 (closedFrame (lineOf (now (s .entry)))) ⌝ }
 {
     let c = arguments_of(s, frame);
     if c.code == 0 {
-        return bad_line(b, reply, text);
+        return bad_line(bench, reply, text);
     }
     let length = c.length;
     let whole = &frame[..];
-    call(b, m, reply, c.code, c.value, &whole[0..length], text)
+    call(bench, m, reply, c.code, c.value, &whole[0..length], text)
 }

@@ -24,6 +24,6 @@ choose vcc programming x = pick (programming || not vcc) NotAcked (selectOf x)
 abbrev pub address : ℕ → ℕ → ℕ
 address high low = (high * 256 + low) % 65536
 
--- the first address of a write leg whose page has k bytes and whose counter is c
+-- the first address of a write leg whose page has k bytes, by its counter
 unfoldable pub firstOf : ℕ → ℕ → ℕ
-firstOf c k = (c + 65536 - k) % 65536
+firstOf counter k = (counter + 65536 - k) % 65536

@@ -1,4 +1,4 @@
--- What each command says and leaves. They are defined where their crates are: blocks, block_writes, config, message, password, radio_state.
+-- What each command says and leaves. They are defined where their crates are: blocks, block_status, block_writes, config, dynamic_config, message_writes, message, password, radio_state.
 use mathlib.Core.Bool.{Bool}
 use mathlib.Core.List.{List}
 use Prim.Native.Nat.{ℕ, _+_}
@@ -48,7 +48,7 @@ serveCommand WritePassword q v vcc m f = writePasswordOf v m (q .first) f (q .at
 
 unfoldable pub serveCode : CommandCode → RequestFields → RadioSide → Bool → List ℕ → List ℕ → CommandResult
 serveCode Unknown q v vcc m f = commandResult nothing v m
-serveCode (Known r) q v vcc m f = serveCommand (r .command) q v vcc m f
+serveCode (Known row) q v vcc m f = serveCommand (row .command) q v vcc m f
 
 -- a request served; no unknown command is one
 unfoldable pub serveOf : RequestFields → RadioSide → Bool → List ℕ → List ℕ → CommandResult

@@ -22,30 +22,30 @@ pub record WireResult : Type 0 where
   pub memory : List ℕ
 
 abbrev pub wireResult : WireAnswer → WireSide → List ℕ → WireResult
-wireResult a w m = record { answer = a; side = w; memory = m }
+wireResult answer w m = record { answer = answer; side = w; memory = m }
 
 abbrev pub sideBus : Bus → WireSide → WireSide
 sideBus b w = withHost (withBus b (w .host)) w
 
 -- the counter and the bus
 abbrev pub sideLine : ℕ → Bus → WireSide → WireSide
-sideLine c b w = withHost (withBus b (withCounter c (w .host))) w
+sideLine counter b w = withHost (withBus b (withCounter counter (w .host))) w
 
 -- what the bus has due at the leg's end, with the counter and the memory.
 -- "The first NoAck from the tag spoils the leg: .. it writes nothing." "A leg with no data writes nothing"
 unfoldable pub dueOf : Bus → ℕ → List ℕ → Due
-dueOf Idle c m = nothingDue
-dueOf (Started transfer) c m = nothingDue
-dueOf (ReadLeg space over last) c m = pick last clears nothingDue
-dueOf (WriteLeg space) c m = nothingDue
-dueOf (LowAddress space high) c m = nothingDue
-dueOf (DataLeg space count spoiled) c m = pick (spoiled || eqb count 0) nothingDue (writes space (firstOf c count) (page count m))
+dueOf Idle counter m = nothingDue
+dueOf (Started transfer) counter m = nothingDue
+dueOf (ReadLeg space over last) counter m = pick last clears nothingDue
+dueOf (WriteLeg space) counter m = nothingDue
+dueOf (LowAddress space high) counter m = nothingDue
+dueOf (DataLeg space count spoiled) counter m = pick (spoiled || eqb count 0) nothingDue (writes space (firstOf counter count) (page count m))
 
 -- a Start ends the leg; the bus is started, the transfer open or not as before
 unfoldable pub startAt : Bus → WireSide → List ℕ → WireResult
 startAt b w m =
-    let r = settle started (dueOf b (w .host .counter) m) (sideBus (Started (isOpen b)) w) m in
-    wireResult Nothing (r .side) (r .memory)
+    let result = settle started (dueOf b (w .host .counter) m) (sideBus (Started (isOpen b)) w) m in
+    wireResult Nothing (result .side) (result .memory)
 
 -- "Start without VCC .. change[s] nothing"
 unfoldable pub startOf : WireSide → List ℕ → WireResult
@@ -54,5 +54,5 @@ startOf w m = pick (w .host .vcc) (startAt (w .host .bus) w m) (wireResult Nothi
 -- a Stop ends the leg; "A Stop .. leaves the bus idle."
 unfoldable pub stopAt : Bus → WireSide → List ℕ → WireResult
 stopAt b w m =
-    let r = settle stopped (dueOf b (w .host .counter) m) (sideBus Idle w) m in
-    wireResult Nothing (r .side) (r .memory)
+    let result = settle stopped (dueOf b (w .host .counter) m) (sideBus Idle w) m in
+    wireResult Nothing (result .side) (result .memory)

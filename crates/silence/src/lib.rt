@@ -7,54 +7,54 @@ use keys::Uid;
 use register_types::RfMngt;
 
 // "02h missing or other".
-fn maker_differs(s: &[u8]) -> bool
-    ensures { λ r. ⌜ r ≡ makerDiffers (now (s .entry)) ⌝ }
+fn maker_differs(f: &[u8]) -> bool
+    ensures { λ r. ⌜ r ≡ makerDiffers (now (f .entry)) ⌝ }
 {
-    let custom = 0xA0 <= frame::command(s);
-    let end = frame::crc_place(s);
-    let maker = parts::byte_at(s, 2);
+    let custom = 0xA0 <= frame::command(f);
+    let end = frame::crc_place(f);
+    let maker = parts::byte_at(f, 2);
     custom & ((end < 3) | (maker != 0x02))
 }
 
 // "UID short or, except in Select, other".
-fn uid_differs(s: &[u8], u: Uid) -> bool
-    ensures { λ r. ⌜ r ≡ uidDiffers (now (s .entry)) u ⌝ }
+fn uid_differs(f: &[u8], u: Uid) -> bool
+    ensures { λ r. ⌜ r ≡ uidDiffers (now (f .entry)) u ⌝ }
 {
-    if parts::byte_at(s, 0) / 0x20 % 2 != 1 {
+    if parts::byte_at(f, 0) / 0x20 % 2 != 1 {
         return false;
     }
-    let end = frame::crc_place(s);
-    let at = frame::param_place(s);
-    let select = frame::command(s) == commands::SELECT;
-    let own = frame::own_uid(s, u);
+    let end = frame::crc_place(f);
+    let at = frame::param_place(f);
+    let select = frame::command(f) == commands::SELECT;
+    let own = frame::own_uid(f, u);
     (end < at) | (!select & !own)
 }
 
 // The rules that every frame meets first. The CRC is computed only where the length is right.
-fn fails_reception(s: &[u8], a: Air, d: RfMngt) -> bool
-    ensures { λ r. ⌜ ((u : Uid) → r ≡ anyHolds (silenceHolds (now (s .entry)) a u d) receptionSilences) ⌝ }
+fn fails_reception(f: &[u8], a: Air, dynamic: RfMngt) -> bool
+    ensures { λ r. ⌜ ((u : Uid) → r ≡ anyHolds (silenceHolds (now (f .entry)) a u dynamic) receptionSilences) ⌝ }
 {
     if !a.field {
         return true;
     }
-    if d.bits / 2 % 2 == 1 {
+    if dynamic.bits / 2 % 2 == 1 {
         return true;
     }
-    if (s.len() < 4) | (270 < s.len()) {
+    if (f.len() < 4) | (270 < f.len()) {
         return true;
     }
-    if !crc::is_good(s) {
+    if !crc::is_good(f) {
         return true;
     }
     false
 }
 
 // And then a request.
-fn fails_address(s: &[u8], a: Air, u: Uid) -> bool
-    ensures { λ r. ⌜ ((d : RfMngt) → r ≡ anyHolds (silenceHolds (now (s .entry)) a u d) addressSilences) ⌝ }
+fn fails_address(f: &[u8], a: Air, u: Uid) -> bool
+    ensures { λ r. ⌜ ((d : RfMngt) → r ≡ anyHolds (silenceHolds (now (f .entry)) a u d) addressSilences) ⌝ }
 {
     let radio = a.radio;
-    let flags = parts::byte_at(s, 0);
+    let flags = parts::byte_at(f, 0);
     let select = flags / 0x10 % 2 == 1;
     let address = flags / 0x20 % 2 == 1;
     if flags / 0x04 % 2 == 1 {
@@ -63,10 +63,10 @@ fn fails_address(s: &[u8], a: Air, u: Uid) -> bool
     if select & address {
         return true;
     }
-    if maker_differs(s) {
+    if maker_differs(f) {
         return true;
     }
-    if uid_differs(s, u) {
+    if uid_differs(f, u) {
         return true;
     }
     let selected = air::is_selected(radio);
@@ -77,7 +77,7 @@ fn fails_address(s: &[u8], a: Air, u: Uid) -> bool
     if !select & !address & quiet {
         return true;
     }
-    let c = frame::command(s);
+    let c = frame::command(f);
     if ((c == commands::SELECT) | (c == commands::STAY_QUIET)) & !address {
         return true;
     }
@@ -85,11 +85,11 @@ fn fails_address(s: &[u8], a: Air, u: Uid) -> bool
 }
 
 // The silence list, one rule after the other up to the first that holds.
-pub fn is_silent(s: &[u8], a: Air, u: Uid, d: RfMngt) -> bool
-    ensures { λ r. ⌜ r ≡ isSilent (now (s .entry)) a u d ⌝ }
+pub fn is_silent(f: &[u8], a: Air, u: Uid, dynamic: RfMngt) -> bool
+    ensures { λ r. ⌜ r ≡ isSilent (now (f .entry)) a u dynamic ⌝ }
 {
-    if fails_reception(s, a, d) {
+    if fails_reception(f, a, dynamic) {
         return true;
     }
-    fails_address(s, a, u)
+    fails_address(f, a, u)
 }

@@ -27,7 +27,7 @@ stateBytes = 83
 -- ---- numbers
 -- "0 or 1"
 unfoldable pub flagByte : Bool → ℕ
-flagByte b = pick b 1 0
+flagByte on = pick on 1 0
 
 abbrev pub isFlag : ℕ → Bool
 isFlag x = leb x 1
@@ -159,9 +159,9 @@ registersAt s at =
 
 -- ---- places 28 to 34: "MB_EN, HOST_PUT, RF_PUT, HOST_CURRENT, RF_CURRENT", "message length, low byte first"
 unfoldable pub mailboxBytes : Mailbox → List ℕ
-mailboxBytes m =
-    flagByte (m .enabled) ∷ flagByte (m .host .put) ∷ flagByte (m .rf .put) ∷ flagByte (m .host .current) ∷ flagByte (m .rf .current)
-    ∷ lowByte (m .length) ∷ highByte (m .length) ∷ []
+mailboxBytes mailbox =
+    flagByte (mailbox .enabled) ∷ flagByte (mailbox .host .put) ∷ flagByte (mailbox .rf .put) ∷ flagByte (mailbox .host .current) ∷ flagByte (mailbox .rf .current)
+    ∷ lowByte (mailbox .length) ∷ highByte (mailbox .length) ∷ []
 
 unfoldable pub mailboxDecodes : List ℕ → ℕ → Bool
 mailboxDecodes s at =

@@ -13,29 +13,29 @@ use registers::Registers;
 use tag::Host;
 use tag::Tag;
 
-fn flag_byte(b: bool) -> u8
-    ensures { λ r. ⌜ r ≡ flagByte b ⌝ }
+fn flag_byte(on: bool) -> u8
+    ensures { λ r. ⌜ r ≡ flagByte on ⌝ }
 {
-    if b {
+    if on {
         return 1;
     }
     0
 }
 
-fn radio_number(r: RadioState) -> u8
-    ensures { λ n. ⌜ n ≡ radioNumber r ⌝ }
+fn radio_number(x: RadioState) -> u8
+    ensures { λ n. ⌜ n ≡ radioNumber x ⌝ }
 {
-    match r {
+    match x {
         RadioState::Ready => 0,
         RadioState::Quiet => 1,
         RadioState::Selected => 2,
     }
 }
 
-fn space_number(s: Space) -> u8
-    ensures { λ n. ⌜ n ≡ spaceNumber s ⌝ }
+fn space_number(space: Space) -> u8
+    ensures { λ n. ⌜ n ≡ spaceNumber space ⌝ }
 {
-    match s {
+    match space {
         Space::User => 0,
         Space::System => 1,
     }
@@ -119,26 +119,26 @@ fn put_registers(r: Registers, s: &mut [u8])
     parts::put_bytes(s, 15, &b, 0, 13);
 }
 
-fn put_mailbox(m: Mailbox, s: &mut [u8])
-    ensures { λ _. ⌜ now (s .exit) ≡ sets (now (s .entry)) 28 (mailboxBytes m) ⌝ }
+fn put_mailbox(mailbox: Mailbox, s: &mut [u8])
+    ensures { λ _. ⌜ now (s .exit) ≡ sets (now (s .entry)) 28 (mailboxBytes mailbox) ⌝ }
 {
     let b = [
-        flag_byte(m.enabled),
-        flag_byte(m.host.put),
-        flag_byte(m.rf.put),
-        flag_byte(m.host.current),
-        flag_byte(m.rf.current),
-        (m.length % 256) as u8,
-        (m.length / 256) as u8,
+        flag_byte(mailbox.enabled),
+        flag_byte(mailbox.host.put),
+        flag_byte(mailbox.rf.put),
+        flag_byte(mailbox.host.current),
+        flag_byte(mailbox.rf.current),
+        (mailbox.length % 256) as u8,
+        (mailbox.length / 256) as u8,
     ];
     parts::put_bytes(s, 28, &b, 0, 7);
 }
 
-fn put_eight(b: [u8; 8], at: usize, s: &mut [u8])
-    ensures { λ _. ⌜ now (s .exit) ≡ sets (now (s .entry)) at b ⌝ }
-    ensures { λ _. ⌜ length b ≡ 8 ⌝ }
+fn put_eight(bytes: [u8; 8], at: usize, s: &mut [u8])
+    ensures { λ _. ⌜ now (s .exit) ≡ sets (now (s .entry)) at bytes ⌝ }
+    ensures { λ _. ⌜ length bytes ≡ 8 ⌝ }
 {
-    parts::put_bytes(s, at, &b, 0, 8);
+    parts::put_bytes(s, at, &bytes, 0, 8);
 }
 
 fn put_passwords(p: Passwords, s: &mut [u8])

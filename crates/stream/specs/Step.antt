@@ -17,11 +17,11 @@ pub record PieceResult : Type 0 where
   pub text : List ℕ
 
 abbrev pub pieceResult : BenchState → List ℕ → ℕ → List ℕ → PieceResult
-pieceResult c h n t = record { carried = c; held = h; used = n; text = t }
+pieceResult state held n text = record { carried = state; held = held; used = n; text = text }
 
--- the same, after k bytes more were used and the text t was written
+-- the same, after k bytes more were used and a text was written
 abbrev pub ahead : ℕ → List ℕ → PieceResult → PieceResult
-ahead k t r = pieceResult (r .carried) (r .held) (k + r .used) (t ++ r .text)
+ahead k text result = pieceResult (result .carried) (result .held) (k + result .used) (text ++ result .text)
 
 -- no text is longer (script's claim TextFits)
 abbrev pub textRoom : ℕ
@@ -29,20 +29,20 @@ textRoom = 1304
 
 -- a line feed comes and there is no room for its text: it is not used
 abbrev pub noRoom : BenchState → List ℕ → PieceResult
-noRoom c h = pieceResult c h 0 []
+noRoom state held = pieceResult state held 0 []
 
--- the piece s, after the unfinished line h, with room for so many bytes of text
+-- the piece s, after the unfinished line held, with room for so many bytes of text
 unfoldable pub pieceBy : ℕ → BenchState → List ℕ → List ℕ → PieceResult
-pieceBy room c h [] = pieceResult c h 0 []
-pieceBy room c h (b ∷ s) =
-    pick (eqb b 10)
-    (pick (ltb room textRoom) (noRoom c h)
-    (ahead 1 (lineFrom c h .text) (pieceBy (room - size (lineFrom c h .text)) (benchAfter (lineFrom c h)) [] s)))
-    (ahead 1 [] (pieceBy room c (keep (h ++ b ∷ [])) s))
+pieceBy room state held [] = pieceResult state held 0 []
+pieceBy room state held (x ∷ s) =
+    pick (eqb x 10)
+    (pick (ltb room textRoom) (noRoom state held)
+    (ahead 1 (lineFrom state held .text) (pieceBy (room - size (lineFrom state held .text)) (benchAfter (lineFrom state held)) [] s)))
+    (ahead 1 [] (pieceBy room state (keep (held ++ x ∷ [])) s))
 
 -- the end of the input: an unfinished line that has a byte gets its line feed
 unfoldable pub endOf : ℕ → BenchState → List ℕ → PieceResult
-endOf room c h = pick (eqb (size h) 0) (pieceResult c [] 0 []) (pieceBy room c h (10 ∷ []))
+endOf room state held = pick (eqb (size held) 0) (pieceResult state [] 0 []) (pieceBy room state held (10 ∷ []))
 
 -- ---- what both functions leave of the lent buffers: the texts stand in `buffer` from place 0 on. Of the buffer for an unfinished
 -- line only the line is said: what stands past it is the program's own choice, and neither function reads it.
@@ -54,7 +54,7 @@ pub record StreamBuffers : Type 0 where
   pub buffer : List ℕ
 
 abbrev pub streamBuffers : Bench → List ℕ → List ℕ → List ℕ → ℕ → ℕ → List ℕ → StreamBuffers
-streamBuffers b m o h n k x = record { carried = benchState b m o; held = h; used = n; wrote = k; buffer = x }
+streamBuffers bench m o held n k buffer = record { carried = benchState bench m o; held = held; used = n; wrote = k; buffer = buffer }
 
 abbrev pub puts : PieceResult → List ℕ → StreamBuffers
-puts r x = record { carried = r .carried; held = r .held; used = r .used; wrote = size (r .text); buffer = sets x 0 (r .text) }
+puts result buffer = record { carried = result .carried; held = result .held; used = result .used; wrote = size (result .text); buffer = sets buffer 0 (result .text) }

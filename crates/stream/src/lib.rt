@@ -35,7 +35,7 @@ fn line_from<'a>(kept: &'a [u8], n: usize, s: &'a [u8]) -> &'a [u8]
 
 // The unfinished line ends with the bytes s.
 fn end_line(
-    b: Bench,
+    bench: Bench,
     m: &mut [u8; 1024],
     reply: &mut [u8; 643],
     kept: &mut [u8; 1201],
@@ -45,11 +45,11 @@ fn end_line(
     text: &mut [u8],
 ) -> LineOutcome
     requires { ⌜ have ≤ keptMost ⌝ }
-    ensures { λ r. ⌜ lineBuffers (r .bench) (r .length) (now (m .exit)) (now (reply .exit)) (now (text .exit)) ≡ putLine (lineFrom (benchState b (now (m .entry)) (now (reply .entry))) (take have (now (kept .entry)) ++ now (s .entry))) (now (text .entry)) ⌝ }
+    ensures { λ r. ⌜ lineBuffers (r .bench) (r .length) (now (m .exit)) (now (reply .exit)) (now (text .exit)) ≡ putLine (lineFrom (benchState bench (now (m .entry)) (now (reply .entry))) (take have (now (kept .entry)) ++ now (s .entry))) (now (text .entry)) ⌝ }
     ensures { λ r. ⌜ r .length ≤ textRoom ⌝ }
 {
     let n = unfinished::join(kept, have, s);
-    script::line(b, m, reply, frame, line_from(kept, n, s), text)
+    script::line(bench, m, reply, frame, line_from(kept, n, s), text)
 }
 
 // A piece of the input, after an unfinished line: the first `have` bytes of `kept` (all, where it has fewer). What stands
@@ -57,7 +57,7 @@ fn end_line(
 // `out` has no room for 1,304 bytes more: the caller writes what stands there and calls again with the rest of the
 // piece.
 pub fn step(
-    b: Bench,
+    bench: Bench,
     m: &mut [u8; 1024],
     reply: &mut [u8; 643],
     kept: &mut [u8; 1201],
@@ -65,11 +65,11 @@ pub fn step(
     s: &[u8],
     out: &mut [u8],
 ) -> StreamOutcome
-    ensures { λ r. ⌜ streamBuffers (r .bench) (now (m .exit)) (now (reply .exit)) (take (r .have) (now (kept .exit))) (r .used) (r .wrote) (now (out .exit)) ≡ puts (pieceBy (length (now (out .entry))) (benchState b (now (m .entry)) (now (reply .entry))) (take have (now (kept .entry))) (now (s .entry))) (now (out .entry)) ⌝ }
+    ensures { λ r. ⌜ streamBuffers (r .bench) (now (m .exit)) (now (reply .exit)) (take (r .have) (now (kept .exit))) (r .used) (r .wrote) (now (out .exit)) ≡ puts (pieceBy (length (now (out .entry))) (benchState bench (now (m .entry)) (now (reply .entry))) (take have (now (kept .entry))) (now (s .entry))) (now (out .entry)) ⌝ }
     ensures { λ r. ⌜ (r .used ≤ length (now (s .entry))) × (r .wrote ≤ length (now (out .entry))) ⌝ }
 {
     let mut frame = [0u8; 602];
-    let mut bench = b;
+    let mut bench = bench;
     let mut n = unfinished::kept_count(kept, have);
     let mut from = 0;
     let mut at = 0;
@@ -102,25 +102,25 @@ pub fn step(
 
 // The end of the input: an unfinished line that has a byte gets its line feed.
 pub fn end(
-    b: Bench,
+    bench: Bench,
     m: &mut [u8; 1024],
     reply: &mut [u8; 643],
     kept: &mut [u8; 1201],
     have: usize,
     out: &mut [u8],
 ) -> StreamOutcome
-    ensures { λ r. ⌜ streamBuffers (r .bench) (now (m .exit)) (now (reply .exit)) (take (r .have) (now (kept .exit))) (r .used) (r .wrote) (now (out .exit)) ≡ puts (endOf (length (now (out .entry))) (benchState b (now (m .entry)) (now (reply .entry))) (take have (now (kept .entry)))) (now (out .entry)) ⌝ }
+    ensures { λ r. ⌜ streamBuffers (r .bench) (now (m .exit)) (now (reply .exit)) (take (r .have) (now (kept .exit))) (r .used) (r .wrote) (now (out .exit)) ≡ puts (endOf (length (now (out .entry))) (benchState bench (now (m .entry)) (now (reply .entry))) (take have (now (kept .entry)))) (now (out .entry)) ⌝ }
     ensures { λ r. ⌜ r .wrote ≤ length (now (out .entry)) ⌝ }
 {
     let held = unfinished::kept_count(kept, have);
     if held == 0 {
         return StreamOutcome {
-            bench: b,
+            bench: bench,
             have: 0,
             used: 0,
             wrote: 0,
         };
     }
     let feed = [b'\n'];
-    step(b, m, reply, kept, held, &feed, out)
+    step(bench, m, reply, kept, held, &feed, out)
 }

@@ -15,20 +15,20 @@ pub record Flow : Type 0 where
   pub text : List ℕ
 
 abbrev pub flow : BenchState → List ℕ → List ℕ → Flow
-flow c h t = record { carried = c; held = h; text = t }
+flow state held text = record { carried = state; held = held; text = text }
 
--- the same, after the text t
+-- the same, after a text
 abbrev pub following : List ℕ → Flow → Flow
-following t r = flow (r .carried) (r .held) (t ++ r .text)
+following text rest = flow (rest .carried) (rest .held) (text ++ rest .text)
 
--- the bytes s after the unfinished line h
+-- the bytes s after the unfinished line heldeld
 unfoldable pub flowOf : BenchState → List ℕ → List ℕ → Flow
-flowOf c h [] = flow c h []
-flowOf c h (b ∷ s) =
-    pick (eqb b 10)
-    (following (lineFrom c h .text) (flowOf (benchAfter (lineFrom c h)) [] s))
-    (flowOf c (keep (h ++ b ∷ [])) s)
+flowOf state held [] = flow state held []
+flowOf state held (x ∷ s) =
+    pick (eqb x 10)
+    (following (lineFrom state held .text) (flowOf (benchAfter (lineFrom state held)) [] s))
+    (flowOf state (keep (held ++ x ∷ [])) s)
 
--- a program that goes on has come to what r carries, and to its unfinished line (what it wrote no contract can say)
+-- a program that goes on has come to what the rest carries, and to its unfinished line (what it wrote no contract can say)
 abbrev pub Reaches : Bool → BenchState → List ℕ → Flow → Type 0
-Reaches more c h r = more ≡ true → (c ≡ r .carried) × (h ≡ r .held)
+Reaches more state held rest = more ≡ true → (state ≡ rest .carried) × (held ≡ rest .held)

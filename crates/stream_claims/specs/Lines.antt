@@ -5,25 +5,25 @@ use Prim.Native.Nat.{ℕ}
 use lib.Dec.{eqb}
 use Rattle.parts.specs.Pick.{pick}
 
--- the byte b before these lines: the first byte of the first of them, or a line by itself where the input ends
+-- the byte x before these lines: the first byte of the first of them, or a line by itself where the input ends
 unfoldable pub byteBefore : ℕ → List (List ℕ) → List (List ℕ)
-byteBefore b [] = (b ∷ []) ∷ []
-byteBefore b (l ∷ ls) = (b ∷ l) ∷ ls
+byteBefore x [] = (x ∷ []) ∷ []
+byteBefore x (s ∷ lines) = (x ∷ s) ∷ lines
 
 unfoldable pub linesOf : List ℕ → List (List ℕ)
 linesOf [] = []
-linesOf (b ∷ s) = pick (eqb b 10) ([] ∷ linesOf s) (byteBefore b (linesOf s))
+linesOf (x ∷ s) = pick (eqb x 10) ([] ∷ linesOf s) (byteBefore x (linesOf s))
 
 -- the same of the lines that have their line feed: what follows the last line feed is no line yet
 unfoldable pub byteBeforeFull : ℕ → List (List ℕ) → List (List ℕ)
-byteBeforeFull b [] = []
-byteBeforeFull b (l ∷ ls) = (b ∷ l) ∷ ls
+byteBeforeFull x [] = []
+byteBeforeFull x (s ∷ lines) = (x ∷ s) ∷ lines
 
 unfoldable pub fullLinesOf : List ℕ → List (List ℕ)
 fullLinesOf [] = []
-fullLinesOf (b ∷ s) = pick (eqb b 10) ([] ∷ fullLinesOf s) (byteBeforeFull b (fullLinesOf s))
+fullLinesOf (x ∷ s) = pick (eqb x 10) ([] ∷ fullLinesOf s) (byteBeforeFull x (fullLinesOf s))
 
--- the lines that have their line feed, where the bytes h stand before them
+-- the lines that have their line feed, where the bytes held stand before them
 unfoldable pub bytesBeforeFull : List ℕ → List (List ℕ) → List (List ℕ)
-bytesBeforeFull h [] = []
-bytesBeforeFull h (l ∷ ls) = (h ++ l) ∷ ls
+bytesBeforeFull held [] = []
+bytesBeforeFull held (s ∷ lines) = (held ++ s) ∷ lines

@@ -8,12 +8,12 @@ use Rattle.stream_claims.specs.Lines.{linesOf}
 
 -- the texts of lines, one after the other; what each hands on goes to the next
 unfoldable pub textsOf : BenchState → List (List ℕ) → List ℕ
-textsOf c [] = []
-textsOf c (l ∷ ls) = lineFrom c l .text ++ textsOf (benchAfter (lineFrom c l)) ls
+textsOf state [] = []
+textsOf state (s ∷ lines) = lineFrom state s .text ++ textsOf (benchAfter (lineFrom state s)) lines
 
 -- the output for the input s
 abbrev pub outputOf : BenchState → List ℕ → List ℕ
-outputOf c s = textsOf c (linesOf s)
+outputOf state s = textsOf state (linesOf s)
 
 -- "It starts fresh": both lent buffers are zeros before line 1
 abbrev pub freshStart : BenchState

@@ -15,16 +15,16 @@ use Rattle.effect.specs.Effect.{LegResult, legResult, sideSession, programming}
 -- "Code 07h writes: .. unequal halves write nothing and start no programming." "Fewer than 17: nothing."
 -- (No other code comes here: it is NoAcked, and a spoiled leg has no effect.)
 unfoldable pub passwordWritten : WireSide → List ℕ → List ℕ → LegResult
-passwordWritten w m bs =
-    let first = passwordAt bs 0 in
-    let second = passwordAt bs 9 in
-    pick (ltb (length bs) 17) (legResult w m)
-    (pick (eqb (getD bs 8 0) 0x09) (legResult (sideSession (samePassword (w .core .passwords .i2c) first && samePassword (w .core .passwords .i2c) second) w) m)
+passwordWritten w m bytes =
+    let first = passwordAt bytes 0 in
+    let second = passwordAt bytes 9 in
+    pick (ltb (length bytes) 17) (legResult w m)
+    (pick (eqb (getD bytes 8 0) 0x09) (legResult (sideSession (samePassword (w .core .passwords .i2c) first && samePassword (w .core .passwords .i2c) second) w) m)
     (pick (samePassword first second) (legResult (programming (withWireCore (withPasswords (withI2cPassword first (w .core .passwords)) (w .core)) w)) m)
     (legResult w m)))
 
 -- system space: the password leg, or registers
 unfoldable pub systemWritten : WireSide → List ℕ → ℕ → List ℕ → LegResult
-systemWritten w m f bs =
-    pick (eqb f 0x0900) (passwordWritten w m bs)
-    (legResult (programming (withWireCore (withRegisters (writtenAll (w .core .registers) f bs) (w .core)) w)) m)
+systemWritten w m first bytes =
+    pick (eqb first 0x0900) (passwordWritten w m bytes)
+    (legResult (programming (withWireCore (withRegisters (writtenAll (w .core .registers) first bytes) (w .core)) w)) m)

@@ -32,14 +32,14 @@ fn password_written(w: WireSide, m: &[u8], k: u16) -> WireSide
 }
 
 // A leg in system space written.
-pub fn system_written(w: WireSide, m: &[u8], f: u16, k: u16) -> WireSide
-    ensures { λ r. ⌜ legResult r (now (m .entry)) ≡ systemWritten w (now (m .entry)) f (page k (now (m .entry))) ⌝ }
+pub fn system_written(w: WireSide, m: &[u8], first: u16, k: u16) -> WireSide
+    ensures { λ r. ⌜ legResult r (now (m .entry)) ≡ systemWritten w (now (m .entry)) first (page k (now (m .entry))) ⌝ }
 {
-    if f == 0x0900 {
+    if first == 0x0900 {
         return password_written(w, m, k);
     }
     let mut c = w.core;
-    let registers = system_rule::written_all(c.registers, m, f, k);
+    let registers = system_rule::written_all(c.registers, m, first, k);
     c.registers = registers;
     effect::start_programming(effect::with_core(w, c))
 }

@@ -1,4 +1,4 @@
--- Whether a data byte is Acked in system space: byte x, the leg's data byte k (from 0), of a write leg from address f, after its earlier bytes e.
+-- Whether a data byte is Acked in system space: byte x, the leg's data byte k (from 0), of a write leg from a first address, after its earlier bytes.
 use mathlib.Core.Bool.{Bool, not, _&&_, _||_}
 use mathlib.Core.List.{List, [], _∷_}
 use Prim.Native.Nat.{ℕ, _+_}
@@ -10,18 +10,18 @@ use Rattle.registers.specs.Map.{written}
 use Rattle.areas.specs.Ends.{endAllows}
 use Rattle.tag.specs.declared.Core.{Core}
 
--- the registers after bytes from address f on were written, the lowest first
+-- the registers after bytes from a first address on were written, the lowest first
 unfoldable pub writtenAll : Registers → ℕ → List ℕ → Registers
-writtenAll r f [] = r
-writtenAll r f (x ∷ xs) = writtenAll (written r f x) (f + 1) xs
+writtenAll r first [] = r
+writtenAll r first (x ∷ bytes) = writtenAll (written r first x) (first + 1) bytes
 
 -- "system, MB_EN is 0, session open, register writable, ENDA rule met with the leg's earlier bytes taken as written"
 unfoldable pub registerAcked : Core → Bool → ℕ → ℕ → List ℕ → ℕ → Bool
-registerAcked c session f k e x =
+registerAcked c session first k earlier x =
     not (c .mailbox .enabled)
     && session
-    && isWritable (f + k)
-    && endAllows (writtenAll (c .registers) f e .ends) (f + k) x
+    && isWritable (first + k)
+    && endAllows (writtenAll (c .registers) first earlier .ends) (first + k) x
 
 -- "Password leg, AEh, 0900h, 17 bytes: eight, a code, eight again. Code 09h presents .. Code 07h writes: Acked only with the session open and MB_EN 0
 -- .. Another code, or an 18th byte, is NoAcked."
@@ -31,6 +31,6 @@ passwordAcked c session k x =
     (ltb k 17)
 
 unfoldable pub systemAcked : Core → Bool → ℕ → ℕ → List ℕ → ℕ → Bool
-systemAcked c session f k e x =
-    pick (eqb f 0x0900) (passwordAcked c session k x)
-    (registerAcked c session f k e x)
+systemAcked c session first k earlier x =
+    pick (eqb first 0x0900) (passwordAcked c session k x)
+    (registerAcked c session first k earlier x)

@@ -8,34 +8,34 @@ use registers::Registers;
 use tag::Core;
 
 // A byte written at an address that may lie past the last one.
-fn write_at(r: Registers, f: u16, i: u16, x: u8) -> Registers
-    ensures { λ n. ⌜ n ≡ written r (f + i) x ⌝ }
+fn write_at(r: Registers, first: u16, i: u16, x: u8) -> Registers
+    ensures { λ n. ⌜ n ≡ written r (first + i) x ⌝ }
 {
-    let row = register_table::row_of(f as u32 + i as u32);
+    let row = register_table::row_of(first as u32 + i as u32);
     let register = row.register;
     r.write_to(register, x)
 }
 
-// The registers with the page's k bytes taken as written from address f on.
-pub fn written_all(r: Registers, m: &[u8], f: u16, k: u16) -> Registers
-    ensures { λ n. ⌜ n ≡ writtenAll r f (page k (now (m .entry))) ⌝ }
+// The registers with the page's k bytes taken as written from the first address on.
+pub fn written_all(r: Registers, m: &[u8], first: u16, k: u16) -> Registers
+    ensures { λ n. ⌜ n ≡ writtenAll r first (page k (now (m .entry))) ⌝ }
 {
     let mut n = r;
     let mut i: u16 = 0;
     while i < k {
         let x = parts::byte_in(m, tag::PAGE_AT, i as usize);
-        n = write_at(n, f, i, x);
+        n = write_at(n, first, i, x);
         i += 1;
     }
     n
 }
 
-fn register_acked(c: Core, session: bool, m: &[u8], f: u16, k: u16, x: u8) -> bool
-    ensures { λ r. ⌜ r ≡ registerAcked c session f k (page k (now (m .entry))) x ⌝ }
+fn register_acked(c: Core, session: bool, m: &[u8], first: u16, k: u16, x: u8) -> bool
+    ensures { λ r. ⌜ r ≡ registerAcked c session first k (page k (now (m .entry))) x ⌝ }
 {
-    let at = f as u32 + k as u32;
+    let at = first as u32 + k as u32;
     let row = register_table::row_of(at);
-    let after = written_all(c.registers, m, f, k);
+    let after = written_all(c.registers, m, first, k);
     let allowed = areas::end_allows(after.ends, at, x);
     !c.mailbox.enabled & session & row.host & allowed
 }
@@ -49,11 +49,11 @@ fn password_acked(c: Core, session: bool, k: u16, x: u8) -> bool
     k < 17
 }
 
-pub fn system_acked(c: Core, session: bool, m: &[u8], f: u16, k: u16, x: u8) -> bool
-    ensures { λ r. ⌜ r ≡ systemAcked c session f k (page k (now (m .entry))) x ⌝ }
+pub fn system_acked(c: Core, session: bool, m: &[u8], first: u16, k: u16, x: u8) -> bool
+    ensures { λ r. ⌜ r ≡ systemAcked c session first k (page k (now (m .entry))) x ⌝ }
 {
-    if f == 0x0900 {
+    if first == 0x0900 {
         return password_acked(c, session, k, x);
     }
-    register_acked(c, session, m, f, k, x)
+    register_acked(c, session, m, first, k, x)
 }

@@ -32,7 +32,7 @@ abbrev pub withRegisters : Registers → Core → Core
 withRegisters r c = record { registers = r; mailbox = c .mailbox; passwords = c .passwords }
 
 abbrev pub withMailbox : Mailbox → Core → Core
-withMailbox m c = record { registers = c .registers; mailbox = m; passwords = c .passwords }
+withMailbox mailbox c = record { registers = c .registers; mailbox = mailbox; passwords = c .passwords }
 
 abbrev pub withPasswords : Passwords → Core → Core
 withPasswords p c = record { registers = c .registers; mailbox = c .mailbox; passwords = p }

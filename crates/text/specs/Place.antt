@@ -15,6 +15,6 @@ stored n o = record { next = n; buffer = o }
 abbrev pub lastPlace : ℕ
 lastPlace = 18446744073709551615
 
--- the text t stored in o from a place on: a character past the end of o is dropped, and the next place is at most the last one
+-- the text stored in o from a place on: a character past the end of o is dropped, and the next place is at most the last one
 abbrev pub textAt : List ℕ → ℕ → List ℕ → Stored
-textAt o at t = stored (min (at + length t) lastPlace) (sets o at t)
+textAt o at text = stored (min (at + length text) lastPlace) (sets o at text)

@@ -16,9 +16,9 @@ use Rattle.transfer.specs.Whole.{TransferResult, transferResult, before,
 -- a list of signals, one by one
 unfoldable pub runOf : WireSide → Uid → List ℕ → List Noted → TransferResult
 runOf w u m [] = transferResult [] w m
-runOf w u m (s ∷ n) =
-    let e = signalOf w u m (wireSignal s) in
-    before (e .answer ∷ []) (runOf (e .side) u (e .memory) n)
+runOf w u m (next ∷ noted) =
+    let result = signalOf w u m (wireSignal next) in
+    before (result .answer ∷ []) (runOf (result .side) u (result .memory) noted)
 
 -- where a select is Acked: with VCC and nothing being programmed; and the lent memory has its length
 pub record Ready (w : WireSide) (m : List ℕ) : Type 0 where
@@ -26,8 +26,8 @@ pub record Ready (w : WireSide) (m : List ℕ) : Type 0 where
   pub still : w .host .programming ≡ false
   pub bytes : length m ≡ memoryBytes
 
--- n is what comes after the first Start, up to the end of the transfer; the bus is started, a transfer open or not
+-- what is noted comes after the first Start, up to the end of the transfer; the bus is started, a transfer open or not
 abbrev pub TransferBySignals : Type 0
 TransferBySignals =
-    (n : List Noted) → finished true n ≡ true → (w : WireSide) (u : Uid) (m : List ℕ) (o : Bool) → Ready w m
-    → transferOf w u m n ≡ runOf (sideBus (Started o) w) u m n
+    (noted : List Noted) → finished true noted ≡ true → (w : WireSide) (u : Uid) (m : List ℕ) (opens : Bool) → Ready w m
+    → transferOf w u m noted ≡ runOf (sideBus (Started opens) w) u m noted

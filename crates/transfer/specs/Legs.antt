@@ -49,12 +49,12 @@ fresher fresh NotedVccOff = false
 
 unfoldable pub isEmpty : List Noted → Bool
 isEmpty [] = true
-isEmpty (s ∷ n) = false
+isEmpty (next ∷ noted) = false
 
 -- the transfer ends with the list's last signal, and not before
 unfoldable pub finished : Bool → List Noted → Bool
 finished fresh [] = false
-finished fresh (s ∷ n) = pick (ends fresh s) (isEmpty n) (finished (fresher fresh s) n)
+finished fresh (next ∷ noted) = pick (ends fresh next) (isEmpty noted) (finished (fresher fresh next) noted)
 
 -- ---- "A leg runs from Start to the next Start or the end."
 -- what the host does in a leg: it sends a byte, or fetches one and Acks it or not
@@ -75,14 +75,14 @@ pub data Legs : Type 0 where
 
 -- one move more at the front of the first leg
 unfoldable pub push : Move → Legs → Legs
-push a (leg ms l) = leg (a ∷ ms) l
-push a (last ms e) = last (a ∷ ms) e
+push move (leg moves l) = leg (move ∷ moves) l
+push move (last moves e) = last (move ∷ moves) e
 
 -- the legs of a finished list
 unfoldable pub parse : List Noted → Legs
 parse [] = last [] atRefusal
-parse (NotedStart ∷ n) = leg [] (parse n)
-parse (NotedSend x ∷ n) = push (moveSend x) (parse n)
-parse (NotedFetch ack ∷ n) = push (moveFetch ack) (parse n)
-parse (NotedStop ∷ n) = last [] atStop
-parse (NotedVccOff ∷ n) = last [] atVccOff
+parse (NotedStart ∷ noted) = leg [] (parse noted)
+parse (NotedSend x ∷ noted) = push (moveSend x) (parse noted)
+parse (NotedFetch ack ∷ noted) = push (moveFetch ack) (parse noted)
+parse (NotedStop ∷ noted) = last [] atStop
+parse (NotedVccOff ∷ noted) = last [] atVccOff

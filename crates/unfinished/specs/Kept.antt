@@ -8,4 +8,4 @@ abbrev pub keptMost : ℕ
 keptMost = 1201
 
 abbrev pub keep : List ℕ → List ℕ
-keep h = take keptMost h
+keep held = take keptMost held

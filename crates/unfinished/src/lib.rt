@@ -7,13 +7,13 @@ ghost use lib.ListN.{length, take};
 ghost use Rattle.parts.specs.Pick.{pick};
 ghost use Rattle.unfinished.specs.Kept.{keptMost, keep};
 
-fn least(a: usize, b: usize) -> usize
-    ensures { λ r. ⌜ r ≡ min a b ⌝ }
+fn least(n: usize, k: usize) -> usize
+    ensures { λ r. ⌜ r ≡ min n k ⌝ }
 {
-    if a < b {
-        return a;
+    if n < k {
+        return n;
     }
-    b
+    k
 }
 
 // How many bytes are kept: a number past the end is the end.

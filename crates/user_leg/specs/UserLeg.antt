@@ -16,8 +16,8 @@ use Rattle.effect.specs.Effect.{LegResult, legResult, programming}
 
 -- user space: memory; RF_MNGT_Dyn; MB_CTRL_Dyn, "using bit 0 only"; the mailbox, a put by the host
 unfoldable pub userWritten : WireSide → List ℕ → ℕ → List ℕ → LegResult
-userWritten w m f bs =
-    pick (ltb f userBytes) (legResult (programming w) (sets m f bs))
-    (pick (eqb f (dynamicAt rfMngtDyn)) (legResult (withWireCore (withRegisters (withDynamic (rfMngt (getD bs 0 0)) (w .core .registers)) (w .core)) w) m)
-    (pick (eqb f (dynamicAt mbCtrlDyn)) (legResult (withWireCore (withMailbox (controlled (getD bs 0 0) (w .core .registers .mode) (w .host .vcc) (w .core .mailbox)) (w .core)) w) m)
-    (legResult (withWireCore (withMailbox (hostPut (length bs) (w .core .mailbox)) (w .core)) w) (sets m mailboxPlace bs))))
+userWritten w m first bytes =
+    pick (ltb first userBytes) (legResult (programming w) (sets m first bytes))
+    (pick (eqb first (dynamicAt rfMngtDyn)) (legResult (withWireCore (withRegisters (withDynamic (rfMngt (getD bytes 0 0)) (w .core .registers)) (w .core)) w) m)
+    (pick (eqb first (dynamicAt mbCtrlDyn)) (legResult (withWireCore (withMailbox (controlled (getD bytes 0 0) (w .core .registers .mode) (w .host .vcc) (w .core .mailbox)) (w .core)) w) m)
+    (legResult (withWireCore (withMailbox (hostPut (length bytes) (w .core .mailbox)) (w .core)) w) (sets m mailboxPlace bytes))))

@@ -16,21 +16,21 @@ fn page_byte(m: &[u8], k: u16, i: u16) -> u8
     0
 }
 
-// A leg in user space written: the page's k bytes from address f on.
-pub fn user_written(w: WireSide, m: &mut [u8], f: u16, k: u16) -> WireSide
-    ensures { λ r. ⌜ legResult r (now (m .exit)) ≡ userWritten w (now (m .entry)) f (page k (now (m .entry))) ⌝ }
+// A leg in user space written: the page's k bytes from the first address on.
+pub fn user_written(w: WireSide, m: &mut [u8], first: u16, k: u16) -> WireSide
+    ensures { λ r. ⌜ legResult r (now (m .exit)) ≡ userWritten w (now (m .entry)) first (page k (now (m .entry))) ⌝ }
 {
     let mut c = w.core;
-    if f < 512 {
-        parts::copy_bytes(m, f as usize, tag::PAGE_AT, k as usize);
+    if first < 512 {
+        parts::copy_bytes(m, first as usize, tag::PAGE_AT, k as usize);
         return effect::start_programming(w);
     }
-    if f == dynamic::RF_MNGT_DYN {
+    if first == dynamic::RF_MNGT_DYN {
         let registers = c.registers.with_dynamic(page_byte(m, k, 0));
         c.registers = registers;
         return effect::with_core(w, c);
     }
-    if f == dynamic::MB_CTRL_DYN {
+    if first == dynamic::MB_CTRL_DYN {
         let mailbox = c.mailbox
             .control(page_byte(m, k, 0), c.registers.mode, w.host.vcc);
         c.mailbox = mailbox;

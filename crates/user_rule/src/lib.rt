@@ -5,35 +5,35 @@ use mailbox::Mailbox;
 use rights::Side;
 use tag::Core;
 
-fn memory_acked(c: Core, session: bool, f: u16, k: u16) -> bool
-    ensures { λ r. ⌜ r ≡ memoryAcked c session f k ⌝ }
+fn memory_acked(c: Core, session: bool, from: u16, k: u16) -> bool
+    ensures { λ r. ⌜ r ≡ memoryAcked c session from k ⌝ }
 {
-    let at = f as u32 + k as u32;
+    let at = from as u32 + k as u32;
     if 512 <= at {
         return false;
     }
     let a = at as u16;
-    let first = areas::area_of_byte(c.registers.ends, f);
+    let first = areas::area_of_byte(c.registers.ends, from);
     let area = areas::area_of_byte(c.registers.ends, a);
     let may = rights::may_write(c.registers, Side::Wire(session), a / 4);
     !c.mailbox.enabled & (first == area) & may
 }
 
-fn mailbox_acked(b: Mailbox, f: u16) -> bool
-    ensures { λ r. ⌜ r ≡ mailboxAcked b f ⌝ }
+fn mailbox_acked(mailbox: Mailbox, first: u16) -> bool
+    ensures { λ r. ⌜ r ≡ mailboxAcked mailbox first ⌝ }
 {
-    (f == dynamic::MAILBOX_FIRST) & b.enabled & !b.host.put & !b.rf.put
+    (first == dynamic::MAILBOX_FIRST) & mailbox.enabled & !mailbox.host.put & !mailbox.rf.put
 }
 
 // The Ack of data byte k in user space: it depends on no byte of the leg.
-pub fn user_acked(c: Core, session: bool, f: u16, k: u16) -> bool
-    ensures { λ r. ⌜ r ≡ userAcked c session f k ⌝ }
+pub fn user_acked(c: Core, session: bool, first: u16, k: u16) -> bool
+    ensures { λ r. ⌜ r ≡ userAcked c session first k ⌝ }
 {
-    if f < 512 {
-        return memory_acked(c, session, f, k);
+    if first < 512 {
+        return memory_acked(c, session, first, k);
     }
-    if (f == dynamic::RF_MNGT_DYN) | (f == dynamic::MB_CTRL_DYN) {
+    if (first == dynamic::RF_MNGT_DYN) | (first == dynamic::MB_CTRL_DYN) {
         return k == 0;
     }
-    mailbox_acked(c.mailbox, f)
+    mailbox_acked(c.mailbox, first)
 }

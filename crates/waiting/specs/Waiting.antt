@@ -32,10 +32,10 @@ pub data Slot : Type 0 where
 
 -- the places filled with the whole transfer's answers
 unfoldable pub fill : List Slot → List WireAnswer → List CallAnswer
-fill [] xs = []
-fill (given a ∷ ss) xs = a ∷ fill ss xs
-fill (waits o ∷ ss) [] = []
-fill (waits o ∷ ss) (x ∷ xs) = callAnswer (fromWire x) o ∷ fill ss xs
+fill [] answers = []
+fill (given answer ∷ slots) answers = answer ∷ fill slots answers
+fill (waits o ∷ slots) [] = []
+fill (waits o ∷ slots) (answer ∷ answers) = callAnswer (fromWire answer) o ∷ fill slots answers
 
 -- with no transfer open: what was answered, and the kept tag.
 -- In a transfer: what was answered before it, the kept tag, the noted signals, and the places of the answers since the select.
@@ -45,8 +45,8 @@ pub data Waiting : Type 0 where
 
 -- an answer that needs no waiting; "A refused call gives its number and changes nothing."
 unfoldable pub answered : Waiting → CallAnswer → Waiting
-answered (noTransfer out k) a = noTransfer (out ++ a ∷ []) k
-answered (inside out k n sl) a = inside out k n (sl ++ given a ∷ [])
+answered (noTransfer out d) answer = noTransfer (out ++ answer ∷ []) d
+answered (inside out d noted slots) answer = inside out d noted (slots ++ given answer ∷ [])
 
 -- ---- no transfer open
 unfoldable pub isStarted : Bus → Bool
@@ -63,65 +63,65 @@ ackedSelect h x = isStarted (h .bus) && not (selectRefused (choose (h .vcc) (h .
 
 -- "With no transfer open, any call but an Acked select acts as 01 says."
 abbrev pub atOnce : List CallAnswer → DeviceResult → Waiting
-atOnce out e = noTransfer (out ++ e .says ∷ []) (e .device)
+atOnce out result = noTransfer (out ++ result .says ∷ []) (result .device)
 
 abbrev pub acts : List CallAnswer → Device → Signal → Call → Waiting
-acts out k x c = atOnce out (deviceResultOf (actOf x (k .tag) (k .memory) (c .buffer) (c .frame)))
+acts out d signal call = atOnce out (deviceResultOf (actOf signal (d .tag) (d .memory) (call .buffer) (call .frame)))
 
 unfoldable pub whenClosed : List CallAnswer → Device → Signal → Call → Waiting
-whenClosed out k (Wire (Send x)) c =
-    pick (ackedSelect (k .tag .host) x) (inside out k (NotedSend x ∷ []) (waits (c .buffer) ∷ []))
-    (acts out k (Wire (Send x)) c)
-whenClosed out k (Wire SignalStart) c = acts out k (Wire SignalStart) c
-whenClosed out k (Wire (Fetch ack)) c = acts out k (Wire (Fetch ack)) c
-whenClosed out k (Wire SignalStop) c = acts out k (Wire SignalStop) c
-whenClosed out k (Wire (Vcc on)) c = acts out k (Wire (Vcc on)) c
-whenClosed out k (Wire ProgrammingEnd) c = acts out k (Wire ProgrammingEnd) c
-whenClosed out k (Field on) c = acts out k (Field on) c
-whenClosed out k Frame c = acts out k Frame c
+whenClosed out d (Wire (Send x)) call =
+    pick (ackedSelect (d .tag .host) x) (inside out d (NotedSend x ∷ []) (waits (call .buffer) ∷ []))
+    (acts out d (Wire (Send x)) call)
+whenClosed out d (Wire SignalStart) call = acts out d (Wire SignalStart) call
+whenClosed out d (Wire (Fetch ack)) call = acts out d (Wire (Fetch ack)) call
+whenClosed out d (Wire SignalStop) call = acts out d (Wire SignalStop) call
+whenClosed out d (Wire (Vcc on)) call = acts out d (Wire (Vcc on)) call
+whenClosed out d (Wire ProgrammingEnd) call = acts out d (Wire ProgrammingEnd) call
+whenClosed out d (Field on) call = acts out d (Field on) call
+whenClosed out d Frame call = acts out d Frame call
 
 -- ---- a transfer open
 -- "at the transfer's end these act on the kept tag as 2's whole transfer, which answers each"
 unfoldable pub note : List CallAnswer → Device → List Noted → List Slot → Waiting
-note out k n sl =
-    let r = transferOf (wireSide (k .tag)) (k .tag .uid) (k .memory) n in
-    pick (finished true n) (noTransfer (out ++ fill sl (r .answers)) (device (withWire (r .side) (k .tag)) (r .memory)))
-    (inside out k n sl)
+note out d noted slots =
+    let result = transferOf (wireSide (d .tag)) (d .tag .uid) (d .memory) noted in
+    pick (finished true noted) (noTransfer (out ++ fill slots (result .answers)) (device (withWire (result .side) (d .tag)) (result .memory)))
+    (inside out d noted slots)
 
 -- "frames are answered from the kept tag, a transfer being open"
 unfoldable pub frameAnswer : Device → Call → CallAnswer
-frameAnswer k c =
-    let r = radioOf (radioSide (k .tag)) (k .tag .uid) (k .tag .host .vcc) true (k .tag .host .programming) (k .memory) (c .frame) in
-    callReply (r .reply) (c .buffer)
+frameAnswer d call =
+    let result = radioOf (radioSide (d .tag)) (d .tag .uid) (d .tag .host .vcc) true (d .tag .host .programming) (d .memory) (call .frame) in
+    callReply (result .reply) (call .buffer)
 
 -- one more signal noted
 abbrev pub notes : List CallAnswer → Device → List Noted → List Slot → Noted → Call → Waiting
-notes out k n sl x c = note out k (n ++ x ∷ []) (sl ++ waits (c .buffer) ∷ [])
+notes out d noted slots next call = note out d (noted ++ next ∷ []) (slots ++ waits (call .buffer) ∷ [])
 
 -- "each later Start, byte, fetch, Stop and VCC off are noted"; "Until then field changes act at once and nothing else acts"
 unfoldable pub whenOpen : List CallAnswer → Device → List Noted → List Slot → Signal → Call → Waiting
-whenOpen out k n sl (Wire SignalStart) c = notes out k n sl NotedStart c
-whenOpen out k n sl (Wire (Send x)) c = notes out k n sl (NotedSend x) c
-whenOpen out k n sl (Wire (Fetch ack)) c = notes out k n sl (NotedFetch ack) c
-whenOpen out k n sl (Wire SignalStop) c = notes out k n sl NotedStop c
-whenOpen out k n sl (Wire (Vcc false)) c = notes out k n sl NotedVccOff c
-whenOpen out k n sl (Wire (Vcc true)) c = answered (inside out k n sl) (callAnswer Nothing (c .buffer))
-whenOpen out k n sl (Wire ProgrammingEnd) c = answered (inside out k n sl) (callAnswer Nothing (c .buffer))
-whenOpen out k n sl (Field on) c =
-    answered (inside out (device (withTagAir (fieldAt on (k .tag .air)) (k .tag)) (k .memory)) n sl) (callAnswer Nothing (c .buffer))
-whenOpen out k n sl Frame c = answered (inside out k n sl) (frameAnswer k c)
+whenOpen out d noted slots (Wire SignalStart) call = notes out d noted slots NotedStart call
+whenOpen out d noted slots (Wire (Send x)) call = notes out d noted slots (NotedSend x) call
+whenOpen out d noted slots (Wire (Fetch ack)) call = notes out d noted slots (NotedFetch ack) call
+whenOpen out d noted slots (Wire SignalStop) call = notes out d noted slots NotedStop call
+whenOpen out d noted slots (Wire (Vcc false)) call = notes out d noted slots NotedVccOff call
+whenOpen out d noted slots (Wire (Vcc true)) call = answered (inside out d noted slots) (callAnswer Nothing (call .buffer))
+whenOpen out d noted slots (Wire ProgrammingEnd) call = answered (inside out d noted slots) (callAnswer Nothing (call .buffer))
+whenOpen out d noted slots (Field on) call =
+    answered (inside out (device (withTagAir (fieldAt on (d .tag .air)) (d .tag)) (d .memory)) noted slots) (callAnswer Nothing (call .buffer))
+whenOpen out d noted slots Frame call = answered (inside out d noted slots) (frameAnswer d call)
 
 -- ---- one call
 unfoldable pub waitAct : Waiting → Signal → Call → Waiting
-waitAct (noTransfer out k) x c = whenClosed out k x c
-waitAct (inside out k n sl) x c = whenOpen out k n sl x c
+waitAct (noTransfer out d) signal call = whenClosed out d signal call
+waitAct (inside out d noted slots) signal call = whenOpen out d noted slots signal call
 
 -- it judges refusals 2 and 3, which the call's own arguments tell
 unfoldable pub waitStep : Waiting → Call → Waiting
-waitStep w c =
-    unlessRefused (judgement (argumentRules (c .buffer) (c .code) (c .value))) (λ (r : Refusal). answered w (callAnswer (Refused r) (c .buffer)))
-    (waitAct w (signalBy (c .code) (c .value)) c)
+waitStep waiting call =
+    unlessRefused (judgement (argumentRules (call .buffer) (call .code) (call .value))) (λ (refusal : Refusal). answered waiting (callAnswer (Refused refusal) (call .buffer)))
+    (waitAct waiting (signalBy (call .code) (call .value)) call)
 
 unfoldable pub waitRun : Waiting → List Call → Waiting
-waitRun w [] = w
-waitRun w (c ∷ cs) = waitRun (waitStep w c) cs
+waitRun waiting [] = waiting
+waitRun waiting (call ∷ calls) = waitRun (waitStep waiting call) calls

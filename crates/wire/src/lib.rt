@@ -88,12 +88,12 @@ fn nothing(w: WireSide) -> WireOutcome
 }
 
 // One signal.
-pub fn step(w: WireSide, u: Uid, m: &mut [u8], s: WireSignal) -> WireOutcome
-    ensures { λ r. ⌜ wireResult (r .answer) (r .side) (now (m .exit)) ≡ signalOf w u (now (m .entry)) s ⌝ }
+pub fn step(w: WireSide, u: Uid, m: &mut [u8], signal: WireSignal) -> WireOutcome
+    ensures { λ r. ⌜ wireResult (r .answer) (r .side) (now (m .exit)) ≡ signalOf w u (now (m .entry)) signal ⌝ }
 {
     let host = w.host;
     let bus = host.bus;
-    match s {
+    match signal {
         WireSignal::Start => nothing(signal::start(w, m)),
         WireSignal::Send(x) => send::send_at(bus, w, m, x),
         WireSignal::Fetch(ack) => fetch_at(bus, w, u, m, ack),

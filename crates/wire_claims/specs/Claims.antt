@@ -22,12 +22,12 @@ pub record InRange (w : WireSide) (m : List ℕ) : Type 0 where
 
 -- every signal keeps them
 abbrev pub SignalKeepsRange : Type 0
-SignalKeepsRange = (w : WireSide) (u : Uid) (m : List ℕ) (s : WireSignal)
-    → InRange w m → InRange (signalOf w u m s .side) (signalOf w u m s .memory)
+SignalKeepsRange = (w : WireSide) (u : Uid) (m : List ℕ) (signal : WireSignal)
+    → InRange w m → InRange (signalOf w u m signal .side) (signalOf w u m signal .memory)
 
 -- every signal keeps the counter below 65536
 abbrev pub KeepsCounter : Type 0
-KeepsCounter = (w : WireSide) (u : Uid) (m : List ℕ) (s : WireSignal) → w .host .counter < 65536 → signalOf w u m s .side .host .counter < 65536
+KeepsCounter = (w : WireSide) (u : Uid) (m : List ℕ) (signal : WireSignal) → w .host .counter < 65536 → signalOf w u m signal .side .host .counter < 65536
 
 -- the byte that a signal sends, or 0
 unfoldable pub sentByte : WireSignal → ℕ
@@ -40,10 +40,10 @@ sentByte ProgrammingEnd = 0
 
 -- every signal keeps the memory's bytes below 256
 abbrev pub KeepsBytes : Type 0
-KeepsBytes = (w : WireSide) (u : Uid) (m : List ℕ) (s : WireSignal) → sentByte s < 256
-    → ((i : ℕ) → getD m i 0 < 256) → (i : ℕ) → getD (signalOf w u m s .memory) i 0 < 256
+KeepsBytes = (w : WireSide) (u : Uid) (m : List ℕ) (signal : WireSignal) → sentByte signal < 256
+    → ((i : ℕ) → getD m i 0 < 256) → (i : ℕ) → getD (signalOf w u m signal .memory) i 0 < 256
 
 -- a signal that leaves a transfer open changes no register, RF_MNGT_Dyn among them
 abbrev pub RegistersStay : Type 0
-RegistersStay = (w : WireSide) (u : Uid) (m : List ℕ) (s : WireSignal) → suppliedInRange (w .host) (w .core .mailbox .enabled) ≡ true
-    → isOpen (signalOf w u m s .side .host .bus) ≡ true → signalOf w u m s .side .core .registers ≡ w .core .registers
+RegistersStay = (w : WireSide) (u : Uid) (m : List ℕ) (signal : WireSignal) → suppliedInRange (w .host) (w .core .mailbox .enabled) ≡ true
+    → isOpen (signalOf w u m signal .side .host .bus) ≡ true → signalOf w u m signal .side .core .registers ≡ w .core .registers

@@ -29,22 +29,22 @@ When = Device → Call → CallAnswer → Bool
 
 -- another answer and no byte
 unfoldable pub misanswering : When → Answer → Device → Call → DeviceResult
-misanswering when a d c =
-    let e = entry d c in
-    deviceResult (pick (when d c (e .says)) (callAnswer a (e .says .buffer)) (e .says)) (e .device)
+misanswering when answer d call =
+    let result = entry d call in
+    deviceResult (pick (when d call (result .says)) (callAnswer answer (result .says .buffer)) (result .says)) (result .device)
 
 -- byte i of the reply buffer and no answer
 unfoldable pub touching : When → ℕ → Device → Call → DeviceResult
-touching when i d c =
-    let e = entry d c in
-    let o = e .says .buffer in
-    deviceResult (pick (when d c (e .says)) (callAnswer (e .says .answer) (set o i (getD o i 0 + 1))) (e .says)) (e .device)
+touching when i d call =
+    let result = entry d call in
+    let o = result .says .buffer in
+    deviceResult (pick (when d call (result .says)) (callAnswer (result .says .answer) (set o i (getD o i 0 + 1))) (result .says)) (result .device)
 
 abbrev pub ifStop : When
-ifStop d c a = eqb (c .code) 6
+ifStop d call answer = eqb (call .code) 6
 
 abbrev pub ifRefused : When
-ifRefused d c a = isRefused (a .answer)
+ifRefused d call answer = isRefused (answer .answer)
 
 unfoldable pub isReply : Answer → Bool
 isReply (Refused why) = false
@@ -57,7 +57,7 @@ isReply (Reply n) = true
 
 -- with no transfer open: a struck frame's reply is `shut`'s too
 abbrev pub ifReplying : When
-ifReplying d c a = not (transferOpen (d .tag)) && isReply (a .answer)
+ifReplying d call answer = not (transferOpen (d .tag)) && isReply (answer .answer)
 
 -- a Stop has an answer; a refusal has another number
 abbrev pub stopAcked : Step
@@ -77,30 +77,30 @@ abbrev pub refusalTouches : Step
 refusalTouches = touching ifRefused 0
 
 abbrev pub struckTouches : Step
-struckTouches = touching (λ (d : Device) (c : Call) (a : CallAnswer). struck entry d c) 642
+struckTouches = touching (λ (d : Device) (call : Call) (answer : CallAnswer). struck entry d call) 642
 
 -- ---- `same`, the final tag: every answer is right, but not what is left
 -- a tag that acts as the one that it shows, and keeps another
 unfoldable pub behind : (Device → Device) → (Call → Device → Device) → Device → Call → DeviceResult
-behind shows keeps d c =
-    let e = entry (shows d) c in
-    deviceResult (e .says) (keeps c (e .device))
+behind shows keeps d call =
+    let result = entry (shows d) call in
+    deviceResult (result .says) (keeps call (result .device))
 
 -- its radio session is 5 too high after a Stop; it takes such a one as 5 less
 abbrev pub sessionShown : Device → Device
 sessionShown d = pick (ltb 4 (d .tag .air .session)) (d but radioSession (d .tag .air .session - 5)) d
 
 abbrev pub sessionRaised : Call → Device → Device
-sessionRaised c d = pick (eqb (c .code) 6) (d but radioSession (d .tag .air .session + 5)) d
+sessionRaised call d = pick (eqb (call .code) 6) (d but radioSession (d .tag .air .session + 5)) d
 
 abbrev pub sessionPastRange : Step
 sessionPastRange = behind sessionShown sessionRaised
 
 -- a Stop clears the page, on which no later answer depends
 unfoldable pub clearsPage : Device → Call → DeviceResult
-clearsPage d c =
-    let e = entry d c in
-    deviceResult (e .says) (device (e .device .tag) (pick (eqb (c .code) 6) (take pagePlace (e .device .memory) ++ zeros 256) (e .device .memory)))
+clearsPage d call =
+    let result = entry d call in
+    deviceResult (result .says) (device (result .device .tag) (pick (eqb (call .code) 6) (take pagePlace (result .device .memory) ++ zeros 256) (result .device .memory)))
 
 -- ---- `judged`: a Stop is refusal 4
 abbrev pub stopOutOfRange : Step
@@ -130,7 +130,7 @@ abbrev pub withoutMark : Device → Device
 withoutMark d = pick (isMarked d) (d but onBus (WriteLeg User)) d
 
 abbrev pub frameMarked : Call → Device → Device
-frameMarked c d = pick (eqb (c .code) 8 && isUserWriteLeg (d .tag .host .bus)) (d but onBus mark) d
+frameMarked call d = pick (eqb (call .code) 8 && isUserWriteLeg (d .tag .host .bus)) (d but onBus mark) d
 
 abbrev pub marksFrames : Step
 marksFrames = behind withoutMark frameMarked
@@ -140,14 +140,14 @@ abbrev pub inFieldAgain : Device → Device
 inFieldAgain d = pick (isMarked d) (d but onBus (WriteLeg User) but fieldIs true) d
 
 abbrev pub fieldHidden : Call → Device → Device
-fieldHidden c d = pick (d .tag .air .field && isUserWriteLeg (d .tag .host .bus)) (d but onBus mark but fieldIs false) d
+fieldHidden call d = pick (d .tag .air .field && isUserWriteLeg (d .tag .host .bus)) (d but onBus mark but fieldIs false) d
 
 abbrev pub hidesField : Step
 hidesField = behind inFieldAgain fieldHidden
 
 -- ---- the starting tag: wrong in one corner alone, where every call is answered with Ack
 abbrev pub wrongIn : (Device → Bool) → Step
-wrongIn corner = misanswering (λ (d : Device) (c : Call) (a : CallAnswer). corner d) Ack
+wrongIn corner = misanswering (λ (d : Device) (call : Call) (answer : CallAnswer). corner d) Ack
 
 -- A claim that began from fewer tags would excuse each of them: no list leads into the corner from a tag that has no programming under way,
 -- is not Selected, and so on. The reason stands beside each (it is not proved).

@@ -12,11 +12,11 @@ pub data ClaimPart : Type 0 where
   byReply : ClaimPart
 
 unfoldable pub partOf : ClaimPart → Step → Device → List Call → Type 0
-partOf bySame step d cs = Same step d cs
-partOf byJudged step d cs = Judged step d cs
-partOf byStriking step d cs = Striking step d cs
-partOf byUnchanged step d cs = EachStruck step (Unchanged step) (d .tag) d cs
-partOf byReply step d cs = EachStruck step (RepliesShut step) (d .tag) d cs
+partOf bySame step d calls = Same step d calls
+partOf byJudged step d calls = Judged step d calls
+partOf byStriking step d calls = Striking step d calls
+partOf byUnchanged step d calls = EachStruck step (Unchanged step) (d .tag) d calls
+partOf byReply step d calls = EachStruck step (RepliesShut step) (d .tag) d calls
 
 -- a tag, and the part that tells it: for some list of calls this part does not hold of it
 pub record WrongTag : Type 0 where
@@ -24,10 +24,10 @@ pub record WrongTag : Type 0 where
   pub part : ClaimPart
 
 abbrev pub toldBy : ClaimPart → Step → WrongTag
-toldBy p step = record { step = step; part = p }
+toldBy part step = record { step = step; part = part }
 
 abbrev pub Told : ClaimPart → Step → Type 0
-Told p step = EveryList (partOf p step) → ⊥
+Told part step = EveryList (partOf part step) → ⊥
 
 unfoldable pub AllTold : List WrongTag → Type 0
 AllTold [] = Unit {0}

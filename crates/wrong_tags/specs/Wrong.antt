@@ -11,6 +11,7 @@ use Rattle.tag.specs.declared.Tag.{Tag}
 use Rattle.tag.specs.Layout.{userBytes}
 use Rattle.air.specs.Radio.{deselected}
 use Rattle.tag.specs.Parts.{withTagAir}
+use Rattle.commands.specs.Table.{selectCode}
 use Rattle.frame.specs.Fields.{command, ownUid}
 use Rattle.silence.specs.Silence.{isSilent}
 use Rattle.model.specs.declared.Answer.the-variants.{NoAck}
@@ -28,47 +29,47 @@ isBlank (x ∷ s) = eqb x 0 && isBlank s
 
 -- a later Stop says and leaves what it should, and programming starts, but no byte is written
 unfoldable pub feigning : Device → Call → DeviceResult
-feigning d c =
-    let e = entry d c in
+feigning d call =
+    let result = entry d call in
     let later = not (isBlank (take userBytes (d .memory))) in
-    deviceResult (e .says) (device (e .device .tag) (pick (later && eqb (c .code) 6) (d .memory) (e .device .memory)))
+    deviceResult (result .says) (device (result .device .tag) (pick (later && eqb (call .code) 6) (d .memory) (result .device .memory)))
 
 -- ---- one that serves a frame in a transfer as if none were open
 unfoldable pub readsHalf : Device → Call → DeviceResult
-readsHalf d c =
-    let e = entry (onBus Idle d) c in
-    pick (eqb (c .code) 8) (deviceResult (e .says) (onBus (d .tag .host .bus) (e .device)))
-    (entry d c)
+readsHalf d call =
+    let result = entry (onBus Idle d) call in
+    pick (eqb (call .code) 8) (deviceResult (result .says) (onBus (d .tag .host .bus) (result .device)))
+    (entry d call)
 
 -- ---- "Letting a shut-out Select deselect the tag."
 -- a Select with another UID, judged past silence
 unfoldable pub otherSelect : List ℕ → Tag → Bool
-otherSelect s t = eqb (command s) 0x25 && not (ownUid s (t .uid)) && not (isSilent s (t .air) (t .uid) (t .core .registers .dynamic))
+otherSelect f t = eqb (command f) selectCode && not (ownUid f (t .uid)) && not (isSilent f (t .air) (t .uid) (t .core .registers .dynamic))
 
 unfoldable pub deselects : Device → Call → DeviceResult
-deselects d c =
-    let e = entry d c in
-    pick (struck entry d c && otherSelect (c .frame) (d .tag))
-    (deviceResult (e .says) (device (withTagAir (deselected (d .tag .air)) (d .tag)) (d .memory)))
-    e
+deselects d call =
+    let result = entry d call in
+    pick (struck entry d call && otherSelect (call .frame) (d .tag))
+    (deviceResult (result .says) (device (withTagAir (deselected (d .tag .air)) (d .tag)) (d .memory)))
+    result
 
 -- the call with a Stop for its signal
 abbrev pub stopping : Call → Call
-stopping c = record { buffer = c .buffer; code = 6; value = 0; frame = c .frame }
+stopping call = record { buffer = call .buffer; code = 6; value = 0; frame = call .frame }
 
 -- ---- one whose VCC off writes the leg's bytes, as a Stop does, and then acts
 unfoldable pub commitsAtOff : Device → Call → DeviceResult
-commitsAtOff d c =
-    pick (eqb (c .code) 1 && eqb (c .value) 0) (entry (entry d (stopping c) .device) c)
-    (entry d c)
+commitsAtOff d call =
+    pick (eqb (call .code) 1 && eqb (call .value) 0) (entry (entry d (stopping call) .device) call)
+    (entry d call)
 
 -- ---- one that answers a frame in a transfer by the registers as the leg's bytes so far would leave them
 unfoldable pub answersFromLeg : Device → Call → DeviceResult
-answersFromLeg d c =
-    let t = onCore (λ (x : Core). entry d (stopping c) .device .tag .core) d .tag in
-    pick (struck entry d c) (deviceResult (deviceResultOf (actOf Frame t (d .memory) (c .buffer) (c .frame)) .says) d)
-    (entry d c)
+answersFromLeg d call =
+    let t = onCore (λ (c : Core). entry d (stopping call) .device .tag .core) d .tag in
+    pick (struck entry d call) (deviceResult (deviceResultOf (actOf Frame t (d .memory) (call .buffer) (call .frame)) .says) d)
+    (entry d call)
 
 -- ---- one that NoAcks everything and never ends its transfer
 unfoldable pub neverCloses : Device → Call → DeviceResult
-neverCloses d c = deviceResult (callAnswer NoAck (c .buffer)) (onBus (Started true) d)
+neverCloses d call = deviceResult (callAnswer NoAck (call .buffer)) (onBus (Started true) d)

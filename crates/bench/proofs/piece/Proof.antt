@@ -66,7 +66,7 @@ loop-less c =
     let t = c .before .before .before .before .before .before .before .before .step in
     omega (
       arith,
-      used-some (benchState (a .r .bench) (a .m .now) (a .reply .now)) (take (a .r .have) (a .kept .now)) (a .s .now) (a .out .now) (benchState (l .bench) (l .m) (l .reply)) (take (l .have) (l .kept)) (l .out) (l .at) (l .inv)
+      used-some (benchState (a .run .bench) (a .m .now) (a .reply .now)) (take (a .run .have) (a .kept .now)) (a .s .now) (a .out .now) (benchState (l .bench) (l .m) (l .reply)) (take (l .have) (l .kept)) (l .out) (l .at) (l .inv)
           (streamBuffers (t .result .bench) (t .last .1 .0) (t .last .1 .1 .0) (take (t .result .have) (t .last .1 .1 .1 .0)) (t .result .used) (t .result .wrote) (t .last .1 .1 .1 .1 .1 .1 .0))
           (t .ensures .0) (omega (arith, l .inv .out-len, c .before .before .before .before .before .before .before .before .before .before .before .before .before .before .before .before .before .before .before .pre)) (c .before .before .before .before .before .before .before .before .before .before .before .before .before .before .loop-test .taken),
       c .before .before .before .before .before .before .before .before .before .before .before .before .before .before .loop-test .taken,
@@ -77,7 +77,7 @@ loop-again c =
     let a = c .before .before .before .before .before .before .before .before .before .before .before .before .before .before .before .before .before .before .before .args in
     let l = c .before .before .before .before .before .before .before .before .before .before .before .before .before .before .before .loop in
     let t = c .before .before .before .before .before .before .before .before .step in
-    goes (benchState (a .r .bench) (a .m .now) (a .reply .now)) (take (a .r .have) (a .kept .now)) (a .s .now) (a .out .now) (benchState (l .bench) (l .m) (l .reply)) (take (l .have) (l .kept)) (l .out) (l .at) (l .inv)
+    goes (benchState (a .run .bench) (a .m .now) (a .reply .now)) (take (a .run .have) (a .kept .now)) (a .s .now) (a .out .now) (benchState (l .bench) (l .m) (l .reply)) (take (l .have) (l .kept)) (l .out) (l .at) (l .inv)
     (streamBuffers (t .result .bench) (t .last .1 .0) (t .last .1 .1 .0) (take (t .result .have) (t .last .1 .1 .1 .0)) (t .result .used) (t .result .wrote) (t .last .1 .1 .1 .1 .1 .1 .0))
     (t .ensures .0) (t .ensures .1 .0) (t .last .1 .1 .1 .1 .1 .1 .0) (t .kept .1 .1 .1 .1 .1 .1 .0)
 
@@ -88,7 +88,7 @@ returns-2 : tie.Need-returns-2 Inv-loop μ-loop
 returns-2 c =
     let a = c .before .before .before .before .before .args in
     let l = c .before .loop in
-    all-used (benchState (a .r .bench) (a .m .now) (a .reply .now)) (take (a .r .have) (a .kept .now)) (a .s .now) (a .out .now) (benchState (l .bench) (l .m) (l .reply)) (take (l .have) (l .kept)) (l .out) (l .at) (l .inv) (c .loop-test .left) true
+    all-used (benchState (a .run .bench) (a .m .now) (a .reply .now)) (take (a .run .have) (a .kept .now)) (a .s .now) (a .out .now) (benchState (l .bench) (l .m) (l .reply)) (take (l .have) (l .kept)) (l .out) (l .at) (l .inv) (c .loop-test .left) true
 
 pub piece-spec : {M : Type 1} → statement M
 piece-spec =

@@ -23,7 +23,7 @@ unfolding statusReply
 returns c =
     let call = c .before .before in
     let a = call .before .before .before .before .before .args in
-    said (statusReply (a .s) (a .m .now) (a .first) (a .more)) _ (fault NoSuchBlock) (call .error .ensures) (search picks depth 20)
+    said (statusReply (a .v) (a .m .now) (a .first) (a .more)) _ (fault NoSuchBlock) (call .error .ensures) (search picks depth 20)
 
 sub-lesser : tie.Need-sub-lesser
 sub-lesser c = search needs
@@ -61,10 +61,10 @@ returns-2 c =
     let count = zero .before .before in
     let a = count .before .before .before .before .args in
     let n = count .lesser .result in
-    let statuses = statusesOf (a .s .core .registers) (a .s .air .session) (a .first) n in
-    said (statusReply (a .s) (a .m .now) (a .first) (a .more)) _ (good statuses)
+    let statuses = statusesOf (a .v .core .registers) (a .v .air .session) (a .first) n in
+    said (statusReply (a .v) (a .m .now) (a .first) (a .more)) _ (good statuses)
     (good-run statuses (a .out .now) (run .put-statuses .last .0) (1 + n)
-    (ap (λ (k : ℕ). 1 + k) (sym (length-statuses (a .s .core .registers) (a .s .air .session) (a .first) n)))
+    (ap (λ (k : ℕ). 1 + k) (sym (length-statuses (a .v .core .registers) (a .v .air .session) (a .first) n)))
     (run .put-statuses .ensures ∙ ap (λ (o : List ℕ). sets o 1 statuses) (zero .put .ensures))
     (call .close .ensures))
     (rw (count .lesser .ensures .0) (search picks depth 20))

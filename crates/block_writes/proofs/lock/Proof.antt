@@ -19,7 +19,7 @@ unfolding lockOf
 returns c =
     let call = c .before .before in
     let a = call .before .before .before .before .before .before .args in
-    said (lockOf (a .s) (a .m .now) (a .block)) _ (fault NotLockable) (call .error .ensures) (search picks depth 20)
+    said (lockOf (a .v) (a .m .now) (a .block)) _ (fault NotLockable) (call .error .ensures) (search picks depth 20)
 
 is-locked-requires : tie.Need-is-locked-requires
 is-locked-requires c κs = search needs
@@ -36,7 +36,7 @@ returns-2 c =
     let call = c .before .before in
     let locked = call .before .before .before in
     let a = locked .before .before .before .before .before .args in
-    said (lockOf (a .s) (a .m .now) (a .block)) _ (fault AlreadyLocked) (call .error2 .ensures)
+    said (lockOf (a .v) (a .m .now) (a .block)) _ (fault AlreadyLocked) (call .error2 .ensures)
     (rw (← locked .is-locked .ensures) (search picks depth 20))
 
 keep-requires : tie.Need-keep-requires
@@ -68,7 +68,7 @@ returns-3 c =
     let write = next .before in
     let locked = write .before .before .before in
     let a = locked .before .before .before .before .before .args in
-    said (lockOf (a .s) (a .m .now) (a .block)) _ (good []) (call .done .ensures)
+    said (lockOf (a .v) (a .m .now) (a .block)) _ (good []) (call .done .ensures)
     (rw (next .with-registers .ensures, write .write-to .ensures, write .before .keep .ensures, ← locked .is-locked .ensures) (search picks depth 20))
 
 pub lock-spec : {M : Type 1} → statement M

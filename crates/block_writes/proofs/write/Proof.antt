@@ -22,7 +22,7 @@ unfolding writeOf
 returns c =
     let call = c .before .before in
     let a = call .before .before .before .before .before .before .before .args in
-    said (writeOf (a .s) (a .m .now) (a .first) (a .more) (a .frame .now) (a .at)) _ (fault TooManyBlocks) (call .error .ensures) (search picks depth 20)
+    said (writeOf (a .v) (a .m .now) (a .first) (a .more) (a .frame .now) (a .at)) _ (fault TooManyBlocks) (call .error .ensures) (search picks depth 20)
 
 error-requires-2 : tie.Need-error-requires-2
 error-requires-2 c κs = search needs
@@ -35,7 +35,7 @@ unfolding writeOf
 returns-2 c =
     let call = c .before .before in
     let a = call .before .before .before .before .before .before .before .before .args in
-    said (writeOf (a .s) (a .m .now) (a .first) (a .more) (a .frame .now) (a .at)) _ (fault NoSuchBlock) (call .error2 .ensures) (search picks depth 20)
+    said (writeOf (a .v) (a .m .now) (a .first) (a .more) (a .frame .now) (a .at)) _ (fault NoSuchBlock) (call .error2 .ensures) (search picks depth 20)
 
 leaves-area-requires : tie.Need-leaves-area-requires
 leaves-area-requires c κs = search needs
@@ -52,7 +52,7 @@ returns-3 c =
     let call = c .before .before in
     let leave = call .before .before .before in
     let a = leave .before .before .before .before .before .before .before .args in
-    said (writeOf (a .s) (a .m .now) (a .first) (a .more) (a .frame .now) (a .at)) _ (fault WriteLeavesArea) (call .error3 .ensures)
+    said (writeOf (a .v) (a .m .now) (a .first) (a .more) (a .frame .now) (a .at)) _ (fault WriteLeavesArea) (call .error3 .ensures)
     (rw (← leave .leaves-area .ensures) (search picks depth 20))
 
 add-may-write-all : tie.Need-add-may-write-all
@@ -74,7 +74,7 @@ returns-4 c =
     let right = call .before .before .before in
     let leave = right .before .before in
     let a = leave .before .before .before .before .before .before .before .args in
-    said (writeOf (a .s) (a .m .now) (a .first) (a .more) (a .frame .now) (a .at)) _ (fault WriteForbidden) (call .error4 .ensures)
+    said (writeOf (a .v) (a .m .now) (a .first) (a .more) (a .frame .now) (a .at)) _ (fault WriteForbidden) (call .error4 .ensures)
     (rw (← leave .leaves-area .ensures, ← right .may-write-all .ensures) (search picks depth 20))
 
 mul-put-bytes : tie.Need-mul-put-bytes
@@ -106,7 +106,7 @@ returns-5 c =
     let right = bytes .before .before .before in
     let leave = right .before .before in
     let a = leave .before .before .before .before .before .before .before .args in
-    said (writeOf (a .s) (a .m .now) (a .first) (a .more) (a .frame .now) (a .at)) _ (good []) (call .done .ensures)
+    said (writeOf (a .v) (a .m .now) (a .first) (a .more) (a .frame .now) (a .at)) _ (good []) (call .done .ensures)
     (rw (bytes .put-bytes .ensures, ← leave .leaves-area .ensures, ← right .may-write-all .ensures) (search picks depth 20))
 
 pub write-spec : {M : Type 1} → statement M

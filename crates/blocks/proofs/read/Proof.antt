@@ -28,7 +28,7 @@ unfolding readOf
 returns c =
     let call = c .before .before in
     let a = call .before .before .before .before .before .before .before .args in
-    said (readOf (a .s) (a .m .now) (a .option) (a .first) (a .more)) _ (fault NoSuchBlock) (call .error .ensures) (search picks depth 20)
+    said (readOf (a .v) (a .m .now) (a .option) (a .first) (a .more)) _ (fault NoSuchBlock) (call .error .ensures) (search picks depth 20)
 
 error-requires-2 : tie.Need-error-requires-2
 error-requires-2 c κs = search needs
@@ -42,7 +42,7 @@ returns-2 c =
     let call = c .before .before in
     let leave = call .before .before .before .before in
     let a = leave .before .before .before .before .args in
-    said (readOf (a .s) (a .m .now) (a .option) (a .first) (a .more)) _ (fault ReadLeavesArea) (call .error2 .ensures)
+    said (readOf (a .v) (a .m .now) (a .option) (a .first) (a .more)) _ (fault ReadLeavesArea) (call .error2 .ensures)
     (rw (← leave .leaves-area .ensures) (search picks depth 20))
 
 may-read-requires : tie.Need-may-read-requires
@@ -61,7 +61,7 @@ returns-3 c =
     let right = call .before .before .before in
     let leave = right .before .before .before in
     let a = leave .before .before .before .before .args in
-    said (readOf (a .s) (a .m .now) (a .option) (a .first) (a .more)) _ (fault ReadProtected) (call .error3 .ensures)
+    said (readOf (a .v) (a .m .now) (a .option) (a .first) (a .more)) _ (fault ReadProtected) (call .error3 .ensures)
     (rw (← leave .leaves-area .ensures, ← right .may-read .ensures) (search picks depth 20))
 
 put-requires : tie.Need-put-requires
@@ -88,8 +88,8 @@ returns-4 c =
     let right = zero .before .before .before in
     let leave = right .before .before .before in
     let a = leave .before .before .before .before .args in
-    let blocks = blocksOf (a .s .core .registers) (a .s .air .session) (a .m .now) (a .option) (a .first) (a .more + 1) in
-    said (readOf (a .s) (a .m .now) (a .option) (a .first) (a .more)) _ (good blocks)
+    let blocks = blocksOf (a .v .core .registers) (a .v .air .session) (a .m .now) (a .option) (a .first) (a .more + 1) in
+    said (readOf (a .v) (a .m .now) (a .option) (a .first) (a .more)) _ (good blocks)
     (good-run blocks (a .out .now) (run .put-blocks .last .0) (run .put-blocks .result)
     (run .put-blocks .ensures .0)
     (run .put-blocks .ensures .1 ∙ ap (λ (o : List ℕ). sets o 1 blocks) (zero .put .ensures))

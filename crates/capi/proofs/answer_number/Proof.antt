@@ -5,8 +5,8 @@ use borrow.Author.Needs.{needs}
 use Rattle.capi.proofs.answer_number.Statement.{statement}
 use Rattle.capi.proofs.answer_number.Tie as tie
 
-enum-known-a : tie.Need-enum-known-a
-enum-known-a c = search needs
+enum-known-answer : tie.Need-enum-known-answer
+enum-known-answer c = search needs
 
 number-requires : tie.Need-number-requires
 number-requires c κs = search needs
@@ -23,8 +23,8 @@ enum-told-2 c = search needs
 enum-told-3 : tie.Need-enum-told-3
 enum-told-3 c = search needs
 
-enum-known-a-2 : tie.Need-enum-known-a-2
-enum-known-a-2 c = search needs
+enum-known-answer-2 : tie.Need-enum-known-answer-2
+enum-known-answer-2 c = search needs
 
 cast-result-2 : tie.Need-cast-result-2
 cast-result-2 c = search needs
@@ -35,18 +35,18 @@ add-result c = search needs
 enum-told-4 : tie.Need-enum-told-4
 enum-told-4 c = search needs
 
-enum-known-a-3 : tie.Need-enum-known-a-3
-enum-known-a-3 c = search needs
+enum-known-answer-3 : tie.Need-enum-known-answer-3
+enum-known-answer-3 c = search needs
 
 cast-result-3 : tie.Need-cast-result-3
-cast-result-3 c = omega (arith, short (c .before .before .before .args .a) _ (c .before .a3 .given .1) (c .before .before .before .pre))
+cast-result-3 c = omega (arith, short (c .before .before .before .args .answer) _ (c .before .answer3 .given .1) (c .before .before .before .pre))
 
 add-result-2 : tie.Need-add-result-2
-add-result-2 c = omega (arith, short (c .before .before .before .args .a) _ (c .before .a3 .given .1) (c .before .before .before .pre))
+add-result-2 c = omega (arith, short (c .before .before .before .args .answer) _ (c .before .answer3 .given .1) (c .before .before .before .pre))
 
 returns : tie.Need-returns
 unfolding answerNumber
-returns c = rw (c .number .ensures, c .before .before .a .given .1)
+returns c = rw (c .number .ensures, c .before .before .answer .given .1)
 
 returns-2 : tie.Need-returns-2
 unfolding answerNumber
@@ -62,7 +62,7 @@ returns-4 c = rw (c .enum-told3 .given .1)
 
 returns-5 : tie.Need-returns-5
 unfolding answerNumber
-returns-5 c = rw (c .before .a2 .given .1)
+returns-5 c = rw (c .before .answer2 .given .1)
 
 returns-6 : tie.Need-returns-6
 unfolding answerNumber
@@ -70,23 +70,23 @@ returns-6 c = rw (c .enum-told4 .given .1)
 
 returns-7 : tie.Need-returns-7
 unfolding answerNumber
-returns-7 c = rw (c .before .a3 .given .1)
+returns-7 c = rw (c .before .answer3 .given .1)
 
 pub answer-number-spec : {M : Type 1} → statement M
 answer-number-spec =
     tie.close
     (tie.spec
-    enum-known-a
+    enum-known-answer
     number-requires
     cast-result
     enum-told
     enum-told-2
     enum-told-3
-    enum-known-a-2
+    enum-known-answer-2
     cast-result-2
     add-result
     enum-told-4
-    enum-known-a-3
+    enum-known-answer-3
     cast-result-3
     add-result-2
     returns

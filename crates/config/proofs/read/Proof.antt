@@ -24,7 +24,7 @@ unfolding readConfigOf
 returns c =
     let call = c .before .before in
     let a = call .before .before .before .before .before .before .before .args in
-    said (readConfigOf (a .s) (a .m .now) (a .p)) _ (fault NoSuchRegister) (call .error .ensures) (rw (← ap (λ (row : RegisterRow). row .radio) (call .before .before .before .before .row-of .ensures)) (search picks depth 20))
+    said (readConfigOf (a .v) (a .m .now) (a .pointer)) _ (fault NoSuchRegister) (call .error .ensures) (rw (← ap (λ (row : RegisterRow). row .radio) (call .before .before .before .before .row-of .ensures)) (search picks depth 20))
 
 read-requires : tie.Need-read-requires
 read-requires c κs = search needs
@@ -40,7 +40,7 @@ unfolding readConfigOf
 returns-2 c =
     let call = c .before .before in
     let a = call .before .before .before .before .before .before .before .before .args in
-    said (readConfigOf (a .s) (a .m .now) (a .p)) _ (good (call .before .before .read .result ∷ [])) (call .byte .ensures)
+    said (readConfigOf (a .v) (a .m .now) (a .pointer)) _ (good (call .before .before .read .result ∷ [])) (call .byte .ensures)
     (rw (call .before .before .read .ensures, ← ap (λ (row : RegisterRow). row .radio) (call .before .before .before .before .before .row-of .ensures)) (search picks depth 20))
 
 pub read-spec : {M : Type 1} → statement M

@@ -24,7 +24,7 @@ unfolding writeConfigOf
 returns c =
     let call = c .before .before in
     let a = call .before .before .before .before .before .before .before .before .args in
-    said (writeConfigOf (a .s) (a .m .now) (a .p) (a .x)) _ (fault NoSuchRegister) (call .error .ensures)
+    said (writeConfigOf (a .v) (a .m .now) (a .pointer) (a .x)) _ (fault NoSuchRegister) (call .error .ensures)
     (rw (← ap (λ (row : RegisterRow). row .radio) (call .before .before .before .before .row-of .ensures)) (search picks depth 20))
 
 error-requires-2 : tie.Need-error-requires-2
@@ -38,7 +38,7 @@ unfolding writeConfigOf
 returns-2 c =
     let call = c .before .before in
     let a = call .before .before .before .before .before .before .before .before .before .before .before .args in
-    said (writeConfigOf (a .s) (a .m .now) (a .p) (a .x)) _ (fault ConfigurationClosed) (call .error2 .ensures)
+    said (writeConfigOf (a .v) (a .m .now) (a .pointer) (a .x)) _ (fault ConfigurationClosed) (call .error2 .ensures)
     (rw (← ap (λ (row : RegisterRow). row .radio) (call .before .before .before .before .before .before .before .row-of .ensures)) (search picks depth 20))
 
 end-allows-requires : tie.Need-end-allows-requires
@@ -56,7 +56,7 @@ returns-3 c =
     let call = c .before .before in
     let tested = call .before .before .before in
     let a = call .before .before .before .before .before .before .before .before .before .before .before .before .before .args in
-    said (writeConfigOf (a .s) (a .m .now) (a .p) (a .x)) _ (fault EndRefused) (call .error3 .ensures)
+    said (writeConfigOf (a .v) (a .m .now) (a .pointer) (a .x)) _ (fault EndRefused) (call .error3 .ensures)
     (rw (← tested .end-allows .ensures, ← ap (λ (row : RegisterRow). row .radio) (tested .before .before .before .before .before .before .row-of .ensures)) (search picks depth 20))
 
 written-core-requires : tie.Need-written-core-requires
@@ -74,7 +74,7 @@ returns-4 c =
     let call = c .before .before in
     let tested = call .before .before .before .before in
     let a = call .before .before .before .before .before .before .before .before .before .before .before .before .before .before .args in
-    said (writeConfigOf (a .s) (a .m .now) (a .p) (a .x)) _ (good []) (call .done .ensures)
+    said (writeConfigOf (a .v) (a .m .now) (a .pointer) (a .x)) _ (good []) (call .done .ensures)
     (rw (call .before .before .written-core .ensures, ← tested .end-allows .ensures, ← ap (λ (row : RegisterRow). row .radio) (tested .before .before .before .before .before .before .row-of .ensures)) (search (picks, call .before .before .before .if3 .left, tested .before .if2 .left, tested .before .before .before .before .if1 .left) depth 20))
 
 pub write-spec : {M : Type 1} → statement M

@@ -19,7 +19,7 @@ unfolding readDynamicOf
 returns c =
     let call = c .before .before in
     let a = call .before .before .before .before .before .args in
-    said (readDynamicOf (a .s) (a .m .now) (a .p)) _ (fault NoSuchDynamicRegister) (call .error .ensures) (search picks depth 20)
+    said (readDynamicOf (a .v) (a .m .now) (a .pointer)) _ (fault NoSuchDynamicRegister) (call .error .ensures) (search picks depth 20)
 
 control-byte-requires : tie.Need-control-byte-requires
 control-byte-requires c κs = search needs
@@ -35,7 +35,7 @@ unfolding readDynamicOf
 returns-2 c =
     let call = c .before .before in
     let a = call .before .before .before .before .before .before .args in
-    said (readDynamicOf (a .s) (a .m .now) (a .p)) _ (good (call .before .before .control-byte .result ∷ [])) (call .byte .ensures)
+    said (readDynamicOf (a .v) (a .m .now) (a .pointer)) _ (good (call .before .before .control-byte .result ∷ [])) (call .byte .ensures)
     (rw (call .before .before .control-byte .ensures) (search picks depth 20))
 
 pub read-dynamic-spec : {M : Type 1} → statement M

@@ -19,7 +19,7 @@ unfolding writeDynamicOf
 returns c =
     let call = c .before .before in
     let a = call .before .before .before .before .before .args in
-    said (writeDynamicOf (a .s) (a .m .now) (a .vcc) (a .p) (a .x)) _ (fault NoSuchDynamicRegister) (call .error .ensures) (search picks depth 20)
+    said (writeDynamicOf (a .v) (a .m .now) (a .vcc) (a .pointer) (a .x)) _ (fault NoSuchDynamicRegister) (call .error .ensures) (search picks depth 20)
 
 control-requires : tie.Need-control-requires
 control-requires c κs = search needs
@@ -38,7 +38,7 @@ unfolding writeDynamicOf
 returns-2 c =
     let call = c .before .before in
     let a = call .before .before .before .before .before .before .before .before .args in
-    said (writeDynamicOf (a .s) (a .m .now) (a .vcc) (a .p) (a .x)) _ (good []) (call .done .ensures)
+    said (writeDynamicOf (a .v) (a .m .now) (a .vcc) (a .pointer) (a .x)) _ (good []) (call .done .ensures)
     (rw (call .before .before .with-mailbox .ensures, call .before .before .before .control .ensures) (search picks depth 20))
 
 pub write-dynamic-spec : {M : Type 1} → statement M

@@ -9,7 +9,7 @@ use Rattle.fetch.proofs.system_byte.Tie as tie
 
 sub-byte : tie.Need-sub-byte
 sub-byte c =
-    let a = c .before .args .a in
+    let a = c .before .args .address in
     leb-true 24 a (and-left (leb 24 a) (leb a 31) (c .if1 .taken))
 
 byte-requires : tie.Need-byte-requires

@@ -30,7 +30,7 @@ returns c =
     let high = c .before .before .before .before .before .before .put-byte in
     let a = c .before .before .before .before .before .before .before .before .before .args in
     low .ensures
-    ∙ behind (a .text .now) (high .last .0) (hexText (a .w / 256 ∷ [])) (hexText (a .w % 256 ∷ [])) (a .at) (high .result) (omega arith) (high .ensures)
+    ∙ behind (a .text .now) (high .last .0) (hexText (a .n / 256 ∷ [])) (hexText (a .n % 256 ∷ [])) (a .at) (high .result) (omega arith) (high .ensures)
 
 pub put-word-spec : {M : Type 1} → statement M
 put-word-spec =

@@ -19,7 +19,7 @@ unfolding lengthOf
 returns c =
     let call = c .before .before in
     let a = call .before .before .before .before .before .before .before .args in
-    said (lengthOf (a .s) (a .m .now)) _ (fault MailboxDisabled) (call .error .ensures) (search picks depth 20)
+    said (lengthOf (a .v) (a .m .now)) _ (fault MailboxDisabled) (call .error .ensures) (search picks depth 20)
 
 length-byte-requires : tie.Need-length-byte-requires
 length-byte-requires c κs = search needs
@@ -35,7 +35,7 @@ unfolding lengthOf
 returns-2 c =
     let call = c .before .before in
     let a = call .before .before .before .before .before .before .before .before .args in
-    said (lengthOf (a .s) (a .m .now)) _ (good (call .before .length-byte .result ∷ [])) (call .byte .ensures)
+    said (lengthOf (a .v) (a .m .now)) _ (good (call .before .length-byte .result ∷ [])) (call .byte .ensures)
     (rw (call .before .length-byte .ensures) (search picks depth 20))
 
 pub length-spec : {M : Type 1} → statement M

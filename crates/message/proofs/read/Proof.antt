@@ -23,7 +23,7 @@ unfolding readMessageOf
 returns c =
     let call = c .before .before in
     let a = call .before .before .before .before .before .before .before .args in
-    said (readMessageOf (a .s) (a .m .now) (a .p) (a .n)) _ (fault MailboxDisabled) (call .error .ensures) (search picks depth 20)
+    said (readMessageOf (a .v) (a .m .now) (a .pointer) (a .n)) _ (fault MailboxDisabled) (call .error .ensures) (search picks depth 20)
 
 asked-requires : tie.Need-asked-requires
 asked-requires c κs = search needs
@@ -48,7 +48,7 @@ unfolding readMessageOf
 returns-2 c =
     let call = c .before .before in
     let a = call .before .before .before .before .before .before .before .before .before .before .before .args in
-    said (readMessageOf (a .s) (a .m .now) (a .p) (a .n)) _ (fault PastMessage) (call .error2 .ensures)
+    said (readMessageOf (a .v) (a .m .now) (a .pointer) (a .n)) _ (fault PastMessage) (call .error2 .ensures)
     (rw (← call .before .before .before .before .before .asked .ensures) (search picks depth 20))
 
 put-requires : tie.Need-put-requires
@@ -88,9 +88,9 @@ returns-3 c =
     let run = call .before .before .before .before .before .before in
     let count = run .before .before .before .before .before .before .before .before .before .asked in
     let a = run .before .before .before .before .before .before .before .before .before .before .before .before .before .before .before .args in
-    let bytes = bytesAt (a .m .now) (mailboxPlace + a .p) (count .result) in
-    said (readMessageOf (a .s) (a .m .now) (a .p) (a .n)) _ (good bytes)
-    (good-run bytes (a .out .now) (run .put-bytes .last .0) _ (omega (arith, length-bytesAt (a .m .now) (mailboxPlace + a .p) (count .result))) (rw (run .put-bytes .ensures, run .before .before .before .before .put .ensures)) (call .close .ensures))
+    let bytes = bytesAt (a .m .now) (mailboxPlace + a .pointer) (count .result) in
+    said (readMessageOf (a .v) (a .m .now) (a .pointer) (a .n)) _ (good bytes)
+    (good-run bytes (a .out .now) (run .put-bytes .last .0) _ (omega (arith, length-bytesAt (a .m .now) (mailboxPlace + a .pointer) (count .result))) (rw (run .put-bytes .ensures, run .before .before .before .before .put .ensures)) (call .close .ensures))
     (rw (call .before .before .with-mailbox .ensures, call .before .before .before .mailbox-after .ensures, ← count .ensures) (search (picks, run .before .before .before .before .before .before .if2 .left, run .before .before .before .before .before .before .before .before .before .before .if1 .left) depth 20))
 
 pub read-spec : {M : Type 1} → statement M

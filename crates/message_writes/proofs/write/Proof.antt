@@ -22,7 +22,7 @@ unfolding writeMessageOf
 returns c =
     let call = c .before .before in
     let a = call .before .before .before .before .before .before .before .before .args in
-    said (writeMessageOf (a .s) (a .m .now) (a .more) (a .frame .now) (a .at)) _ (fault MailboxUnavailable) (call .error .ensures)
+    said (writeMessageOf (a .v) (a .m .now) (a .more) (a .frame .now) (a .at)) _ (fault MailboxUnavailable) (call .error .ensures)
     (rw (← call .before .before .before .takes-message .ensures) (search picks depth 20))
 
 add-n : tie.Need-add-n
@@ -55,7 +55,7 @@ returns-2 c =
     let call = c .before .before in
     let put = call .before .before .before .before .before .before in
     let a = put .before .before .before .before .before .before .before .before .args in
-    said (writeMessageOf (a .s) (a .m .now) (a .more) (a .frame .now) (a .at)) _ (good []) (call .done .ensures)
+    said (writeMessageOf (a .v) (a .m .now) (a .more) (a .frame .now) (a .at)) _ (good []) (call .done .ensures)
     (rw (call .before .before .with-mailbox .ensures, call .before .before .before .radio-put .ensures, put .put-bytes .ensures, ← put .before .before .before .takes-message .ensures) (search (picks, put .before .before .if1 .left) depth 20))
 
 pub write-spec : {M : Type 1} → statement M

@@ -10,16 +10,16 @@ use Rattle.model.proofs.by_frame.Reads as by-frame-reads
 use Rattle.model.proofs.by_wire.Reads as by-wire-reads
 
 -- src/lib.rt:163:22
-enum-known-s : tie.Need-enum-known-s
-enum-known-s c = search needs
+enum-known-signal : tie.Need-enum-known-signal
+enum-known-signal c = search needs
 
 -- src/lib.rt:163:28
 by-wire-requires : tie.Need-by-wire-requires
 by-wire-requires c κs = search needs
 
 -- src/lib.rt:164:23
-enum-known-s-2 : tie.Need-enum-known-s-2
-enum-known-s-2 c = search needs
+enum-known-signal-2 : tie.Need-enum-known-signal-2
+enum-known-signal-2 c = search needs
 
 -- src/lib.rt:164:30
 by-field-requires : tie.Need-by-field-requires
@@ -42,13 +42,13 @@ returns : tie.Need-returns
 unfolding actOf
 returns c =
     let a = c .before .before .before .before .before .before .before .before .before .before .args in
-    rw (c .before .before .before .before .before .s .given .1)
+    rw (c .before .before .before .before .before .signal .given .1)
     (ap (λ (e : FreshResult). stepResult (e .answer) (e .tag) (e .memory) (a .out .now)) (c .before .before .by-wire .ensures))
 
 -- src/lib.rt:159:1
 returns-2 : tie.Need-returns-2
 unfolding actOf
-returns-2 c = rw (c .by-field .ensures, c .before .before .s2 .given .1)
+returns-2 c = rw (c .by-field .ensures, c .before .before .signal2 .given .1)
 
 -- src/lib.rt:159:1
 same-length-2 : tie.Need-same-length-2
@@ -66,9 +66,9 @@ pub act-spec : {M : Type 1} → statement M
 act-spec =
     tie.close
     (tie.spec
-    enum-known-s
+    enum-known-signal
     by-wire-requires
-    enum-known-s-2
+    enum-known-signal-2
     by-field-requires
     enum-told
     by-frame-requires

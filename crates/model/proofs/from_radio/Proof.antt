@@ -10,8 +10,8 @@ enum-told : tie.Need-enum-told
 enum-told c = search needs
 
 -- src/lib.rt:93:30
-enum-known-a : tie.Need-enum-known-a
-enum-known-a c = search needs
+enum-known-answer : tie.Need-enum-known-answer
+enum-known-answer c = search needs
 
 -- src/lib.rt:88:1
 returns : tie.Need-returns
@@ -21,7 +21,7 @@ returns c = rw (c .enum-told .given .1)
 -- src/lib.rt:88:1
 returns-2 : tie.Need-returns-2
 unfolding fromRadio
-returns-2 c = rw (c .before .a .given .1)
+returns-2 c = rw (c .before .answer .given .1)
 
 pub from-radio-spec : {M : Type 1} → statement M
-from-radio-spec = tie.close (tie.spec enum-told enum-known-a returns returns-2)
+from-radio-spec = tie.close (tie.spec enum-told enum-known-answer returns returns-2)

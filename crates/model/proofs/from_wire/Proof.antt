@@ -18,8 +18,8 @@ enum-told-3 : tie.Need-enum-told-3
 enum-told-3 c = search needs
 
 -- src/lib.rt:84:28
-enum-known-a : tie.Need-enum-known-a
-enum-known-a c = search needs
+enum-known-answer : tie.Need-enum-known-answer
+enum-known-answer c = search needs
 
 -- src/lib.rt:77:1
 returns : tie.Need-returns
@@ -39,9 +39,9 @@ returns-3 c = rw (c .enum-told3 .given .1)
 -- src/lib.rt:77:1
 returns-4 : tie.Need-returns-4
 unfolding fromWire
-returns-4 c = rw (c .before .a .given .1)
+returns-4 c = rw (c .before .answer .given .1)
 
 pub from-wire-spec : {M : Type 1} → statement M
 from-wire-spec =
     tie.close
-    (tie.spec enum-told enum-told-2 enum-told-3 enum-known-a returns returns-2 returns-3 returns-4)
+    (tie.spec enum-told enum-told-2 enum-told-3 enum-known-answer returns returns-2 returns-3 returns-4)

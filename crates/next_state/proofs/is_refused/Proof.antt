@@ -3,8 +3,8 @@ use borrow.Author.Needs.{needs}
 use Rattle.next_state.proofs.is_refused.Statement.{statement}
 use Rattle.next_state.proofs.is_refused.Tie as tie
 
-enum-known-a : tie.Need-enum-known-a
-enum-known-a c = search needs
+enum-known-answer : tie.Need-enum-known-answer
+enum-known-answer c = search needs
 
 enum-told : tie.Need-enum-told
 enum-told c = search needs
@@ -15,18 +15,18 @@ enum-told-2 c = search needs
 enum-told-3 : tie.Need-enum-told-3
 enum-told-3 c = search needs
 
-enum-known-a-2 : tie.Need-enum-known-a-2
-enum-known-a-2 c = search needs
+enum-known-answer-2 : tie.Need-enum-known-answer-2
+enum-known-answer-2 c = search needs
 
 enum-told-4 : tie.Need-enum-told-4
 enum-told-4 c = search needs
 
-enum-known-a-3 : tie.Need-enum-known-a-3
-enum-known-a-3 c = search needs
+enum-known-answer-3 : tie.Need-enum-known-answer-3
+enum-known-answer-3 c = search needs
 
 returns : tie.Need-returns
 unfolding isRefused
-returns c = rw (c .before .a .given .1)
+returns c = rw (c .before .answer .given .1)
 
 returns-2 : tie.Need-returns-2
 unfolding isRefused
@@ -42,7 +42,7 @@ returns-4 c = rw (c .enum-told3 .given .1)
 
 returns-5 : tie.Need-returns-5
 unfolding isRefused
-returns-5 c = rw (c .before .a2 .given .1)
+returns-5 c = rw (c .before .answer2 .given .1)
 
 returns-6 : tie.Need-returns-6
 unfolding isRefused
@@ -50,19 +50,19 @@ returns-6 c = rw (c .enum-told4 .given .1)
 
 returns-7 : tie.Need-returns-7
 unfolding isRefused
-returns-7 c = rw (c .before .a3 .given .1)
+returns-7 c = rw (c .before .answer3 .given .1)
 
 pub is-refused-spec : {M : Type 1} → statement M
 is-refused-spec =
     tie.close
     (tie.spec
-    enum-known-a
+    enum-known-answer
     enum-told
     enum-told-2
     enum-told-3
-    enum-known-a-2
+    enum-known-answer-2
     enum-told-4
-    enum-known-a-3
+    enum-known-answer-3
     returns
     returns-2
     returns-3

@@ -25,7 +25,7 @@ unfolding stateAfter
 returns-2 c =
     let first = c .before .before .before .before .before .before .before .before in
     let e = c .before .before .encode .ensures in
-    let o = first .args .o in
+    let o = first .args .outcome in
     λ l. pick-false _ _ _ _ (sym (c .before .before .before .before .before .is-refused .ensures) ∙ not-true _ (c .before .before .before .before .if2 .taken)) (e .0 ∙ replaced (bytesOf (o .tag)) (first .args .s .now) (l ∙ sym (e .1)))
 
 returns-3 : tie.Need-returns-3

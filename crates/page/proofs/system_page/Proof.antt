@@ -55,7 +55,7 @@ returns-2 c =
     let a = c .before .before .before .args in
     let l = c .before .loop in
     let e : l .i ≡ a .k = omega arith in
-    sym (ap (pageAcked System (a .c) (a .session) (a .f) (a .m .now)) (sym e) ∙ l .inv .0)
+    sym (ap (pageAcked System (a .c) (a .session) (a .first) (a .m .now)) (sym e) ∙ l .inv .0)
 
 pub system-page-spec : {M : Type 1} → statement M
 system-page-spec =

@@ -18,7 +18,7 @@ returns : tie.Need-returns
 unfolding presentOf
 returns c =
     let a = c .before .before .before .before .before .before .before .before .args in
-    said (presentOf (a .s) (a .m .now) (a .n) (a .frame .now) (a .at)) _ (fault NoSuchPassword) (c .before .before .error .ensures) (search picks depth 20)
+    said (presentOf (a .v) (a .m .now) (a .n) (a .frame .now) (a .at)) _ (fault NoSuchPassword) (c .before .before .error .ensures) (search picks depth 20)
 
 radio-requires : tie.Need-radio-requires
 radio-requires c κs = search needs
@@ -48,7 +48,7 @@ returns-2 c =
     let test = call .before .before .before .before in
     let a = test .before .before .before .before .before .before .before .before .before .args in
     let same = rw (test .before .before .before .radio .ensures, test .before .before .at .ensures) at (test .before .equals .ensures) in
-    said (presentOf (a .s) (a .m .now) (a .n) (a .frame .now) (a .at)) _ (fault WrongPassword) (call .error2 .ensures)
+    said (presentOf (a .v) (a .m .now) (a .n) (a .frame .now) (a .at)) _ (fault WrongPassword) (call .error2 .ensures)
     (rw (call .before .before .with-air .ensures, call .before .before .before .with-session .ensures, ← same) (search picks depth 20))
 
 add-with-session : tie.Need-add-with-session
@@ -73,7 +73,7 @@ returns-3 c =
     let test = call .before .before .before .before in
     let a = test .before .before .before .before .before .before .before .before .before .args in
     let same = rw (test .before .before .before .radio .ensures, test .before .before .at .ensures) at (test .before .equals .ensures) in
-    said (presentOf (a .s) (a .m .now) (a .n) (a .frame .now) (a .at)) _ (good []) (call .done .ensures)
+    said (presentOf (a .v) (a .m .now) (a .n) (a .frame .now) (a .at)) _ (good []) (call .done .ensures)
     (rw (call .before .before .with-air2 .ensures, call .before .before .before .with-session2 .ensures, ← same) (search picks depth 20))
 
 pub present-spec : {M : Type 1} → statement M

@@ -19,7 +19,7 @@ unfolding writePasswordOf
 returns c =
     let call = c .before .before in
     let a = call .before .before .before .before .before .before .args in
-    said (writePasswordOf (a .s) (a .m .now) (a .n) (a .frame .now) (a .at)) _ (fault NoSuchPassword) (call .error .ensures) (search picks depth 20)
+    said (writePasswordOf (a .v) (a .m .now) (a .n) (a .frame .now) (a .at)) _ (fault NoSuchPassword) (call .error .ensures) (search picks depth 20)
 
 add-if2 : tie.Need-add-if2
 add-if2 c = search needs
@@ -35,7 +35,7 @@ unfolding writePasswordOf
 returns-2 c =
     let call = c .before .before in
     let a = call .before .before .before .before .before .before .before .before .args in
-    said (writePasswordOf (a .s) (a .m .now) (a .n) (a .frame .now) (a .at)) _ (fault PasswordSessionClosed) (call .error2 .ensures) (search picks depth 20)
+    said (writePasswordOf (a .v) (a .m .now) (a .n) (a .frame .now) (a .at)) _ (fault PasswordSessionClosed) (call .error2 .ensures) (search picks depth 20)
 
 at-requires : tie.Need-at-requires
 at-requires c κs = search needs
@@ -58,7 +58,7 @@ returns-3 c =
     let call = c .before .before .before in
     let test = call .before .before .before .before in
     let a = test .before .before .before .before .before .before .args in
-    said (writePasswordOf (a .s) (a .m .now) (a .n) (a .frame .now) (a .at)) _ (good []) (call .done .ensures)
+    said (writePasswordOf (a .v) (a .m .now) (a .n) (a .frame .now) (a .at)) _ (good []) (call .done .ensures)
     (rw (c .with-passwords .ensures, call .before .before .with-radio .ensures, call .before .before .before .at .ensures) (search (picks, test .if2 .left, test .before .before .if1 .left) depth 20))
 
 pub write-spec : {M : Type 1} → statement M

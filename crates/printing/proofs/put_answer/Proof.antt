@@ -27,8 +27,8 @@ enum-told-4 c = search needs
 put-mark-requires-4 : tie.Need-put-mark-requires-4
 put-mark-requires-4 c κs = search needs
 
-enum-known-a : tie.Need-enum-known-a
-enum-known-a c = search needs
+enum-known-answer : tie.Need-enum-known-answer
+enum-known-answer c = search needs
 
 put-byte-requires : tie.Need-put-byte-requires
 put-byte-requires c κs = search needs
@@ -39,8 +39,8 @@ enum-told-5 c = search needs
 put-mark-requires-5 : tie.Need-put-mark-requires-5
 put-mark-requires-5 c κs = search needs
 
-enum-known-a-2 : tie.Need-enum-known-a-2
-enum-known-a-2 c = search needs
+enum-known-answer-2 : tie.Need-enum-known-answer-2
+enum-known-answer-2 c = search needs
 
 shown-bytes-requires : tie.Need-shown-bytes-requires
 shown-bytes-requires c κs = search needs
@@ -81,7 +81,7 @@ same-length-5 c = search needs
 
 returns-5 : tie.Need-returns-5
 unfolding answerText
-returns-5 c = rw (c .before .before .before .before .before .a .given .1) (c .before .before .put-byte .ensures)
+returns-5 c = rw (c .before .before .before .before .before .answer .given .1) (c .before .before .put-byte .ensures)
 
 same-length-6 : tie.Need-same-length-6
 same-length-6 c = search needs
@@ -95,7 +95,7 @@ same-length-7 c = search needs
 
 returns-7 : tie.Need-returns-7
 unfolding answerText
-returns-7 c = rw (c .before .before .before .before .before .before .a2 .given .1, ← c .before .before .before .shown-bytes .ensures) (c .before .before .put-hex .ensures)
+returns-7 c = rw (c .before .before .before .before .before .before .answer2 .given .1, ← c .before .before .before .shown-bytes .ensures) (c .before .before .put-hex .ensures)
 
 pub put-answer-spec : {M : Type 1} → statement M
 put-answer-spec =
@@ -109,11 +109,11 @@ put-answer-spec =
     put-mark-requires-3
     enum-told-4
     put-mark-requires-4
-    enum-known-a
+    enum-known-answer
     put-byte-requires
     enum-told-5
     put-mark-requires-5
-    enum-known-a-2
+    enum-known-answer-2
     shown-bytes-requires
     put-hex-requires
     same-length

@@ -37,7 +37,7 @@ returns c =
     let a = number .before .before .before .args in
     let o = a .text .now in
     let d = decimal (a .number) in
-    let x = answerText (a .a) (a .out .now) in
+    let x = answerText (a .said) (a .out .now) in
     let n = number .put-decimal in
     let t = tab .put-mark in
     let w = answer .put-answer in
@@ -49,7 +49,7 @@ returns c =
     ∙ behind o (w .last .1 .1 .0) ((d ++ 0x09 ∷ []) ++ x) (0x0A ∷ []) 0 (w .result) room to-answer
     ∙ ap (λ (l : List ℕ). textAt o 0 l) (line-parts (a .number) x) in
     let k : length (a .out .now) ≡ 643 = search needs in
-    (omega (arith, ap (λ (s : Stored). s .next) e, length-line (a .number) x, digits-most 20 (a .number), answer-most (a .a) (a .out .now) k), ap (λ (s : Stored). s .buffer) e)
+    (omega (arith, ap (λ (s : Stored). s .next) e, length-line (a .number) x, digits-most 20 (a .number), answer-most (a .said) (a .out .now) k), ap (λ (s : Stored). s .buffer) e)
 
 pub put-line-spec : {M : Type 1} → statement M
 put-line-spec =

@@ -41,7 +41,7 @@ returns-2 c =
     let failed = c .before .before in
     let judged = failed .before .before .before .before .before in
     let a = c .before .before .before .before .before .before .before .before .before .before .before .before .args in
-    said (radioOf (a .t) (a .u) (a .vcc) (a .transfer) (a .programming) (a .m .now) (a .s .now)) (a .out .now) _ (failed .error .ensures)
+    said (radioOf (a .v) (a .u) (a .vcc) (a .transfer) (a .programming) (a .m .now) (a .f .now)) (a .out .now) _ (failed .error .ensures)
     (rw (← judged .judge .ensures, failed .before .before .before .e .given .1))
 
 same-length-2 : tie.Need-same-length-2

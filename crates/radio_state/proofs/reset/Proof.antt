@@ -23,7 +23,7 @@ unfolding resetToReadyOf
 returns c =
     let call = c .before .before in
     let a = call .before .before .before .before .before .before .args in
-    said (resetToReadyOf (a .s) (a .m .now)) _ (good []) (call .done .ensures) (rw (call .before .before .with-air .ensures, call .before .before .before .reset .ensures))
+    said (resetToReadyOf (a .v) (a .m .now)) _ (good []) (call .done .ensures) (rw (call .before .before .with-air .ensures, call .before .before .before .reset .ensures))
 
 pub reset-spec : {M : Type 1} → statement M
 reset-spec =

@@ -24,7 +24,7 @@ unfolding selectUidOf
 returns c =
     let call = c .before .before in
     let a = call .before .before .before .before .before .before .before .args in
-    said (selectUidOf (a .s) (a .m .now) (a .own)) _ (good []) (call .done .ensures)
+    said (selectUidOf (a .v) (a .m .now) (a .own)) _ (good []) (call .done .ensures)
     (rw (call .before .before .with-air .ensures, call .before .before .before .select .ensures) (search picks depth 20))
 
 deselect-requires : tie.Need-deselect-requires
@@ -37,7 +37,7 @@ returns-2 : tie.Need-returns-2
 unfolding selectUidOf
 returns-2 c =
     let a = c .before .before .before .before .before .args in
-    silent (selectUidOf (a .s) (a .m .now) (a .own)) (rw (c .with-air2 .ensures, c .before .deselect .ensures) (search picks depth 20))
+    silent (selectUidOf (a .v) (a .m .now) (a .own)) (rw (c .with-air2 .ensures, c .before .deselect .ensures) (search picks depth 20))
 
 pub select-spec : {M : Type 1} → statement M
 select-spec =

@@ -14,7 +14,7 @@ returns : tie.Need-returns
 unfolding stayQuietOf
 returns c =
     let a = c .before .before .before .before .args in
-    silent (stayQuietOf (a .s) (a .m .now)) (rw (c .with-air .ensures, c .before .stay-quiet .ensures))
+    silent (stayQuietOf (a .v) (a .m .now)) (rw (c .with-air .ensures, c .before .stay-quiet .ensures))
 
 pub stay-quiet-spec : {M : Type 1} → statement M
 stay-quiet-spec = tie.close (tie.spec stay-quiet-requires with-air-requires returns)

@@ -32,13 +32,13 @@ returns c =
     let a = i .before .before .before .before .before .before .before .args in
     let o = d .bad-line in
     let f = take (k .length) (g .last .1 .0) in
-    let p : prints (a .b) (a .b .tag) (a .m .now) (a .reply .now) badText ≡ benchOf (a .b) (a .m .now) (a .reply .now) (a .s .now) =
-    sym (bad-call (a .b) (a .m .now) (a .reply .now) (k .value) f)
-    ∙ ap (λ (n : ℕ). benchCall (a .b) (a .m .now) (a .reply .now) n (k .value) f) (sym (i .if1 .taken))
-    ∙ g .ensures .0 (a .b) (a .m .now) (a .reply .now) in
-    let e : lineBuffers (o .result .bench) (o .result .length) (a .m .now) (a .reply .now) (o .last .1 .1 .0) ≡ putLine (benchOf (a .b) (a .m .now) (a .reply .now) (a .s .now)) (a .text .now) =
+    let p : prints (a .bench) (a .bench .tag) (a .m .now) (a .reply .now) badText ≡ benchOf (a .bench) (a .m .now) (a .reply .now) (a .s .now) =
+    sym (bad-call (a .bench) (a .m .now) (a .reply .now) (k .value) f)
+    ∙ ap (λ (n : ℕ). benchCall (a .bench) (a .m .now) (a .reply .now) n (k .value) f) (sym (i .if1 .taken))
+    ∙ g .ensures .0 (a .bench) (a .m .now) (a .reply .now) in
+    let e : lineBuffers (o .result .bench) (o .result .length) (a .m .now) (a .reply .now) (o .last .1 .1 .0) ≡ putLine (benchOf (a .bench) (a .m .now) (a .reply .now) (a .s .now)) (a .text .now) =
     o .ensures (a .m .now) ∙ ap (λ (x : LineResult). putLine x (a .text .now)) p in
-    (e, (omega (arith, ap (λ (x : LineBuffers). x .length) e, text-fits (benchState (a .b) (a .m .now) (a .reply .now)) (a .s .now)), g .ensures .1 .1))
+    (e, (omega (arith, ap (λ (x : LineBuffers). x .length) e, text-fits (benchState (a .bench) (a .m .now) (a .reply .now)) (a .s .now)), g .ensures .1 .1))
 
 sub-call : tie.Need-sub-call
 sub-call c = search needs
@@ -66,11 +66,11 @@ returns-2 c =
     let g = g13 .arguments-of in
     let k = g .result in
     let o = o4 .call in
-    let e : lineBuffers (o .result .bench) (o .result .length) (o .last .1 .0) (o .last .1 .1 .0) (o .last .1 .1 .1 .1 .1 .1 .0) ≡ putLine (benchOf (a .b) (a .m .now) (a .reply .now) (a .s .now)) (a .text .now) =
+    let e : lineBuffers (o .result .bench) (o .result .length) (o .last .1 .0) (o .last .1 .1 .0) (o .last .1 .1 .1 .1 .1 .1 .0) ≡ putLine (benchOf (a .bench) (a .m .now) (a .reply .now) (a .s .now)) (a .text .now) =
     o .ensures
-    ∙ ap (λ (n : ℕ). putLine (benchCall (a .b) (a .m .now) (a .reply .now) (k .code) (k .value) (take n (g .last .1 .0))) (a .text .now)) (sub-zero (k .length))
-    ∙ ap (λ (p : LineResult). putLine p (a .text .now)) (g .ensures .0 (a .b) (a .m .now) (a .reply .now)) in
-    (e, (omega (arith, ap (λ (x : LineBuffers). x .length) e, text-fits (benchState (a .b) (a .m .now) (a .reply .now)) (a .s .now)), g .ensures .1 .1))
+    ∙ ap (λ (n : ℕ). putLine (benchCall (a .bench) (a .m .now) (a .reply .now) (k .code) (k .value) (take n (g .last .1 .0))) (a .text .now)) (sub-zero (k .length))
+    ∙ ap (λ (p : LineResult). putLine p (a .text .now)) (g .ensures .0 (a .bench) (a .m .now) (a .reply .now)) in
+    (e, (omega (arith, ap (λ (x : LineBuffers). x .length) e, text-fits (benchState (a .bench) (a .m .now) (a .reply .now)) (a .s .now)), g .ensures .1 .1))
 
 pub line-spec : {M : Type 1} → statement M
 line-spec =

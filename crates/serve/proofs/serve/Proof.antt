@@ -18,7 +18,7 @@ returns : tie.Need-returns
 unfolding serveCode serveOf
 returns c =
     let a = c .before .before .before .before .before .args in
-    silent (serveOf (a .q) (a .t) (a .vcc) (a .m .now) (a .s .now)) (rw (c .enum-told .given .1))
+    silent (serveOf (a .q) (a .v) (a .vcc) (a .m .now) (a .f .now)) (rw (c .enum-told .given .1))
 
 same-length : tie.Need-same-length
 same-length c = search needs
@@ -31,7 +31,7 @@ returns-2 c =
     let call = c .before .before .before .before in
     let told = call .before .before .before .before in
     let a = told .before .before .before .before .before .args in
-    rw (known-row (a .q) (a .t) (a .vcc) (a .m .now) (a .s .now) _ (told .code .given .1)) (call .serve-command .ensures)
+    rw (known-row (a .q) (a .v) (a .vcc) (a .m .now) (a .f .now) _ (told .code .given .1)) (call .serve-command .ensures)
 
 pub serve-spec : {M : Type 1} → statement M
 serve-spec =

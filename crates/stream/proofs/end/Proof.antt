@@ -18,7 +18,7 @@ returns : tie.Need-returns
 returns c =
     let a = c .before .before .before .before .before .args in
     let n = c .before .kept-count in
-    (ap (λ (r : PieceResult). puts r (a .out .now)) (sym (end-none (length (a .out .now)) (benchState (a .b) (a .m .now) (a .reply .now)) (take (a .have) (a .kept .now)) (omega (arith, n .ensures, c .if1 .taken, length-take (a .have) (a .kept .now))))), omega arith)
+    (ap (λ (r : PieceResult). puts r (a .out .now)) (sym (end-none (length (a .out .now)) (benchState (a .bench) (a .m .now) (a .reply .now)) (take (a .have) (a .kept .now)) (omega (arith, n .ensures, c .if1 .taken, length-take (a .have) (a .kept .now))))), omega arith)
 
 slice-aggregate-step : tie.Need-slice-aggregate-step
 slice-aggregate-step c = search needs
@@ -34,7 +34,7 @@ returns-2 c =
     let a = c .before .before .before .before .before .before .before .before .before .before .before .before .before .args in
     let n = c .before .before .before .before .before .before .before .before .before .kept-count in
     let room = length (a .out .now) in
-    let st = benchState (a .b) (a .m .now) (a .reply .now) in
+    let st = benchState (a .bench) (a .m .now) (a .reply .now) in
     let h = take (a .have) (a .kept .now) in (
       c .before .before .step .ensures .0
           ∙ ap (λ (x : List ℕ). puts (pieceBy room st x (10 ∷ [])) (a .out .now)) (take-within (a .kept .now) (a .have) (n .result) (n .ensures))

@@ -24,7 +24,7 @@ same-length c = search needs
 returns : tie.Need-returns
 returns c =
     let a = c .before .before .before .before .before .before .before .before .before .before .before .before .before .before .args in
-    let st = benchState (a .b) (a .m .now) (a .reply .now) in (
+    let st = benchState (a .bench) (a .m .now) (a .reply .now) in (
       c .before .before .line .ensures .0
           ∙ ap (λ (l : List ℕ). putLine (lineFrom st l) (a .text .now)) (c .before .before .before .before .line-from .ensures ∙ c .before .before .before .before .before .before .before .before .before .before .join .ensures .0)
           ∙ ap (λ (r : LineResult). putLine r (a .text .now)) (whole-line st (a .kept .now) (a .s .now) (a .have)),

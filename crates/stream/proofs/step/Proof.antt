@@ -33,7 +33,7 @@ loop-holds c =
     let a = c .before .before .before .before .before .before .args in
     let n = c .before .kept-count in
     let k : length (a .kept .now) ≡ 1201 = search needs in
-    begins (benchState (a .b) (a .m .now) (a .reply .now)) (a .kept .now) (a .s .now) (a .out .now) (n .result) (c .line-end .result) (omega (arith, k, n .ensures)) (c .line-end .ensures)
+    begins (benchState (a .bench) (a .m .now) (a .reply .now)) (a .kept .now) (a .s .now) (a .out .now) (n .result) (c .line-end .result) (omega (arith, k, n .ensures)) (c .line-end .ensures)
 
 -- a turn: a line feed is left, and room for a text
 less : (c : tie.In-loop Inv-loop μ-loop) → c .before .loop .end < length (c .before .before .before .before .before .before .before .before .args .s .now)
@@ -89,7 +89,7 @@ loop-again c =
     let n = c .before .before .before .before .before .before .before .before .before .before .before .before .before .before .before .kept-count in
     let l = c .before .before .before .before .before .before .before .before .before .before .before .before .before .loop in
     let o = c .before .before .before .before .before .end-line in
-    turns (benchState (a .b) (a .m .now) (a .reply .now)) (take (n .result) (a .kept .now)) (a .s .now) (a .out .now) (benchState (l .bench) (l .m) (l .reply)) (l .kept) (l .out) (l .n) (l .from) (l .at) (l .end) (l .inv)
+    turns (benchState (a .bench) (a .m .now) (a .reply .now)) (take (n .result) (a .kept .now)) (a .s .now) (a .out .now) (benchState (l .bench) (l .m) (l .reply)) (l .kept) (l .out) (l .n) (l .from) (l .at) (l .end) (l .inv)
     (o .result .bench) (o .result .length) (o .last .1 .0) (o .last .1 .1 .0) (o .last .1 .1 .1 .0) (o .last .1 .1 .1 .1 .1 .1 .1 .0) (c .line-end2 .result)
     (less (c .before .before .before .before .before .before .before .before .before .before .before .before)) (roomy (c .before .before .before .before .before .before .before .before .before .before .before .before)) (o .ensures .0) (o .ensures .1) (o .kept .1 .1 .1 .1 .1 .1 .1 .0) (c .line-end2 .ensures)
 
@@ -113,7 +113,7 @@ returns c =
     let a = c .before .before .before .before .before .before .before .before .before .before .before .args in
     let l = c .before .before .before .before .loop in
     let n = c .before .before .before .before .before .before .kept-count in
-    let st = benchState (a .b) (a .m .now) (a .reply .now) in (
+    let st = benchState (a .bench) (a .m .now) (a .reply .now) in (
       ends st (take (n .result) (a .kept .now)) (a .s .now) (a .out .now) (benchState (l .bench) (l .m) (l .reply)) (l .kept) (l .out) (l .n) (l .from) (l .at) (l .end) (l .inv) (take (c .hold .result) (c .hold .last .0)) (c .before .before .before .loop-test .left) (c .hold .ensures .0)
           ∙ ap (λ (h : List ℕ). puts (pieceBy (length (a .out .now)) st h (a .s .now)) (a .out .now)) (take-within (a .kept .now) (a .have) (n .result) (n .ensures)),
       (l .inv .within, l .inv .fits),

@@ -47,8 +47,8 @@ loop-again c =
     let xs = bytesAt (a .m .now) 768 (l .i) in (
       w .write-at .ensures
           ∙ rw (w .before .byte-in .ensures, l .inv .0, add-one (l .i))
-          (ap (λ (j : ℕ). written (writtenAll (a .r) (a .f) xs) (a .f + j) (getD (a .m .now) (768 + l .i) 0)) (sym (length-bytesAt (a .m .now) 768 (l .i)))
-          ∙ sym (written-snoc xs (a .r) (a .f) (getD (a .m .now) (768 + l .i) 0))),
+          (ap (λ (j : ℕ). written (writtenAll (a .r) (a .first) xs) (a .first + j) (getD (a .m .now) (768 + l .i) 0)) (sym (length-bytesAt (a .m .now) 768 (l .i)))
+          ∙ sym (written-snoc xs (a .r) (a .first) (getD (a .m .now) (768 + l .i) 0))),
       omega arith,
     )
 
@@ -57,7 +57,7 @@ returns c =
     let l = c .before .loop in
     let a = c .before .before .before .args in
     let e : l .i ≡ a .k = omega arith in
-    l .inv .0 ∙ ap (λ (j : ℕ). writtenAll (a .r) (a .f) (bytesAt (a .m .now) 768 j)) e
+    l .inv .0 ∙ ap (λ (j : ℕ). writtenAll (a .r) (a .first) (bytesAt (a .m .now) 768 j)) e
 
 pub written-all-spec : {M : Type 1} → statement M
 written-all-spec =

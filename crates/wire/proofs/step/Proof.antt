@@ -12,14 +12,14 @@ start-requires c κs = search needs
 nothing-requires : tie.Need-nothing-requires
 nothing-requires c κs = search needs
 
-enum-known-s : tie.Need-enum-known-s
-enum-known-s c = search needs
+enum-known-signal : tie.Need-enum-known-signal
+enum-known-signal c = search needs
 
 send-at-requires : tie.Need-send-at-requires
 send-at-requires c κs = search needs
 
-enum-known-s-2 : tie.Need-enum-known-s-2
-enum-known-s-2 c = search needs
+enum-known-signal-2 : tie.Need-enum-known-signal-2
+enum-known-signal-2 c = search needs
 
 fetch-at-requires : tie.Need-fetch-at-requires
 fetch-at-requires c κs = search needs
@@ -33,8 +33,8 @@ stop-at-requires c κs = search needs
 nothing-requires-2 : tie.Need-nothing-requires-2
 nothing-requires-2 c κs = search needs
 
-enum-known-s-3 : tie.Need-enum-known-s-3
-enum-known-s-3 c = search needs
+enum-known-signal-3 : tie.Need-enum-known-signal-3
+enum-known-signal-3 c = search needs
 
 vcc-at-requires : tie.Need-vcc-at-requires
 vcc-at-requires c κs = search needs
@@ -65,14 +65,14 @@ returns-2 : tie.Need-returns-2
 unfolding signalOf
 returns-2 c =
     let sent = c .before .before in
-    rw (sent .before .before .before .s .given .1) (sent .send-at .ensures)
+    rw (sent .before .before .before .signal .given .1) (sent .send-at .ensures)
 
 same-length-3 : tie.Need-same-length-3
 same-length-3 c = search needs
 
 returns-3 : tie.Need-returns-3
 unfolding signalOf
-returns-3 c = rw (c .before .before .before .s2 .given .1) (c .fetch-at .ensures)
+returns-3 c = rw (c .before .before .before .signal2 .given .1) (c .fetch-at .ensures)
 
 same-length-4 : tie.Need-same-length-4
 same-length-4 c = search needs
@@ -85,7 +85,7 @@ returns-4 c =
 
 returns-5 : tie.Need-returns-5
 unfolding signalOf
-returns-5 c = rw (c .nothing3 .ensures, c .before .vcc-at .ensures, c .before .before .before .s3 .given .1)
+returns-5 c = rw (c .nothing3 .ensures, c .before .vcc-at .ensures, c .before .before .before .signal3 .given .1)
 
 returns-6 : tie.Need-returns-6
 unfolding signalOf
@@ -98,14 +98,14 @@ step-spec =
     enum-told
     start-requires
     nothing-requires
-    enum-known-s
+    enum-known-signal
     send-at-requires
-    enum-known-s-2
+    enum-known-signal-2
     fetch-at-requires
     enum-told-2
     stop-at-requires
     nothing-requires-2
-    enum-known-s-3
+    enum-known-signal-3
     vcc-at-requires
     nothing-requires-3
     enum-told-3

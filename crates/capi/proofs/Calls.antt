@@ -1,28 +1,28 @@
 -- What the exported functions leave, from what their parts leave. Assumes nothing.
-use mathlib.Core.Path.{_≡_}
+use mathlib.Core.Path.{_≡_, _∙_}
 use mathlib.Core.List.{List}
 use Prim.Native.Nat.{ℕ}
 use Rattle.keys.specs.Keys.{uidAt}
-use lib.ListN.{length}
-use Rattle.state.specs.Layout.{stateBytes, tagOf}
+use Rattle.state.specs.Layout.{tagOf}
 use Rattle.refusals.specs.declared.Judgement.the-variants.{NoRefusal}
 use Rattle.refusals.specs.Refusals.{judgement, unlessRefused}
 use Rattle.model.specs.Step.{StepResult, FreshResult, stepOf, freshOf}
 use Rattle.capi.specs.Interface.{answerNumber, callResult, stepCall, freshCallResult, freshCall}
-use Rattle.next_state.specs.After.{stateAfter}
+use Rattle.next_state.specs.After.{keptState}
+use Rattle.next_state.proofs.Whole.{kept-whole}
 use Rattle.library_refusals.specs.Rules.{stepRules, freshCallRules}
 use Rattle.capi.proofs.Narrow.{whole, fresh-whole}
 
 pub stepped : (s m o : List ℕ) (code value : ℕ) (f : List ℕ) (e : StepResult) (n : ℕ) (s′ : List ℕ)
     → judgement (stepRules s m o code value) ≡ NoRefusal
-    → e ≡ stepOf (tagOf s) m o code value f → n ≡ answerNumber (e .answer) → (length s ≡ stateBytes → s′ ≡ stateAfter s (e .answer) (e .tag))
+    → e ≡ stepOf (tagOf s) m o code value f → n ≡ answerNumber (e .answer) → s′ ≡ keptState s (e .answer) (e .tag)
     → callResult n s′ (e .memory) (e .reply) ≡ stepCall s m o code value f
 unfolding stepCall unlessRefused
-stepped s m o code value f e n s′ none h p q = rw (p, q (whole s m o code value none), none, h)
+stepped s m o code value f e n s′ none h p q = rw (p, q ∙ kept-whole s (e .answer) (e .tag) (whole s m o code value none), none, h)
 
 pub freshened : (u m s : List ℕ) (e : FreshResult) (n : ℕ) (s′ : List ℕ)
     → judgement (freshCallRules u m s) ≡ NoRefusal
-    → e ≡ freshOf (uidAt u 0) m → n ≡ answerNumber (e .answer) → (length s ≡ stateBytes → s′ ≡ stateAfter s (e .answer) (e .tag))
+    → e ≡ freshOf (uidAt u 0) m → n ≡ answerNumber (e .answer) → s′ ≡ keptState s (e .answer) (e .tag)
     → freshCallResult n s′ (e .memory) ≡ freshCall u m s
 unfolding freshCall unlessRefused
-freshened u m s e n s′ none h p q = rw (p, q (fresh-whole u m s none), none, h)
+freshened u m s e n s′ none h p q = rw (p, q ∙ kept-whole s (e .answer) (e .tag) (fresh-whole u m s none), none, h)

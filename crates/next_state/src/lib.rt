@@ -1,9 +1,7 @@
 // The state's bytes after a call.
 ghost use mathlib.Core.Path.{_≡_};
-ghost use lib.ListN.{length};
-ghost use Rattle.state.specs.Layout.{stateBytes};
 ghost use Rattle.model.specs.Step.{isRefused};
-ghost use Rattle.next_state.specs.After.{stateAfter};
+ghost use Rattle.next_state.specs.After.{keptState};
 use model::Answer;
 use model::Outcome;
 
@@ -23,7 +21,7 @@ fn is_refused(answer: Answer) -> bool
 
 // Stores the next state, unless the call was refused. A buffer of another length stays.
 pub fn keep(outcome: Outcome, s: &mut [u8])
-    ensures { λ _. ⌜ (length (now (s .entry)) ≡ stateBytes → now (s .exit) ≡ stateAfter (now (s .entry)) (outcome .answer) (outcome .tag)) ⌝ }
+    ensures { λ _. ⌜ now (s .exit) ≡ keptState (now (s .entry)) (outcome .answer) (outcome .tag) ⌝ }
 {
     // Known from here on, the length is not tested again at each byte.
     if s.len() != state::STATE_BYTES {

@@ -67,7 +67,7 @@ struct Arguments {
 
 // Of a bad line the code is 0, which is no signal's: a call with it would be refused, change nothing and print ?.
 fn arguments_of(s: &[u8], frame: &mut [u8; 602]) -> Arguments
-    ensures { λ r. ⌜ ((b : Bench) (m o : List ℕ) → benchCall b m o (r .code) (r .value) (take (r .length) (now (frame .exit))) ≡ benchOf b m o (now (s .entry))) ⌝ }
+    ensures { λ r. ⌜ ((bench : Bench) (m o : List ℕ) → benchCall bench m o (r .code) (r .value) (take (r .length) (now (frame .exit))) ≡ benchOf bench m o (now (s .entry))) ⌝ }
     ensures { λ r. ⌜ r .length ≤ length (now (frame .exit)) ⌝ }
     ensures { λ _. ⌜ now (frame .exit) ≡ sets (now (frame .entry)) 0 (closedFrame (lineOf (now (s .entry)))) ⌝ }
 {

@@ -51,7 +51,7 @@ fn fails_reception(f: &[u8], a: Air, dynamic: RfMngt) -> bool
 
 // And then a request.
 fn fails_address(f: &[u8], a: Air, u: Uid) -> bool
-    ensures { λ r. ⌜ ((d : RfMngt) → r ≡ anyHolds (silenceHolds (now (f .entry)) a u d) addressSilences) ⌝ }
+    ensures { λ r. ⌜ ((dynamic : RfMngt) → r ≡ anyHolds (silenceHolds (now (f .entry)) a u dynamic) addressSilences) ⌝ }
 {
     let radio = a.radio;
     let flags = parts::byte_at(f, 0);

@@ -11,7 +11,7 @@ use Rattle.parts.specs.Pick.{pick}
 use Rattle.parts.specs.Bytes.{bytesAt}
 use Rattle.parts.proofs.Lists.{bytesAt-part, length-bytesAt}
 use Rattle.hex.proofs.HexLaws.{take-clip}
-use Rattle.unfinished.specs.Kept.{keptMost, keep}
+use Rattle.unfinished.specs.Kept.{keptMost, keep, keptBuffer}
 
 -- ---- bytes added to the unfinished line
 pub held : (k s : List ℕ) (have n : ℕ) → length k ≡ 1201 → have ≤ 1201 → n ≡ min (1201 - have) (length s)
@@ -26,6 +26,13 @@ held k s have n hk hh e =
     ∙ ap (λ (x : List ℕ). take have k ++ x) (bytesAt-part s 0 n (omega arith) ∙ ap (λ (j : ℕ). take j s) e ∙ take-clip (1201 - have) (length s) s refl)
     ∙ sym (take-append-add (take have k) s (1201 - have))
     ∙ ap (λ (j : ℕ). take j (take have k ++ s)) whole
+
+-- the buffer that keeps them
+pub stored : (o s : List ℕ) (have at n : ℕ) → at ≡ min have keptMost → n ≡ min (1201 - at) (length s)
+    → sets o at (bytesAt s 0 n) ≡ keptBuffer o have s
+stored o s have at n h e =
+    ap (sets o at) (bytesAt-part s 0 n (omega arith) ∙ ap (λ (j : ℕ). take j s) e ∙ take-clip (1201 - at) (length s) s refl)
+    ∙ ap (λ (j : ℕ). sets o j (take (1201 - j) s)) h
 
 -- ---- the bytes s, or what was kept with them
 pub joins : (have r : ℕ) (s x y : List ℕ) → (have ≡ 0 → ⊥) → min have keptMost ≤ r → x ≡ y → pick (eqb r 0) s x ≡ pick (eqb have 0) s y

@@ -2,10 +2,10 @@ use borrow.Author.Needs.{needs}
 use native.Mathlib.Omega.{arith}
 use mathlib.Core.Path.{_≡_, ap, _∙_}
 use mathlib.Core.List.{List, _++_}
-use Prim.Native.Nat.{ℕ, _+_, _≤_}
+use Prim.Native.Nat.{ℕ, _+_, _≤_, min}
 use lib.ListN.{length, take}
 use Rattle.unfinished.specs.Kept.{keep}
-use Rattle.unfinished.proofs.Held.{held, take-within}
+use Rattle.unfinished.proofs.Held.{held, stored, take-within}
 use Rattle.unfinished.proofs.hold.Statement.{statement}
 use Rattle.unfinished.proofs.hold.Tie as tie
 
@@ -41,7 +41,10 @@ returns c =
       ap (λ (x : List ℕ). take (k .result + n .result) x) (c .put-bytes .ensures)
           ∙ held (a .kept .now) (a .s .now) (k .result) (n .result) l m (n .ensures)
           ∙ ap (λ (x : List ℕ). keep (x ++ a .s .now)) (take-within (a .kept .now) (a .have) (k .result) (k .ensures)),
-      (omega (arith, l, k .ensures), omega (arith, m, n .ensures)),
+      (
+        omega (arith, l, k .ensures, n .ensures),
+        c .put-bytes .ensures ∙ stored (a .kept .now) (a .s .now) (a .have) (k .result) (n .result) (k .ensures ∙ ap (min (a .have)) l) (n .ensures),
+      ),
     )
 
 pub hold-spec : {M : Type 1} → statement M

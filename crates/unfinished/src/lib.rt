@@ -1,11 +1,11 @@
 // The unfinished line: what is kept of it, and bytes added to it. A number past the end of what is kept is the end.
 ghost use mathlib.Core.Path.{_≡_};
 ghost use mathlib.Core.List.{_++_};
-ghost use Prim.Native.Nat.{min};
+ghost use Prim.Native.Nat.{_≤_, min};
 ghost use lib.Dec.{eqb};
 ghost use lib.ListN.{length, take};
 ghost use Rattle.parts.specs.Pick.{pick};
-ghost use Rattle.unfinished.specs.Kept.{keep, keptCount, keptBuffer};
+ghost use Rattle.unfinished.specs.Kept.{keptMost, keep, keptCount, keptBuffer};
 
 fn least(n: usize, k: usize) -> usize
     ensures { λ r. ⌜ r ≡ min n k ⌝ }
@@ -39,6 +39,7 @@ pub fn hold(kept: &mut [u8; 1201], have: usize, s: &[u8]) -> usize
 // line, and nothing is copied.
 pub fn join(kept: &mut [u8; 1201], have: usize, s: &[u8]) -> usize
     ensures { λ r. ⌜ pick (eqb r 0) (now (s .entry)) (take r (now (kept .exit))) ≡ pick (eqb have 0) (now (s .entry)) (keep (take have (now (kept .entry)) ++ now (s .entry))) ⌝ }
+    ensures { λ r. ⌜ r ≤ keptMost ⌝ }
     ensures { λ r. ⌜ r ≡ pick (eqb have 0) 0 (keptCount have (now (s .entry))) ⌝ }
     ensures { λ _. ⌜ now (kept .exit) ≡ pick (eqb have 0) (now (kept .entry)) (keptBuffer (now (kept .entry)) have (now (s .entry))) ⌝ }
 {

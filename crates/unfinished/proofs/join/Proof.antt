@@ -12,7 +12,7 @@ returns : tie.Need-returns
 unfolding pick
 returns c =
     let z : c .before .before .args .have ≡ 0 = omega (arith, c .if1 .taken) in
-    (rw z, (rw z, rw z))
+    (rw z, (omega arith, (rw z, rw z)))
 
 hold-requires : tie.Need-hold-requires
 hold-requires c κs = search needs
@@ -23,7 +23,7 @@ returns-2 c =
     let held = c .hold .ensures in
     let some : a .have ≡ 0 → ⊥ = λ z. c .before .before .if1 .left (omega (arith, z)) in (
       joins (a .have) (c .hold .result) (a .s .now) _ _ some (omega (arith, held .1 .0)) (held .0),
-      (pick-false _ _ _ _ (ne-eqb (a .have) 0 some) (held .1 .0), pick-false _ _ _ _ (ne-eqb (a .have) 0 some) (held .1 .1)),
+      (omega (arith, held .1 .0), (pick-false _ _ _ _ (ne-eqb (a .have) 0 some) (held .1 .0), pick-false _ _ _ _ (ne-eqb (a .have) 0 some) (held .1 .1))),
     )
 
 pub join-spec : {M : Type 1} → statement M

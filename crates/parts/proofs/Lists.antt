@@ -1,14 +1,14 @@
 -- Laws of runs of bytes. Assumes nothing.
 use mathlib.Core.Path.{_≡_, refl, sym, ap, _∙_}
 use mathlib.Core.Bool.{Bool, true, false}
-use mathlib.Core.List.{List, [], _∷_, _++_}
+use mathlib.Core.List.{List, [], _∷_, _++_, append-nil}
 use Prim.Native.Nat.{ℕ, zero, suc, _+_, _≤_, _<_}
 use native.Mathlib.Omega.{arith}
 use native.Mathlib.Nat.{add-zero}
 use lib.Dec.{ltb}
 use borrow.Author.Tests.{ltb-true, ltb-false}
-use lib.ListN.{length, take, drop, getD, set, length-append, length-set, length-drop, length-take, List·getD-append, List·getD-eq-default}
-use lib.Seq.{sets, length-sets, take-suc, getD-drop, getD-set-other, getD-at}
+use lib.ListN.{length, take, drop, getD, set, length-append, length-set, length-drop, length-take, drop-of-length-le, List·getD-append, List·getD-eq-default}
+use lib.Seq.{sets, sets-eq, length-sets, take-suc, getD-drop, getD-set-other, getD-at}
 use Rattle.parts.specs.Bytes.{bytesAt, copied}
 
 -- a run with one byte more
@@ -88,3 +88,15 @@ copied-down m to from (suc n) h =
     rw (copied-down m to from n h, getD-sets-after (bytesAt m from n) m to (from + n) (omega (arith, length-bytesAt m from n)))
     (ap (λ (k : ℕ). set (sets m to (bytesAt m from n)) (to + k) (getD m (from + n) 0)) (sym (length-bytesAt m from n))
     ∙ sym (sets-snoc (bytesAt m from n) m to (getD m (from + n) 0)))
+
+-- ---- all bytes of a list replaced
+take-none : (m : List ℕ) → take 0 m ≡ []
+take-none [] = refl
+take-none (x ∷ m) = refl
+
+pub replaced : (vs m : List ℕ) → length m ≡ length vs → sets m 0 vs ≡ vs
+replaced vs m h =
+    sets-eq vs m 0 (omega (arith, h))
+    ∙ ap (λ (l : List ℕ). l ++ vs ++ drop (0 + length vs) m) (take-none m)
+    ∙ ap (λ (l : List ℕ). vs ++ l) (drop-of-length-le m {i = 0 + length vs} (omega (arith, h)))
+    ∙ append-nil vs

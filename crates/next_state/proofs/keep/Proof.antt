@@ -3,7 +3,7 @@ use borrow.Author.Tests.{not-true, not-false, eq-eqb, ne-eqb}
 use Rattle.parts.proofs.Picks.{pick-true, pick-false}
 use Rattle.state.specs.Layout.{bytesOf}
 use Rattle.next_state.specs.After.{stateAfter, keptState}
-use Rattle.model.proofs.Clear.{replaced}
+use Rattle.parts.proofs.Lists.{replaced}
 use borrow.Author.Needs.{needs}
 use Rattle.next_state.proofs.keep.Statement.{statement}
 use Rattle.next_state.proofs.keep.Tie as tie

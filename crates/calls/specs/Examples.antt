@@ -1,25 +1,24 @@
 -- Calls and tags to write lists with: for the twelve pairs and the wrong tags. No step is run here.
-use mathlib.Core.Bool.{Bool, true, false}
+use mathlib.Core.Bool.{Bool, true}
 use mathlib.Core.List.{List, [], _∷_, _++_}
 use Prim.Native.Nat.{ℕ, _-_}
 use lib.ListN.{length, replicate}
 use Rattle.registers.specs.declared.Registers.{Registers}
-use Rattle.registers.specs.Fresh.{freshRegisters}
 use Rattle.register_types.specs.Types.{rfaSs, endA, mbMode}
 use Rattle.registers.specs.Map.{withSecurity, withEnds, withMode}
 use Rattle.air.specs.declared.RadioState.{RadioState}
 use Rattle.air.specs.declared.RadioState.the-variants.{Ready}
 use Rattle.air.specs.declared.Air.{Air}
 use Rattle.bus.specs.declared.Bus.{Bus}
-use Rattle.bus.specs.declared.Bus.the-variants.{Idle}
 use Rattle.tag.specs.declared.Host.{Host}
 use Rattle.tag.specs.declared.Core.{Core}
 use Rattle.keys.specs.declared.Uid.{Uid}
+use Rattle.tag.specs.Supply.{freshTag}
 use Rattle.tag.specs.Layout.{userBytes, memoryBytes, replyBytes}
 use Rattle.air.specs.Parts.{withField, withState, withRadioSession}
 use Rattle.tag.specs.Parts.{withVcc, withI2cSession, withProgramming, withCounter, withTagHost, withTagCore, withBus, withRegisters, withMailbox, withTagAir}
-use Rattle.mailbox.specs.Mailbox.{emptyMailbox, noMessage}
-use Rattle.keys.specs.Keys.{freshPasswords}
+use Rattle.mailbox.specs.Parts.{withPut, withEnabled, withHostMessage, withLength}
+use Rattle.mailbox.specs.Mailbox.{emptyMailbox, putMessage}
 use Rattle.crc.specs.Crc.{closed}
 use Rattle.calls.specs.Calls.{Call, Device, device}
 
@@ -72,12 +71,8 @@ uid = record { bytes = 0x01 ∷ 0x02 ∷ 0x03 ∷ 0x04 ∷ 0x05 ∷ 0x24 ∷ 0x0
 
 -- "a fresh powered tag in the field": "all bytes, registers and passwords 0, ends 0Fh, UID as set, Ready"
 abbrev pub powered : Device
-powered = device (record {
-  air = record { field = true; radio = Ready; session = 0 };
-  host = record { vcc = true; session = false; programming = false; counter = 0; bus = Idle };
-  core = record { registers = freshRegisters; mailbox = emptyMailbox; passwords = freshPasswords };
-  uid = uid;
-}) (zeros memoryBytes)
+powered =
+    device (withTagAir (withField true (freshTag uid .air)) (withTagHost (withVcc true (freshTag uid .host)) (freshTag uid))) (zeros memoryBytes)
 
 -- ---- a device but for one thing: `powered but counterAt 0x0200`
 infixl 10 _but_
@@ -137,7 +132,7 @@ mailboxMode n d = onRegisters (withMode (mbMode n)) d
 
 -- MB_EN 1, and a host message of n bytes with its CURRENT bit, and HOST_PUT or not
 abbrev pub hostMessage : ℕ → Bool → Device → Device
-hostMessage n put d = onCore (withMailbox (record { enabled = true; host = record { put = put; current = true }; rf = noMessage; length = n })) d
+hostMessage n put d = onCore (withMailbox (withEnabled true (withLength n (withHostMessage (withPut put putMessage) emptyMailbox)))) d
 
 -- ---- the bytes: of user memory, mailbox and page buffer the first ones, all others being 0
 abbrev pub thenZeros : ℕ → List ℕ → List ℕ

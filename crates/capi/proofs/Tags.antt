@@ -8,7 +8,7 @@ use lib.ListN.{length}
 use Rattle.parts.specs.Pick.{pick}
 use Rattle.parts.proofs.Bools.{and-left}
 use Rattle.tag.specs.declared.Tag.{Tag}
-use Rattle.state.specs.Layout.{airDecodes, hostDecodes, mailboxDecodes, bytesOf, decodes, tagOf}
+use Rattle.state.specs.Layout.{stateBytes, airDecodes, hostDecodes, mailboxDecodes, bytesOf, decodes, tagOf}
 use Rattle.state.proofs.There.{decodes-encoded}
 use Rattle.refusals.specs.declared.Refusal.{Refusal}
 use Rattle.refusals.specs.declared.Judgement.{Judgement}
@@ -23,10 +23,10 @@ use Rattle.library_refusals.specs.Rules.{stateRule, decodesRule}
 use Rattle.capi.specs.Claims.{StepsTheTag}
 
 -- bytes that decode have their length
-pub decodes-length : (s : List ℕ) → decodes s ≡ true → eqb (length s) 83 ≡ true
+pub decodes-length : (s : List ℕ) → decodes s ≡ true → eqb (length s) stateBytes ≡ true
 unfolding decodes
 decodes-length s h =
-    let n = eqb (length s) 83 in
+    let n = eqb (length s) stateBytes in
     and-left n (airDecodes s 0) (and-left (n && airDecodes s 0) (hostDecodes s 3) (and-left (n && airDecodes s 0 && hostDecodes s 3) (mailboxDecodes s 28) h))
 
 -- what a call leaves of the model's outcome
@@ -40,7 +40,7 @@ unfolding unlessRefused
 twice f NoRefusal q refuses serves = refl
 twice f (RefusedBy r) q refuses serves = refl
 
-decoded : (s m o : List ℕ) (code value : ℕ) (f : List ℕ) → eqb (length s) 83 ≡ true → decodes s ≡ true
+decoded : (s m o : List ℕ) (code value : ℕ) (f : List ℕ) → eqb (length s) stateBytes ≡ true → decodes s ≡ true
     → stepCall s m o code value f ≡ calledBy s (stepOf (tagOf s) m o code value f)
 unfolding stepCall stepOf answerNumber isRefused stateAfter pick NoneApplies
 decoded s m o code value f l d =

@@ -25,7 +25,7 @@ fn answer_number(answer: Answer) -> u32
 }
 
 // ---- the exported functions
-// One call: the state's 83 bytes, the memory, the reply buffer, a signal's code and value, and a frame.
+// One call: the state's bytes, the memory, the reply buffer, a signal's code and value, and a frame.
 #[no_mangle]
 pub extern "C" fn st25dv_step(
     s: &mut [u8],

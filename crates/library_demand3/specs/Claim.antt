@@ -84,7 +84,7 @@ pub record LibraryAgrees (step : LibraryStep) (s m : List ℕ) (calls : List Cal
   pub striking : LibraryStriking step s m calls
   pub shut : EachLibraryStruck step (LibraryShut step) (tagOf s) s m calls
 
--- 83 bytes that decode to a tag in range with no transfer open, and 1,024 bytes of memory
+-- bytes that decode to a tag in range with no transfer open, and 1,024 bytes of memory
 pub record Starts (s m : List ℕ) : Type 0 where
   pub state : areBytes s ≡ true
   pub whole : decodes s ≡ true

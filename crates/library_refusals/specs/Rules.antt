@@ -8,7 +8,7 @@ use Rattle.state.specs.Layout.{stateBytes, decodes}
 use Rattle.refusals.specs.declared.Refusal.the-variants.{OutOfRange, StateLength, UidLength}
 use Rattle.refusals.specs.Refusals.{RefusalRule, refusalRule, freshRules, callRules}
 
--- the state buffer has not its 83 bytes
+-- the state buffer has not a state's length
 abbrev pub stateRule : List ℕ → RefusalRule
 stateRule s = refusalRule (not (eqb (length s) stateBytes)) StateLength
 

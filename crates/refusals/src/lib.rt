@@ -10,7 +10,7 @@ pub enum Refusal {
     ReplyShort,
     SignalUnknown,
     OutOfRange,
-    // The state buffer has not its 83 bytes.
+    // The state buffer has not a state's length.
     StateLength,
     // The UID has not its 8 bytes.
     UidLength,

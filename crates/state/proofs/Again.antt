@@ -11,7 +11,7 @@ use Rattle.parts.specs.Pick.{pick}
 use Rattle.parts.specs.Bytes.{bytesAt, areBytes}
 use Rattle.parts.proofs.Below.{bytes-below}
 use Rattle.parts.proofs.Bools.{and-left, and-right}
-use Rattle.state.specs.Layout.{isFlag, flagOf, wordOf, spaceOf, usedOr0, airBytes, airDecodes, airAt, busBytes, isBus, busOf, busDecodes, busAt, hostBytes, hostDecodes, hostAt, registerBytes, registersAt, mailboxBytes, mailboxDecodes, mailboxAt, passwordBytes, passwordsAt, bytesOf, decodes, tagOf}
+use Rattle.state.specs.Layout.{stateBytes, isFlag, flagOf, wordOf, spaceOf, usedOr0, airBytes, airDecodes, airAt, busBytes, isBus, busOf, busDecodes, busAt, hostBytes, hostDecodes, hostAt, registerBytes, registersAt, mailboxBytes, mailboxDecodes, mailboxAt, passwordBytes, passwordsAt, bytesOf, decodes, tagOf}
 use Rattle.state.specs.Claims.{EncodesDecoded}
 use Rattle.state.proofs.Places.{bytesAt-whole, bytesAt-join}
 use Rattle.state.proofs.Numbers.{flag-again, radio-again, space-again, low-again, high-again}
@@ -145,7 +145,7 @@ module _ (s : List ℕ) where
     all-again : decodes s ≡ true → bytesOf (tagOf s) ≡ s
     unfolding decodes bytesOf tagOf
     all-again d =
-        let n = eqb (length s) 83 in
+        let n = eqb (length s) stateBytes in
         let a = airDecodes s 0 in
         let h = hostDecodes s 3 in
         let m = mailboxDecodes s 28 in

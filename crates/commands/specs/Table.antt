@@ -1,4 +1,4 @@
--- The table of commands. What each does is `serveCommand` of radio.
+-- The table of commands. What each does is `serveCommand` of serve.
 use mathlib.Core.Bool.{Bool, true, false}
 use mathlib.Core.List.{List, [], _∷_}
 use Prim.Native.Nat.{ℕ, _+_, _*_}

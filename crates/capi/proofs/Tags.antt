@@ -1,15 +1,15 @@
 -- A call over a tag's bytes is the model's call of that tag. Assumes nothing.
 use mathlib.Core.Path.{_≡_, refl, sym, ap, subst, _∙_}
-use mathlib.Core.Bool.{true, not, _&&_}
+use mathlib.Core.Bool.{true, not}
 use mathlib.Core.List.{List, [], _∷_}
 use Prim.Native.Nat.{ℕ}
 use lib.Dec.{eqb}
 use lib.ListN.{length}
 use Rattle.parts.specs.Pick.{pick}
-use Rattle.parts.proofs.Bools.{and-left}
 use Rattle.tag.specs.declared.Tag.{Tag}
-use Rattle.state.specs.Layout.{stateBytes, airDecodes, hostDecodes, mailboxDecodes, bytesOf, decodes, tagOf}
+use Rattle.state.specs.Layout.{stateBytes, bytesOf, decodes, tagOf}
 use Rattle.state.proofs.There.{decodes-encoded}
+use Rattle.state.proofs.Again.{parted}
 use Rattle.refusals.specs.declared.Refusal.{Refusal}
 use Rattle.refusals.specs.declared.Judgement.{Judgement}
 use Rattle.refusals.specs.declared.Judgement.the-variants.{NoRefusal, RefusedBy}
@@ -24,10 +24,7 @@ use Rattle.capi.specs.Claims.{StepsTheTag}
 
 -- bytes that decode have their length
 pub decodes-length : (s : List ℕ) → decodes s ≡ true → eqb (length s) stateBytes ≡ true
-unfolding decodes
-decodes-length s h =
-    let n = eqb (length s) stateBytes in
-    and-left n (airDecodes s 0) (and-left (n && airDecodes s 0) (hostDecodes s 3) (and-left (n && airDecodes s 0 && hostDecodes s 3) (mailboxDecodes s 28) h))
+decodes-length s h = parted s h .long
 
 -- what a call leaves of the model's outcome
 abbrev calledBy : List ℕ → StepResult → CallResult

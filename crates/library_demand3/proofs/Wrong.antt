@@ -28,7 +28,7 @@ use Rattle.demand3.specs.Demand3.{isFrame, isClosed}
 use Rattle.calls.proofs.Computes.{computes}
 use Rattle.library_demand3.specs.Calls.{LibraryAnswer, LibraryRunResult, exported, libraryRun}
 use Rattle.library_demand3.specs.Claim.{inNumbers, inBytes, libraryStruck, EachLibraryStruck, LibrarySame, Starts}
-use Rattle.library_demand3.specs.Wrong.{LibraryRefuted, acksStop, refusesBy3, raisesReply, writesPast, leavesTrace, keepsState, coded, decoded, codesSession, dropsPageByte, supplied, marksState, restored, marksMemory, turned, turnsField, wrongWhere}
+use Rattle.library_demand3.specs.Wrong.{LibraryRefuted, acksStop, refusesBy3, raisesReply, writesPast, leavesTrace, keepsState, sessionPlace, coded, decoded, codesSession, dropsPageByte, supplied, marksState, restored, marksMemory, turned, turnsField, wrongWhere}
 
 -- all that a run of the library's calls, and the waiting tag's, computes with
 unfoldable runs : Unit {0}
@@ -109,14 +109,14 @@ leaves-trace-refuted h =
 pub keeps-state-refuted : LibraryRefuted keepsState
 unfolding runs keepsState
 keeps-state-refuted h =
-    let f : _≡_ {A = ℕ} 1 0 = ap (λ (r : LibraryRunResult). getD (r .state) 0 0) (h (bytes powered) (powered .memory) (fieldTo 0 ∷ []) (starts refl refl refl refl refl refl) refl refl .same) in
+    let f : _≡_ {A = ℕ} 1 0 = ap (λ (r : LibraryRunResult). flagByte (tagOf (r .state) .air .field)) (h (bytes powered) (powered .memory) (fieldTo 0 ∷ []) (starts refl refl refl refl refl refl) refl refl .same) in
     omega arith
 
 pub codes-session-refuted : LibraryRefuted codesSession
 unfolding runs codesSession coded decoded
 codes-session-refuted h =
     let d = powered but i2cSession in
-    let f : _≡_ {A = ℕ} 2 1 = ap (λ (r : LibraryRunResult). getD (r .state) 4 0) (h (bytes d) (d .memory) (stop ∷ []) (starts refl refl refl refl refl refl) refl refl .same) in
+    let f : _≡_ {A = ℕ} 2 1 = ap (λ (r : LibraryRunResult). getD (r .state) sessionPlace 0) (h (bytes d) (d .memory) (stop ∷ []) (starts refl refl refl refl refl refl) refl refl .same) in
     omega arith
 
 pub drops-page-byte-refuted : LibraryRefuted dropsPageByte
@@ -134,7 +134,7 @@ marks-state-same = refl
 pub marks-state-refuted : LibraryRefuted marksState
 unfolding runs marksState supplied
 marks-state-refuted h =
-    let f : _≡_ {A = ℕ} 0 1 = ap (λ (s : List ℕ). getD s 3 0) (h (bytes awaiting) (awaiting .memory) framed (starts refl refl refl refl refl refl) refl refl .shut .1 .0 refl .state) in
+    let f : _≡_ {A = ℕ} 0 1 = ap (λ (s : List ℕ). flagByte (tagOf s .host .vcc)) (h (bytes awaiting) (awaiting .memory) framed (starts refl refl refl refl refl refl) refl refl .shut .1 .0 refl .state) in
     omega arith
 
 marks-memory-same : LibrarySame marksMemory (bytes awaiting) (awaiting .memory) framed

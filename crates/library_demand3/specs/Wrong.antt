@@ -1,14 +1,16 @@
 -- Library steps that demand 3 over the library's calls shuts out: each is the exported function with one thing changed.
 -- Code 6 is a Stop, 7 a programming end.
-use mathlib.Core.Bool.{Bool, not, _&&_}
+use mathlib.Core.Bool.{Bool, true, false, not, _&&_}
 use mathlib.Core.List.{List}
-use Prim.Native.Nat.{ℕ, _+_, _-_, _%_}
+use Prim.Native.Nat.{ℕ, _+_, _%_}
 use lib.Dec.{leb, eqb}
 use lib.ListN.{getD, set}
 use Rattle.parts.specs.Pick.{pick}
 use Rattle.tag.specs.declared.Tag.{Tag}
 use Rattle.tag.specs.Layout.{pagePlace}
-use Rattle.state.specs.Layout.{tagOf}
+use Rattle.air.specs.Parts.{withField}
+use Rattle.tag.specs.Parts.{withVcc, withTagAir, withTagHost}
+use Rattle.state.specs.Layout.{hostPartPlace, bytesOf, tagOf}
 use Rattle.model.specs.Step.{transferOpen}
 use Rattle.capi.specs.Interface.{CallResult, callResult}
 use Rattle.calls.specs.Calls.{Call}
@@ -60,11 +62,14 @@ keepsState s m call =
     callResult (result .number) s (result .memory) (result .reply)
 
 -- its own number, 2, for an open I2C session; it reads it as the 1 that it is, so that every answer is right
+abbrev pub sessionPlace : ℕ
+sessionPlace = hostPartPlace + 1
+
 unfoldable pub coded : List ℕ → List ℕ
-coded s = pick (eqb (getD s 4 0) 1) (set s 4 2) s
+coded s = pick (eqb (getD s sessionPlace 0) 1) (set s sessionPlace 2) s
 
 unfoldable pub decoded : List ℕ → List ℕ
-decoded s = pick (eqb (getD s 4 0) 2) (set s 4 1) s
+decoded s = pick (eqb (getD s sessionPlace 0) 2) (set s sessionPlace 1) s
 
 unfoldable pub codesSession : List ℕ → List ℕ → Call → CallResult
 codesSession s m call =
@@ -79,13 +84,16 @@ dropsPageByte s m call =
 
 -- ---- `shut`: what is put right before the transfer ends, so that every answer and all bytes at the end are right
 -- a struck frame leaves VCC 0 in the state
+abbrev pub suppliedAt : Bool → Tag → Tag
+suppliedAt on t = withTagHost (withVcc on (t .host)) t
+
 unfoldable pub supplied : List ℕ → List ℕ
-supplied s = pick (transferOpen (tagOf s)) (set s 3 1) s
+supplied s = pick (transferOpen (tagOf s)) (bytesOf (suppliedAt true (tagOf s))) s
 
 unfoldable pub marksState : List ℕ → List ℕ → Call → CallResult
 marksState s m call =
     let result = exported (supplied s) m call in
-    callResult (result .number) (pick (libraryStruck exported (supplied s) m call) (set (result .state) 3 0) (result .state)) (result .memory) (result .reply)
+    callResult (result .number) (pick (libraryStruck exported (supplied s) m call) (bytesOf (suppliedAt false (tagOf (result .state)))) (result .state)) (result .memory) (result .reply)
 
 -- a struck frame leaves 256 more in the memory's last place
 unfoldable pub restored : List ℕ → List ℕ
@@ -97,8 +105,11 @@ marksMemory s m call =
     callResult (result .number) (result .state) (pick (libraryStruck exported s (restored m) call) (set (result .memory) 1023 (getD (result .memory) 1023 0 + 256)) (result .memory)) (result .reply)
 
 -- in a transfer the field stands the wrong way round in the state: by that state a struck frame's reply is another
+abbrev pub fieldTurned : Tag → Tag
+fieldTurned t = withTagAir (withField (not (t .air .field)) (t .air)) t
+
 unfoldable pub turned : List ℕ → List ℕ
-turned s = pick (transferOpen (tagOf s)) (set s 0 (1 - getD s 0 0)) s
+turned s = pick (transferOpen (tagOf s)) (bytesOf (fieldTurned (tagOf s))) s
 
 unfoldable pub turnsField : List ℕ → List ℕ → Call → CallResult
 turnsField s m call =

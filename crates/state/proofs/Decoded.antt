@@ -1,57 +1,37 @@
 -- The tag of bytes fits. Assumes nothing.
-use mathlib.Core.Path.{_≡_, refl}
+use mathlib.Core.Path.{_≡_}
 use mathlib.Core.Bool.{true}
 use mathlib.Core.List.{List}
 use Prim.Native.Nat.{ℕ}
-use native.Mathlib.Omega.{arith}
 use lib.Dec.{eqb}
-use lib.ListN.{length, getD}
-use borrow.Author.Tests.{eq-eqb, lt-ltb}
+use lib.ListN.{length}
+use borrow.Author.Tests.{eq-eqb}
 use Rattle.parts.specs.Bytes.{bytesAt, areBytes}
 use Rattle.parts.proofs.Below.{Below, bytes-below, are-run}
 use Rattle.parts.proofs.Bools.{and-both}
 use Rattle.parts.proofs.Lists.{length-bytesAt}
-use Rattle.parts.proofs.Picks.{pick-case}
-use Rattle.bus.specs.declared.Bus.{Bus}
-use Rattle.state.specs.Layout.{wordOf, airAt, busOf, busAt, hostAt, registerBytes, registersAt, mailboxAt, passwordsAt, tagOf}
-use Rattle.state.specs.Claims.{isByte, isWord, areEight, busFits, DecodedFits}
+use Rattle.state.specs.Layout.{passwordsAt, tagOf}
+use Rattle.state.specs.Claims.{areEight, DecodedFits}
+use Rattle.state.proofs.Air.{air-fits}
+use Rattle.state.proofs.Host.{counter-fits, host-bus-fits}
+use Rattle.state.proofs.Registers.{registers-fit}
+use Rattle.state.proofs.Mailbox.{message-fits}
 
 -- eight bytes of a list are a password or a UID
 pub eight-run : (s : List ℕ) (at : ℕ) → Below s → areEight (bytesAt s at 8) ≡ true
 eight-run s at h =
     and-both (eqb (length (bytesAt s at 8)) 8) (areBytes (bytesAt s at 8)) (eq-eqb (length (bytesAt s at 8)) 8 (length-bytesAt s at 8)) (are-run s at 8 h)
 
--- ---- the parts of a state
-module _ (s : List ℕ) (h : Below s) where
-  byte : (i : ℕ) → isByte (getD s i 0) ≡ true
-  byte i = lt-ltb (getD s i 0) 256 (h i)
-
-  word : (i j : ℕ) → isWord (wordOf (getD s i 0) (getD s j 0)) ≡ true
-  word i j = lt-ltb (wordOf (getD s i 0) (getD s j 0)) 65536 (omega (arith, h i, h j))
-
-  bus : busFits (busAt s 8) ≡ true
-  unfolding busAt busOf busFits
-  bus =
-      let P : Bus → Type 0 = λ b. busFits b ≡ true in
-      pick-case P _ _ _ (λ _. refl)
-      (λ _. pick-case P _ _ _ (λ _. refl)
-      (λ _. pick-case P _ _ _ (λ _. refl)
-      (λ _. pick-case P _ _ _ (λ _. byte 12) (λ _. pick-case P _ _ _ (λ _. word 13 14) (λ _. refl)))))
-
-  registers : areBytes (registerBytes (registersAt s 15)) ≡ true
-  unfolding areBytes registerBytes registersAt
-  registers = rw (byte 15, byte 16, byte 17, byte 18, byte 19, byte 20, byte 21, byte 22, byte 23, byte 24, byte 25, byte 26, byte 27)
-
 pub decoded-fits : DecodedFits
-unfolding tagOf airAt hostAt mailboxAt passwordsAt
+unfolding tagOf passwordsAt
 decoded-fits s are =
     let h : Below s = bytes-below s are in
     record {
-      session = byte s h 2;
-      counter = word s h 6 7;
-      bus = bus s h;
-      registers = registers s h;
-      message = word s h 33 34;
-      passwords = record { i2c = eight-run s 35 h; rf0 = eight-run s 43 h; rf1 = eight-run s 51 h; rf2 = eight-run s 59 h; rf3 = eight-run s 67 h };
-      uid = eight-run s 75 h;
+      session = air-fits s _ h;
+      counter = counter-fits s _ h;
+      bus = host-bus-fits s _ h;
+      registers = registers-fit s _ h;
+      message = message-fits s _ h;
+      passwords = record { i2c = eight-run s _ h; rf0 = eight-run s _ h; rf1 = eight-run s _ h; rf2 = eight-run s _ h; rf3 = eight-run s _ h };
+      uid = eight-run s _ h;
     }

@@ -1,5 +1,11 @@
 pub mod Places
 pub mod Numbers
+pub mod Air
+pub mod Bus
+pub mod Host
+pub mod Registers
+pub mod Mailbox
+pub mod Passwords
 pub mod There
 pub mod Again
 pub mod AreBytes

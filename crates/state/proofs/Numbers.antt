@@ -1,16 +1,20 @@
 -- Numbers of the layout, there and back. Assumes nothing.
 use mathlib.Core.Path.{_≡_, refl}
 use mathlib.Core.Bool.{Bool, true, false}
-use Prim.Native.Nat.{ℕ, zero, suc, _≤_, _<_}
+use mathlib.Core.List.{List}
+use Prim.Native.Nat.{ℕ, zero, suc, _≤_, _<_, _/_, _%_}
 use native.Mathlib.Omega.{arith}
 use lib.Dec.{leb}
-use borrow.Author.Tests.{leb-true}
+use lib.ListN.{getD}
+use borrow.Author.Tests.{leb-true, lt-ltb, ltb-true}
 use Rattle.parts.specs.Pick.{pick}
+use Rattle.parts.proofs.Below.{Below}
 use Rattle.air.specs.declared.RadioState.{RadioState}
 use Rattle.air.specs.declared.RadioState.the-variants.{Ready, Quiet, Selected}
 use Rattle.bus.specs.declared.Space.{Space}
 use Rattle.bus.specs.declared.Space.the-variants.{User, System}
 use Rattle.state.specs.Layout.{flagByte, isFlag, flagOf, lowByte, highByte, wordOf, radioNumber, radioStateOf, spaceNumber, spaceOf}
+use Rattle.state.specs.Claims.{isByte, isWord}
 
 pub flag-fits : (b : Bool) → isFlag (flagByte b) ≡ true
 unfolding flagByte pick
@@ -80,3 +84,34 @@ low-again x y h = omega arith
 
 pub high-again : (x y : ℕ) → x < 256 → highByte (wordOf x y) ≡ y
 high-again x y h = omega arith
+
+-- ---- each is a byte
+pub flag-byte : (b : Bool) → isByte (flagByte b) ≡ true
+unfolding flagByte pick
+flag-byte true = refl
+flag-byte false = refl
+
+pub radio-byte : (r : RadioState) → isByte (radioNumber r) ≡ true
+unfolding radioNumber
+radio-byte Ready = refl
+radio-byte Quiet = refl
+radio-byte Selected = refl
+
+pub space-byte : (s : Space) → isByte (spaceNumber s) ≡ true
+unfolding spaceNumber
+space-byte User = refl
+space-byte System = refl
+
+pub low-byte : (n : ℕ) → isByte (lowByte n) ≡ true
+low-byte n = lt-ltb (n % 256) 256 (omega arith)
+
+pub high-byte : (n : ℕ) → isWord n ≡ true → isByte (highByte n) ≡ true
+high-byte n h = lt-ltb (n / 256) 256 (omega (arith, ltb-true n 65536 h))
+
+-- ---- bytes of a list of bytes
+module _ (s : List ℕ) (h : Below s) where
+  pub byte-fits : (i : ℕ) → isByte (getD s i 0) ≡ true
+  byte-fits i = lt-ltb (getD s i 0) 256 (h i)
+
+  pub word-fits : (i j : ℕ) → isWord (wordOf (getD s i 0) (getD s j 0)) ≡ true
+  word-fits i j = lt-ltb (wordOf (getD s i 0) (getD s j 0)) 65536 (omega (arith, h i, h j))

@@ -35,6 +35,10 @@ bytesAt-join s at n (suc m) =
     sym (append-assoc (bytesAt s at n) (bytesAt s (at + n) m) (getD s (at + n + m) 0 ∷ []))
     ∙ rw (bytesAt-join s at n m, i) (ap (bytesAt s at) e)
 
+-- .. the second at a place that is where the first ends
+pub bytesAt-joined : (s : List ℕ) (at from n m : ℕ) → from ≡ at + n → bytesAt s at n ++ bytesAt s from m ≡ bytesAt s at (n + m)
+bytesAt-joined s at from n m e = ap (λ (i : ℕ). bytesAt s at n ++ bytesAt s i m) e ∙ bytesAt-join s at n m
+
 -- a part of a part
 pub bytesAt-within : (s : List ℕ) (at n i m : ℕ) → i + m ≤ n → bytesAt (bytesAt s at n) i m ≡ bytesAt s (at + i) m
 unfolding bytesAt
@@ -46,3 +50,7 @@ bytesAt-within s at n i (suc m) h =
 -- two parts stored one after the other
 pub sets-then : (p q o : List ℕ) (at n : ℕ) → length p ≡ n → sets (sets o at p) (at + n) q ≡ sets o at (p ++ q)
 sets-then p q o at n e = ap (λ (k : ℕ). sets (sets o at p) (at + k) q) (sym e) ∙ sym (sets-append p q o at)
+
+-- .. the second at a place that is where the first ends
+pub sets-next : (p q o : List ℕ) (at next n : ℕ) → length p ≡ n → next ≡ at + n → sets (sets o at p) next q ≡ sets o at (p ++ q)
+sets-next p q o at next n e i = ap (λ (k : ℕ). sets (sets o at p) k q) i ∙ sets-then p q o at n e

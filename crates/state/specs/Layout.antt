@@ -1,4 +1,4 @@
--- The tag's state as 83 bytes. Of each part: its bytes; the part that stands at a place; and, where not every byte will do, whether bytes at a place are one.
+-- The tag's state as bytes, part after part. Of each part: how long it is and where it stands; its bytes; the part that stands at a place; and, where not every byte will do, whether bytes at a place are one.
 -- Byte i of a part that stands at place `at` is at + i.
 use mathlib.Core.Bool.{Bool, _&&_, _||_}
 use mathlib.Core.List.{List, [], _∷_, _++_}
@@ -20,9 +20,53 @@ use Rattle.tag.specs.declared.Host.{Host}
 use Rattle.tag.specs.declared.Tag.{Tag}
 use Rattle.keys.specs.Keys.{passwordAt, uidAt}
 
--- "there are 83 of them"
+-- ---- the parts: each has its length, and stands where the one before it ends
+abbrev pub airPartLength : ℕ
+airPartLength = 3
+
+-- in the host's part: the bytes before the bus, and the bus
+abbrev pub busOffset : ℕ
+busOffset = 5
+
+abbrev pub busLength : ℕ
+busLength = 7
+
+abbrev pub hostPartLength : ℕ
+hostPartLength = busOffset + busLength
+
+abbrev pub registersPartLength : ℕ
+registersPartLength = 13
+
+abbrev pub mailboxPartLength : ℕ
+mailboxPartLength = 7
+
+-- "passwords .., eight bytes each"
+abbrev pub passwordsPartLength : ℕ
+passwordsPartLength = 5 * 8
+
+abbrev pub uidPartLength : ℕ
+uidPartLength = 8
+
+abbrev pub airPartPlace : ℕ
+airPartPlace = 0
+
+abbrev pub hostPartPlace : ℕ
+hostPartPlace = airPartPlace + airPartLength
+
+abbrev pub registersPartPlace : ℕ
+registersPartPlace = hostPartPlace + hostPartLength
+
+abbrev pub mailboxPartPlace : ℕ
+mailboxPartPlace = registersPartPlace + registersPartLength
+
+abbrev pub passwordsPartPlace : ℕ
+passwordsPartPlace = mailboxPartPlace + mailboxPartLength
+
+abbrev pub uidPartPlace : ℕ
+uidPartPlace = passwordsPartPlace + passwordsPartLength
+
 abbrev pub stateBytes : ℕ
-stateBytes = 83
+stateBytes = uidPartPlace + uidPartLength
 
 -- ---- numbers
 -- "0 or 1"
@@ -62,7 +106,7 @@ spaceNumber System = 1
 unfoldable pub spaceOf : ℕ → Space
 spaceOf n = pick (eqb n 1) System User
 
--- ---- places 0 to 2: field, radio state, radio session
+-- ---- field, radio state, radio session
 unfoldable pub airBytes : Air → List ℕ
 airBytes a = flagByte (a .field) ∷ radioNumber (a .radio) ∷ a .session ∷ []
 
@@ -72,7 +116,7 @@ airDecodes s at = isFlag (getD s (at + 0) 0) && leb (getD s (at + 1) 0) 2
 unfoldable pub airAt : List ℕ → ℕ → Air
 airAt s at = record { field = flagOf (getD s (at + 0) 0); radio = radioStateOf (getD s (at + 1) 0); session = getD s (at + 2) 0 }
 
--- ---- places 8 to 14: the bus
+-- ---- the bus
 -- "bus: 0 idle, 1 started, 2 read leg, 3 write leg before its address, 4 write leg after the high address byte, 5 write leg past its address"; "space of the leg";
 -- "bus 1: transfer open; bus 2: the host has NoAcked; bus 5: the leg is spoiled"; "bus 2: the last byte of an RF message was fetched"; "bus 4: the high address byte"; "bus 5: page bytes, low byte first"
 unfoldable pub busBytes : Bus → List ℕ
@@ -83,7 +127,7 @@ busBytes (WriteLeg space) = 3 ∷ spaceNumber space ∷ 0 ∷ 0 ∷ 0 ∷ 0 ∷ 
 busBytes (LowAddress space high) = 4 ∷ spaceNumber space ∷ 0 ∷ 0 ∷ high ∷ 0 ∷ 0 ∷ []
 busBytes (DataLeg space count spoiled) = 5 ∷ spaceNumber space ∷ flagByte spoiled ∷ 0 ∷ 0 ∷ lowByte count ∷ highByte count ∷ []
 
--- "every byte of 9 to 14 that the bus does not use is 0"
+-- "every byte .. that the bus does not use is 0"
 abbrev pub usedOr0 : Bool → ℕ → Bool
 usedOr0 used x = used || eqb x 0
 
@@ -117,14 +161,14 @@ busAt s at =
     busOf (getD s (at + 0) 0) (spaceOf (getD s (at + 1) 0)) (flagOf (getD s (at + 2) 0)) (flagOf (getD s (at + 3) 0)) (getD s (at + 4) 0)
     (wordOf (getD s (at + 5) 0) (getD s (at + 6) 0))
 
--- ---- places 3 to 14: VCC, I2C session open, programming under way, address counter low byte first, the bus
+-- ---- VCC, I2C session open, programming under way, address counter low byte first, the bus
 unfoldable pub hostBytes : Host → List ℕ
 hostBytes h =
     flagByte (h .vcc) ∷ flagByte (h .session) ∷ flagByte (h .programming) ∷ lowByte (h .counter) ∷ highByte (h .counter) ∷ busBytes (h .bus)
 
 unfoldable pub hostDecodes : List ℕ → ℕ → Bool
 hostDecodes s at =
-    isFlag (getD s (at + 0) 0) && isFlag (getD s (at + 1) 0) && isFlag (getD s (at + 2) 0) && busDecodes s (at + 5)
+    isFlag (getD s (at + 0) 0) && isFlag (getD s (at + 1) 0) && isFlag (getD s (at + 2) 0) && busDecodes s (at + busOffset)
 
 unfoldable pub hostAt : List ℕ → ℕ → Host
 hostAt s at =
@@ -133,10 +177,10 @@ hostAt s at =
       session = flagOf (getD s (at + 1) 0);
       programming = flagOf (getD s (at + 2) 0);
       counter = wordOf (getD s (at + 3) 0) (getD s (at + 4) 0);
-      bus = busAt s (at + 5);
+      bus = busAt s (at + busOffset);
     }
 
--- ---- places 15 to 27: "RF_MNGT, RF_MNGT_Dyn, RFA1SS, ENDA1, RFA2SS, ENDA2, RFA3SS, ENDA3, RFA4SS, I2CSS, LOCK_CCFILE, MB_MODE, LOCK_CFG"
+-- ---- "RF_MNGT, RF_MNGT_Dyn, RFA1SS, ENDA1, RFA2SS, ENDA2, RFA3SS, ENDA3, RFA4SS, I2CSS, LOCK_CCFILE, MB_MODE, LOCK_CFG"
 unfoldable pub registerBytes : Registers → List ℕ
 registerBytes r =
     r .mngt .bits ∷ r .dynamic .bits
@@ -157,7 +201,7 @@ registersAt s at =
       config = record { bits = getD s (at + 12) 0 };
     }
 
--- ---- places 28 to 34: "MB_EN, HOST_PUT, RF_PUT, HOST_CURRENT, RF_CURRENT", "message length, low byte first"
+-- ---- "MB_EN, HOST_PUT, RF_PUT, HOST_CURRENT, RF_CURRENT", "message length, low byte first"
 unfoldable pub mailboxBytes : Mailbox → List ℕ
 mailboxBytes mailbox =
     flagByte (mailbox .enabled) ∷ flagByte (mailbox .host .put) ∷ flagByte (mailbox .rf .put) ∷ flagByte (mailbox .host .current) ∷ flagByte (mailbox .rf .current)
@@ -176,7 +220,7 @@ mailboxAt s at =
       length = wordOf (getD s (at + 5) 0) (getD s (at + 6) 0);
     }
 
--- ---- places 35 to 74: "I2C password", "passwords 0 to 3, eight bytes each"
+-- ---- "I2C password", "passwords 0 to 3, eight bytes each"
 unfoldable pub passwordBytes : Passwords → List ℕ
 passwordBytes p = p .i2c .bytes ++ (p .rf0 .bytes ++ (p .rf1 .bytes ++ (p .rf2 .bytes ++ p .rf3 .bytes)))
 
@@ -184,7 +228,7 @@ unfoldable pub passwordsAt : List ℕ → ℕ → Passwords
 passwordsAt s at =
     record { rf0 = passwordAt s (at + 8); rf1 = passwordAt s (at + 16); rf2 = passwordAt s (at + 24); rf3 = passwordAt s (at + 32); i2c = passwordAt s (at + 0) }
 
--- ---- the state; places 75 to 82: "UID, lowest byte first"
+-- ---- the state; at its end "UID, lowest byte first"
 unfoldable pub bytesOf : Tag → List ℕ
 bytesOf t =
     airBytes (t .air)
@@ -194,16 +238,16 @@ bytesOf t =
     ++ (passwordBytes (t .core .passwords)
     ++ t .uid .bytes))))
 
--- Bytes decode to a state exactly when there are 83 of them, the flags are 0 or 1, places 1 and 8 and 9 hold one of their numbers, and every byte of 9 to 14 that the bus does not use is 0.
+-- Bytes decode to a state exactly when there are `stateBytes` of them, the flags are 0 or 1, radio state, bus and space have one of their numbers, and every byte of the bus that it does not use is 0.
 unfoldable pub decodes : List ℕ → Bool
-decodes s = eqb (length s) stateBytes && airDecodes s 0 && hostDecodes s 3 && mailboxDecodes s 28
+decodes s = eqb (length s) stateBytes && airDecodes s airPartPlace && hostDecodes s hostPartPlace && mailboxDecodes s mailboxPartPlace
 
 -- the state; where bytes decode to none, some tag
 unfoldable pub tagOf : List ℕ → Tag
 tagOf s =
     record {
-      air = airAt s 0;
-      host = hostAt s 3;
-      core = record { registers = registersAt s 15; mailbox = mailboxAt s 28; passwords = passwordsAt s 35 };
-      uid = uidAt s 75;
+      air = airAt s airPartPlace;
+      host = hostAt s hostPartPlace;
+      core = record { registers = registersAt s registersPartPlace; mailbox = mailboxAt s mailboxPartPlace; passwords = passwordsAt s passwordsPartPlace };
+      uid = uidAt s uidPartPlace;
     }

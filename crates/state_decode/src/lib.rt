@@ -1,7 +1,8 @@
 // The tag's state of bytes. A byte past the end reads 0.
 ghost use mathlib.Core.Path.{_≡_};
+ghost use Prim.Native.Nat.{_+_, _≤_};
 ghost use lib.ListN.{getD};
-ghost use Rattle.state.specs.Layout.{flagOf, wordOf, radioStateOf, spaceOf, airAt, busOf, busAt, hostAt, registersAt, mailboxAt, passwordsAt, tagOf};
+ghost use Rattle.state.specs.Layout.{stateBytes, flagOf, wordOf, radioStateOf, spaceOf, airAt, busOf, busAt, hostAt, registersAt, mailboxAt, passwordsAt, tagOf};
 use air::Air;
 use air::RadioState;
 use bus::Bus;
@@ -52,19 +53,20 @@ fn word_of(low: u8, high: u8) -> u16
     low as u16 + high as u16 * 256
 }
 
-fn flag_at(s: &[u8], i: usize) -> bool
-    ensures { λ r. ⌜ r ≡ flagOf (getD (now (s .entry)) i 0) ⌝ }
+// Byte i of what starts at a place.
+fn flag_at(s: &[u8], at: usize, i: usize) -> bool
+    ensures { λ r. ⌜ r ≡ flagOf (getD (now (s .entry)) (at + i) 0) ⌝ }
 {
-    parts::byte_at(s, i) == 1
+    parts::byte_in(s, at, i) == 1
 }
 
-fn air_at(s: &[u8]) -> Air
-    ensures { λ r. ⌜ r ≡ airAt (now (s .entry)) 0 ⌝ }
+fn air_at(s: &[u8], at: usize) -> Air
+    ensures { λ r. ⌜ r ≡ airAt (now (s .entry)) at ⌝ }
 {
     Air {
-        field: flag_at(s, 0),
-        radio: radio_state_of(parts::byte_at(s, 1)),
-        session: parts::byte_at(s, 2),
+        field: flag_at(s, at, 0),
+        radio: radio_state_of(parts::byte_in(s, at, 1)),
+        session: parts::byte_in(s, at, 2),
     }
 }
 
@@ -97,121 +99,123 @@ fn bus_of(kind: u8, space: Space, flag: bool, last: bool, high: u8, count: u16) 
     Bus::Idle
 }
 
-fn bus_at(s: &[u8]) -> Bus
-    ensures { λ r. ⌜ r ≡ busAt (now (s .entry)) 8 ⌝ }
+fn bus_at(s: &[u8], at: usize) -> Bus
+    ensures { λ r. ⌜ r ≡ busAt (now (s .entry)) at ⌝ }
 {
-    let space = space_of(parts::byte_at(s, 9));
-    let count = word_of(parts::byte_at(s, 13), parts::byte_at(s, 14));
+    let space = space_of(parts::byte_in(s, at, 1));
+    let count = word_of(parts::byte_in(s, at, 5), parts::byte_in(s, at, 6));
     bus_of(
-        parts::byte_at(s, 8),
+        parts::byte_in(s, at, 0),
         space,
-        flag_at(s, 10),
-        flag_at(s, 11),
-        parts::byte_at(s, 12),
+        flag_at(s, at, 2),
+        flag_at(s, at, 3),
+        parts::byte_in(s, at, 4),
         count,
     )
 }
 
-fn host_at(s: &[u8]) -> Host
-    ensures { λ r. ⌜ r ≡ hostAt (now (s .entry)) 3 ⌝ }
+fn host_at(s: &[u8], at: usize) -> Host
+    requires { ⌜ at ≤ stateBytes ⌝ }
+    ensures { λ r. ⌜ r ≡ hostAt (now (s .entry)) at ⌝ }
 {
     Host {
-        vcc: flag_at(s, 3),
-        session: flag_at(s, 4),
-        programming: flag_at(s, 5),
-        counter: word_of(parts::byte_at(s, 6), parts::byte_at(s, 7)),
-        bus: bus_at(s),
+        vcc: flag_at(s, at, 0),
+        session: flag_at(s, at, 1),
+        programming: flag_at(s, at, 2),
+        counter: word_of(parts::byte_in(s, at, 3), parts::byte_in(s, at, 4)),
+        bus: bus_at(s, at + state::BUS_OFFSET),
     }
 }
 
-fn security_at(s: &[u8]) -> Security
-    ensures { λ r. ⌜ r ≡ registersAt (now (s .entry)) 15 .security ⌝ }
+fn security_at(s: &[u8], at: usize) -> Security
+    ensures { λ r. ⌜ r ≡ registersAt (now (s .entry)) at .security ⌝ }
 {
     Security {
         area1: RfaSs {
-            bits: parts::byte_at(s, 17),
+            bits: parts::byte_in(s, at, 2),
         },
         area2: RfaSs {
-            bits: parts::byte_at(s, 19),
+            bits: parts::byte_in(s, at, 4),
         },
         area3: RfaSs {
-            bits: parts::byte_at(s, 21),
+            bits: parts::byte_in(s, at, 6),
         },
         area4: RfaSs {
-            bits: parts::byte_at(s, 23),
+            bits: parts::byte_in(s, at, 8),
         },
     }
 }
 
-fn ends_at(s: &[u8]) -> Ends
-    ensures { λ r. ⌜ r ≡ registersAt (now (s .entry)) 15 .ends ⌝ }
+fn ends_at(s: &[u8], at: usize) -> Ends
+    ensures { λ r. ⌜ r ≡ registersAt (now (s .entry)) at .ends ⌝ }
 {
     Ends {
         end1: EndA {
-            bits: parts::byte_at(s, 18),
+            bits: parts::byte_in(s, at, 3),
         },
         end2: EndA {
-            bits: parts::byte_at(s, 20),
+            bits: parts::byte_in(s, at, 5),
         },
         end3: EndA {
-            bits: parts::byte_at(s, 22),
+            bits: parts::byte_in(s, at, 7),
         },
     }
 }
 
-fn registers_at(s: &[u8]) -> Registers
-    ensures { λ r. ⌜ r ≡ registersAt (now (s .entry)) 15 ⌝ }
+fn registers_at(s: &[u8], at: usize) -> Registers
+    ensures { λ r. ⌜ r ≡ registersAt (now (s .entry)) at ⌝ }
 {
     Registers {
         mngt: RfMngt {
-            bits: parts::byte_at(s, 15),
+            bits: parts::byte_in(s, at, 0),
         },
         dynamic: RfMngt {
-            bits: parts::byte_at(s, 16),
+            bits: parts::byte_in(s, at, 1),
         },
-        security: security_at(s),
-        ends: ends_at(s),
+        security: security_at(s, at),
+        ends: ends_at(s, at),
         i2css: I2cSs {
-            bits: parts::byte_at(s, 24),
+            bits: parts::byte_in(s, at, 9),
         },
         ccfile: LockCcFile {
-            bits: parts::byte_at(s, 25),
+            bits: parts::byte_in(s, at, 10),
         },
         mode: MbMode {
-            bits: parts::byte_at(s, 26),
+            bits: parts::byte_in(s, at, 11),
         },
         config: LockCfg {
-            bits: parts::byte_at(s, 27),
+            bits: parts::byte_in(s, at, 12),
         },
     }
 }
 
-fn mailbox_at(s: &[u8]) -> Mailbox
-    ensures { λ r. ⌜ r ≡ mailboxAt (now (s .entry)) 28 ⌝ }
+fn mailbox_at(s: &[u8], at: usize) -> Mailbox
+    ensures { λ r. ⌜ r ≡ mailboxAt (now (s .entry)) at ⌝ }
 {
     Mailbox {
-        enabled: flag_at(s, 28),
+        enabled: flag_at(s, at, 0),
         host: Message {
-            put: flag_at(s, 29),
-            current: flag_at(s, 31),
+            put: flag_at(s, at, 1),
+            current: flag_at(s, at, 3),
         },
         rf: Message {
-            put: flag_at(s, 30),
-            current: flag_at(s, 32),
+            put: flag_at(s, at, 2),
+            current: flag_at(s, at, 4),
         },
-        length: word_of(parts::byte_at(s, 33), parts::byte_at(s, 34)),
+        length: word_of(parts::byte_in(s, at, 5), parts::byte_in(s, at, 6)),
     }
 }
 
-fn passwords_at(s: &[u8]) -> Passwords
-    ensures { λ r. ⌜ r ≡ passwordsAt (now (s .entry)) 35 ⌝ }
+fn passwords_at(s: &[u8], at: usize) -> Passwords
+    requires { ⌜ at ≤ stateBytes ⌝ }
+    ensures { λ r. ⌜ r ≡ passwordsAt (now (s .entry)) at ⌝ }
 {
     Passwords {
-        rf0: Password::at(s, 43),
-        rf1: Password::at(s, 51),
-        rf2: Password::at(s, 59),
-        rf3: Password::at(s, 67),
-        i2c: Password::at(s, 35),
+        rf0: Password::at(s, at + 8),
+        rf1: Password::at(s, at + 16),
+        rf2: Password::at(s, at + 24),
+        rf3: Password::at(s, at + 32),
+        i2c: Password::at(s, at),
     }
 }
 
@@ -220,14 +224,14 @@ pub fn decode(s: &[u8]) -> Tag
     ensures { λ r. ⌜ r ≡ tagOf (now (s .entry)) ⌝ }
 {
     let core = Core {
-        registers: registers_at(s),
-        mailbox: mailbox_at(s),
-        passwords: passwords_at(s),
+        registers: registers_at(s, state::REGISTERS_PART_PLACE),
+        mailbox: mailbox_at(s, state::MAILBOX_PART_PLACE),
+        passwords: passwords_at(s, state::PASSWORDS_PART_PLACE),
     };
     Tag {
-        air: air_at(s),
-        host: host_at(s),
+        air: air_at(s, state::AIR_PART_PLACE),
+        host: host_at(s, state::HOST_PART_PLACE),
         core,
-        uid: Uid::at(s, 75),
+        uid: Uid::at(s, state::UID_PART_PLACE),
     }
 }

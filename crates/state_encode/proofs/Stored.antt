@@ -1,60 +1,69 @@
 -- Parts stored one after the other are the whole stored. Assumes nothing.
 use mathlib.Core.Path.{_≡_, refl, ap, _∙_}
 use mathlib.Core.List.{List, [], _∷_, _++_}
-use Prim.Native.Nat.{ℕ}
+use Prim.Native.Nat.{ℕ, _+_}
+use native.Mathlib.Omega.{arith}
 use lib.ListN.{length}
 use lib.Seq.{sets}
 use Rattle.parts.specs.Bytes.{bytesAt}
 use Rattle.keys.specs.declared.Passwords.{Passwords}
 use Rattle.tag.specs.declared.Host.{Host}
 use Rattle.tag.specs.declared.Tag.{Tag}
-use Rattle.state.specs.Layout.{flagByte, lowByte, highByte, airBytes, busBytes, hostBytes, registerBytes, mailboxBytes, passwordBytes, bytesOf}
-use Rattle.state.proofs.Places.{bytesAt-whole, sets-then}
-use Rattle.state.proofs.There.{bus-length, host-length, Eights}
+use Rattle.state.specs.Layout.{busOffset, busLength, airPartLength, hostPartLength, registersPartLength, mailboxPartLength, passwordsPartLength, airPartPlace, hostPartPlace, registersPartPlace, mailboxPartPlace, passwordsPartPlace, uidPartPlace, flagByte, lowByte, highByte, airBytes, busBytes, hostBytes, registerBytes, mailboxBytes, passwordBytes, bytesOf}
+use Rattle.state.proofs.Places.{bytesAt-whole, sets-then, sets-next}
+use Rattle.state.proofs.Air.{air-length}
+use Rattle.state.proofs.Bus.{bus-length}
+use Rattle.state.proofs.Host.{host-length}
+use Rattle.state.proofs.Registers.{registers-length}
+use Rattle.state.proofs.Mailbox.{mailbox-length}
+use Rattle.state.proofs.Passwords.{Eights}
 
--- the host's five bytes and the bus
-host-bus-stored : (h : Host) (s : List ℕ)
-    → sets (sets s 3 (flagByte (h .vcc) ∷ flagByte (h .session) ∷ flagByte (h .programming) ∷ lowByte (h .counter) ∷ highByte (h .counter) ∷ [])) 8 (busBytes (h .bus))
-    ≡ sets s 3 (hostBytes h)
+-- the host's bytes before the bus
+abbrev before : Host → List ℕ
+before h = flagByte (h .vcc) ∷ flagByte (h .session) ∷ flagByte (h .programming) ∷ lowByte (h .counter) ∷ highByte (h .counter) ∷ []
+
+-- .. and the bus
+host-bus-stored : (h : Host) (s : List ℕ) (at : ℕ) → sets (sets s at (before h)) (at + busOffset) (busBytes (h .bus)) ≡ sets s at (hostBytes h)
 unfolding hostBytes
-host-bus-stored h s = refl
+host-bus-stored h s at = sets-then (before h) (busBytes (h .bus)) s at busOffset refl
 
-pub host-stored : (h : Host) (s : List ℕ) (v i p : ℕ) (leg r₁ r₂ : List ℕ) → v ≡ flagByte (h .vcc) → i ≡ flagByte (h .session) → p ≡ flagByte (h .programming)
+pub host-stored : (h : Host) (s : List ℕ) (at v i p : ℕ) (leg r₁ r₂ : List ℕ) → v ≡ flagByte (h .vcc) → i ≡ flagByte (h .session) → p ≡ flagByte (h .programming)
     → leg ≡ busBytes (h .bus)
-    → r₁ ≡ sets s 3 (bytesAt (v ∷ i ∷ p ∷ lowByte (h .counter) ∷ highByte (h .counter) ∷ []) 0 5)
-    → r₂ ≡ sets r₁ 8 (bytesAt leg 0 7)
-    → r₂ ≡ sets s 3 (hostBytes h)
-host-stored h s v i p leg r₁ r₂ ev ei ep el e₁ e₂ =
+    → r₁ ≡ sets s at (bytesAt (v ∷ i ∷ p ∷ lowByte (h .counter) ∷ highByte (h .counter) ∷ []) 0 busOffset)
+    → r₂ ≡ sets r₁ (at + busOffset) (bytesAt leg 0 busLength)
+    → r₂ ≡ sets s at (hostBytes h)
+host-stored h s at v i p leg r₁ r₂ ev ei ep el e₁ e₂ =
     e₂
-    ∙ ap (λ (b : List ℕ). sets r₁ 8 b) (bytesAt-whole leg 7 (ap length el ∙ bus-length (h .bus)) ∙ el)
-    ∙ ap (λ (m : List ℕ). sets m 8 (busBytes (h .bus))) (e₁ ∙ ap (sets s 3) (bytesAt-whole (v ∷ i ∷ p ∷ lowByte (h .counter) ∷ highByte (h .counter) ∷ []) 5 refl))
-    ∙ rw (ev, ei, ep) (host-bus-stored h s)
+    ∙ ap (λ (b : List ℕ). sets r₁ (at + busOffset) b) (bytesAt-whole leg busLength (ap length el ∙ bus-length (h .bus)) ∙ el)
+    ∙ ap (λ (m : List ℕ). sets m (at + busOffset) (busBytes (h .bus))) (e₁ ∙ ap (sets s at) (bytesAt-whole (v ∷ i ∷ p ∷ lowByte (h .counter) ∷ highByte (h .counter) ∷ []) busOffset refl))
+    ∙ rw (ev, ei, ep) (host-bus-stored h s at)
 
 -- the five passwords
-pub passwords-stored : (p : Passwords) (s r₁ r₂ r₃ r₄ r₅ : List ℕ) → Eights p → r₁ ≡ sets s 35 (p .i2c .bytes) → r₂ ≡ sets r₁ 43 (p .rf0 .bytes) → r₃ ≡ sets r₂ 51 (p .rf1 .bytes)
-    → r₄ ≡ sets r₃ 59 (p .rf2 .bytes) → r₅ ≡ sets r₄ 67 (p .rf3 .bytes) → r₅ ≡ sets s 35 (passwordBytes p)
+pub passwords-stored : (p : Passwords) (s : List ℕ) (at : ℕ) (r₁ r₂ r₃ r₄ r₅ : List ℕ) → Eights p → r₁ ≡ sets s at (p .i2c .bytes)
+    → r₂ ≡ sets r₁ (at + 8) (p .rf0 .bytes) → r₃ ≡ sets r₂ (at + 16) (p .rf1 .bytes) → r₄ ≡ sets r₃ (at + 24) (p .rf2 .bytes) → r₅ ≡ sets r₄ (at + 32) (p .rf3 .bytes)
+    → r₅ ≡ sets s at (passwordBytes p)
 unfolding passwordBytes
-passwords-stored p s r₁ r₂ r₃ r₄ r₅ e e₁ e₂ e₃ e₄ e₅ =
+passwords-stored p s at r₁ r₂ r₃ r₄ r₅ e e₁ e₂ e₃ e₄ e₅ =
     let i = p .i2c .bytes in
     let a = p .rf0 .bytes in
     let b = p .rf1 .bytes in
     let c = p .rf2 .bytes in
     let d = p .rf3 .bytes in
     e₅
-    ∙ ap (λ (m : List ℕ). sets m 67 d) e₄
-    ∙ sets-then c d r₃ 59 8 (e .rf2)
-    ∙ ap (λ (m : List ℕ). sets m 59 (c ++ d)) e₃
-    ∙ sets-then b (c ++ d) r₂ 51 8 (e .rf1)
-    ∙ ap (λ (m : List ℕ). sets m 51 (b ++ (c ++ d))) e₂
-    ∙ sets-then a (b ++ (c ++ d)) r₁ 43 8 (e .rf0)
-    ∙ ap (λ (m : List ℕ). sets m 43 (a ++ (b ++ (c ++ d)))) e₁
-    ∙ sets-then i (a ++ (b ++ (c ++ d))) s 35 8 (e .i2c)
+    ∙ ap (λ (m : List ℕ). sets m (at + 32) d) e₄
+    ∙ sets-next c d r₃ (at + 24) (at + 32) 8 (e .rf2) (omega arith)
+    ∙ ap (λ (m : List ℕ). sets m (at + 24) (c ++ d)) e₃
+    ∙ sets-next b (c ++ d) r₂ (at + 16) (at + 24) 8 (e .rf1) (omega arith)
+    ∙ ap (λ (m : List ℕ). sets m (at + 16) (b ++ (c ++ d))) e₂
+    ∙ sets-next a (b ++ (c ++ d)) r₁ (at + 8) (at + 16) 8 (e .rf0) (omega arith)
+    ∙ ap (λ (m : List ℕ). sets m (at + 8) (a ++ (b ++ (c ++ d)))) e₁
+    ∙ sets-then i (a ++ (b ++ (c ++ d))) s at 8 (e .i2c)
 
 -- all parts
-pub tag-stored : (t : Tag) (s r₁ r₂ r₃ r₄ r₅ r₆ : List ℕ) → length (passwordBytes (t .core .passwords)) ≡ 40 → r₁ ≡ sets s 0 (airBytes (t .air)) → r₂ ≡ sets r₁ 3 (hostBytes (t .host))
-    → r₃ ≡ sets r₂ 15 (registerBytes (t .core .registers)) → r₄ ≡ sets r₃ 28 (mailboxBytes (t .core .mailbox))
-    → r₅ ≡ sets r₄ 35 (passwordBytes (t .core .passwords)) → r₆ ≡ sets r₅ 75 (t .uid .bytes) → r₆ ≡ sets s 0 (bytesOf t)
-unfolding bytesOf airBytes registerBytes mailboxBytes
+pub tag-stored : (t : Tag) (s r₁ r₂ r₃ r₄ r₅ r₆ : List ℕ) → length (passwordBytes (t .core .passwords)) ≡ passwordsPartLength → r₁ ≡ sets s airPartPlace (airBytes (t .air)) → r₂ ≡ sets r₁ hostPartPlace (hostBytes (t .host))
+    → r₃ ≡ sets r₂ registersPartPlace (registerBytes (t .core .registers)) → r₄ ≡ sets r₃ mailboxPartPlace (mailboxBytes (t .core .mailbox))
+    → r₅ ≡ sets r₄ passwordsPartPlace (passwordBytes (t .core .passwords)) → r₆ ≡ sets r₅ uidPartPlace (t .uid .bytes) → r₆ ≡ sets s airPartPlace (bytesOf t)
+unfolding bytesOf
 tag-stored t s r₁ r₂ r₃ r₄ r₅ r₆ e e₁ e₂ e₃ e₄ e₅ e₆ =
     let h = hostBytes (t .host) in
     let r = registerBytes (t .core .registers) in
@@ -62,13 +71,13 @@ tag-stored t s r₁ r₂ r₃ r₄ r₅ r₆ e e₁ e₂ e₃ e₄ e₅ e₆ =
     let p = passwordBytes (t .core .passwords) in
     let u = t .uid .bytes in
     e₆
-    ∙ ap (λ (o : List ℕ). sets o 75 u) e₅
-    ∙ sets-then p u r₄ 35 40 e
-    ∙ ap (λ (o : List ℕ). sets o 35 (p ++ u)) e₄
-    ∙ sets-then m (p ++ u) r₃ 28 7 refl
-    ∙ ap (λ (o : List ℕ). sets o 28 (m ++ (p ++ u))) e₃
-    ∙ sets-then r (m ++ (p ++ u)) r₂ 15 13 refl
-    ∙ ap (λ (o : List ℕ). sets o 15 (r ++ (m ++ (p ++ u)))) e₂
-    ∙ sets-then h (r ++ (m ++ (p ++ u))) r₁ 3 12 (host-length (t .host))
-    ∙ ap (λ (o : List ℕ). sets o 3 (h ++ (r ++ (m ++ (p ++ u))))) e₁
-    ∙ sets-then (airBytes (t .air)) (h ++ (r ++ (m ++ (p ++ u)))) s 0 3 refl
+    ∙ ap (λ (o : List ℕ). sets o uidPartPlace u) e₅
+    ∙ sets-then p u r₄ passwordsPartPlace passwordsPartLength e
+    ∙ ap (λ (o : List ℕ). sets o passwordsPartPlace (p ++ u)) e₄
+    ∙ sets-then m (p ++ u) r₃ mailboxPartPlace mailboxPartLength (mailbox-length (t .core .mailbox))
+    ∙ ap (λ (o : List ℕ). sets o mailboxPartPlace (m ++ (p ++ u))) e₃
+    ∙ sets-then r (m ++ (p ++ u)) r₂ registersPartPlace registersPartLength (registers-length (t .core .registers))
+    ∙ ap (λ (o : List ℕ). sets o registersPartPlace (r ++ (m ++ (p ++ u)))) e₂
+    ∙ sets-then h (r ++ (m ++ (p ++ u))) r₁ hostPartPlace hostPartLength (host-length (t .host))
+    ∙ ap (λ (o : List ℕ). sets o hostPartPlace (h ++ (r ++ (m ++ (p ++ u))))) e₁
+    ∙ sets-then (airBytes (t .air)) (h ++ (r ++ (m ++ (p ++ u)))) s airPartPlace airPartLength (air-length (t .air))

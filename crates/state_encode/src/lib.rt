@@ -1,8 +1,9 @@
 // The tag's state stored as bytes. A byte stored past the end is dropped.
 ghost use mathlib.Core.Path.{_≡_};
+ghost use Prim.Native.Nat.{_≤_};
 ghost use lib.ListN.{length};
 ghost use lib.Seq.{sets};
-ghost use Rattle.state.specs.Layout.{stateBytes, flagByte, radioNumber, spaceNumber, airBytes, busBytes, hostBytes, registerBytes, mailboxBytes, passwordBytes, bytesOf};
+ghost use Rattle.state.specs.Layout.{stateBytes, passwordsPartLength, flagByte, radioNumber, spaceNumber, airBytes, busBytes, hostBytes, registerBytes, mailboxBytes, passwordBytes, bytesOf};
 use air::Air;
 use air::RadioState;
 use bus::Bus;
@@ -41,15 +42,15 @@ fn space_number(space: Space) -> u8
     }
 }
 
-fn put_air(a: Air, s: &mut [u8])
-    ensures { λ _. ⌜ now (s .exit) ≡ sets (now (s .entry)) 0 (airBytes a) ⌝ }
+fn put_air(a: Air, s: &mut [u8], at: usize)
+    ensures { λ _. ⌜ now (s .exit) ≡ sets (now (s .entry)) at (airBytes a) ⌝ }
 {
     let radio = a.radio;
     let b = [flag_byte(a.field), radio_number(radio), a.session];
-    parts::put_bytes(s, 0, &b, 0, 3);
+    parts::put_bytes(s, at, &b, 0, state::AIR_PART_LENGTH);
 }
 
-fn bus_bytes(b: Bus) -> [u8; 7]
+fn bus_bytes(b: Bus) -> [u8; state::BUS_LENGTH]
     ensures { λ r. ⌜ r ≡ busBytes b ⌝ }
 {
     match b {
@@ -82,8 +83,9 @@ fn bus_bytes(b: Bus) -> [u8; 7]
     }
 }
 
-fn put_host(h: Host, s: &mut [u8])
-    ensures { λ _. ⌜ now (s .exit) ≡ sets (now (s .entry)) 3 (hostBytes h) ⌝ }
+fn put_host(h: Host, s: &mut [u8], at: usize)
+    requires { ⌜ at ≤ stateBytes ⌝ }
+    ensures { λ _. ⌜ now (s .exit) ≡ sets (now (s .entry)) at (hostBytes h) ⌝ }
 {
     let b = [
         flag_byte(h.vcc),
@@ -92,14 +94,14 @@ fn put_host(h: Host, s: &mut [u8])
         (h.counter % 256) as u8,
         (h.counter / 256) as u8,
     ];
-    parts::put_bytes(s, 3, &b, 0, 5);
+    parts::put_bytes(s, at, &b, 0, state::BUS_OFFSET);
     let bus = h.bus;
     let leg = bus_bytes(bus);
-    parts::put_bytes(s, 8, &leg, 0, 7);
+    parts::put_bytes(s, at + state::BUS_OFFSET, &leg, 0, state::BUS_LENGTH);
 }
 
-fn put_registers(r: Registers, s: &mut [u8])
-    ensures { λ _. ⌜ now (s .exit) ≡ sets (now (s .entry)) 15 (registerBytes r) ⌝ }
+fn put_registers(r: Registers, s: &mut [u8], at: usize)
+    ensures { λ _. ⌜ now (s .exit) ≡ sets (now (s .entry)) at (registerBytes r) ⌝ }
 {
     let b = [
         r.mngt.bits,
@@ -116,11 +118,11 @@ fn put_registers(r: Registers, s: &mut [u8])
         r.mode.bits,
         r.config.bits,
     ];
-    parts::put_bytes(s, 15, &b, 0, 13);
+    parts::put_bytes(s, at, &b, 0, state::REGISTERS_PART_LENGTH);
 }
 
-fn put_mailbox(mailbox: Mailbox, s: &mut [u8])
-    ensures { λ _. ⌜ now (s .exit) ≡ sets (now (s .entry)) 28 (mailboxBytes mailbox) ⌝ }
+fn put_mailbox(mailbox: Mailbox, s: &mut [u8], at: usize)
+    ensures { λ _. ⌜ now (s .exit) ≡ sets (now (s .entry)) at (mailboxBytes mailbox) ⌝ }
 {
     let b = [
         flag_byte(mailbox.enabled),
@@ -131,30 +133,31 @@ fn put_mailbox(mailbox: Mailbox, s: &mut [u8])
         (mailbox.length % 256) as u8,
         (mailbox.length / 256) as u8,
     ];
-    parts::put_bytes(s, 28, &b, 0, 7);
+    parts::put_bytes(s, at, &b, 0, state::MAILBOX_PART_LENGTH);
 }
 
-fn put_eight(bytes: [u8; 8], at: usize, s: &mut [u8])
+fn put_eight(bytes: [u8; 8], s: &mut [u8], at: usize)
     ensures { λ _. ⌜ now (s .exit) ≡ sets (now (s .entry)) at bytes ⌝ }
     ensures { λ _. ⌜ length bytes ≡ 8 ⌝ }
 {
     parts::put_bytes(s, at, &bytes, 0, 8);
 }
 
-fn put_passwords(p: Passwords, s: &mut [u8])
-    ensures { λ _. ⌜ now (s .exit) ≡ sets (now (s .entry)) 35 (passwordBytes p) ⌝ }
-    ensures { λ _. ⌜ length (passwordBytes p) ≡ 40 ⌝ }
+fn put_passwords(p: Passwords, s: &mut [u8], at: usize)
+    requires { ⌜ at ≤ stateBytes ⌝ }
+    ensures { λ _. ⌜ now (s .exit) ≡ sets (now (s .entry)) at (passwordBytes p) ⌝ }
+    ensures { λ _. ⌜ length (passwordBytes p) ≡ passwordsPartLength ⌝ }
 {
     let i2c = p.i2c.bytes;
     let rf0 = p.rf0.bytes;
     let rf1 = p.rf1.bytes;
     let rf2 = p.rf2.bytes;
     let rf3 = p.rf3.bytes;
-    put_eight(i2c, 35, s);
-    put_eight(rf0, 43, s);
-    put_eight(rf1, 51, s);
-    put_eight(rf2, 59, s);
-    put_eight(rf3, 67, s);
+    put_eight(i2c, s, at);
+    put_eight(rf0, s, at + 8);
+    put_eight(rf1, s, at + 16);
+    put_eight(rf2, s, at + 24);
+    put_eight(rf3, s, at + 32);
 }
 
 // Stores the bytes of a tag.
@@ -166,10 +169,10 @@ pub fn encode(t: Tag, s: &mut [u8])
     let host = t.host;
     let core = t.core;
     let uid = t.uid.bytes;
-    put_air(air, s);
-    put_host(host, s);
-    put_registers(core.registers, s);
-    put_mailbox(core.mailbox, s);
-    put_passwords(core.passwords, s);
-    put_eight(uid, 75, s);
+    put_air(air, s, state::AIR_PART_PLACE);
+    put_host(host, s, state::HOST_PART_PLACE);
+    put_registers(core.registers, s, state::REGISTERS_PART_PLACE);
+    put_mailbox(core.mailbox, s, state::MAILBOX_PART_PLACE);
+    put_passwords(core.passwords, s, state::PASSWORDS_PART_PLACE);
+    put_eight(uid, s, state::UID_PART_PLACE);
 }

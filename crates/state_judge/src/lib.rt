@@ -1,19 +1,20 @@
 // Whether bytes are those of a tag's state. A byte past the end reads 0.
 ghost use mathlib.Core.Path.{_≡_};
+ghost use Prim.Native.Nat.{_+_, _≤_};
 ghost use lib.ListN.{getD};
-ghost use Rattle.state.specs.Layout.{isFlag, usedOr0, airDecodes, isBus, busDecodes, hostDecodes, mailboxDecodes, decodes};
-use state::STATE_BYTES;
+ghost use Rattle.state.specs.Layout.{stateBytes, isFlag, usedOr0, airDecodes, isBus, busDecodes, hostDecodes, mailboxDecodes, decodes};
 
-fn is_flag_at(s: &[u8], i: usize) -> bool
-    ensures { λ r. ⌜ r ≡ isFlag (getD (now (s .entry)) i 0) ⌝ }
+// Byte i of what starts at a place.
+fn is_flag_at(s: &[u8], at: usize, i: usize) -> bool
+    ensures { λ r. ⌜ r ≡ isFlag (getD (now (s .entry)) (at + i) 0) ⌝ }
 {
-    parts::byte_at(s, i) <= 1
+    parts::byte_in(s, at, i) <= 1
 }
 
-fn air_decodes(s: &[u8]) -> bool
-    ensures { λ r. ⌜ r ≡ airDecodes (now (s .entry)) 0 ⌝ }
+fn air_decodes(s: &[u8], at: usize) -> bool
+    ensures { λ r. ⌜ r ≡ airDecodes (now (s .entry)) at ⌝ }
 {
-    is_flag_at(s, 0) & (parts::byte_at(s, 1) <= 2)
+    is_flag_at(s, at, 0) & (parts::byte_in(s, at, 1) <= 2)
 }
 
 // A byte that the bus uses, or 0.
@@ -35,39 +36,46 @@ fn is_bus(kind: u8, space: u8, flag: u8, last: u8, high: u8, low: u8, top: u8) -
         & used_or_0(kind == 5, top)
 }
 
-fn bus_decodes(s: &[u8]) -> bool
-    ensures { λ r. ⌜ r ≡ busDecodes (now (s .entry)) 8 ⌝ }
+fn bus_decodes(s: &[u8], at: usize) -> bool
+    ensures { λ r. ⌜ r ≡ busDecodes (now (s .entry)) at ⌝ }
 {
     is_bus(
-        parts::byte_at(s, 8),
-        parts::byte_at(s, 9),
-        parts::byte_at(s, 10),
-        parts::byte_at(s, 11),
-        parts::byte_at(s, 12),
-        parts::byte_at(s, 13),
-        parts::byte_at(s, 14),
+        parts::byte_in(s, at, 0),
+        parts::byte_in(s, at, 1),
+        parts::byte_in(s, at, 2),
+        parts::byte_in(s, at, 3),
+        parts::byte_in(s, at, 4),
+        parts::byte_in(s, at, 5),
+        parts::byte_in(s, at, 6),
     )
 }
 
-fn host_decodes(s: &[u8]) -> bool
-    ensures { λ r. ⌜ r ≡ hostDecodes (now (s .entry)) 3 ⌝ }
+fn host_decodes(s: &[u8], at: usize) -> bool
+    requires { ⌜ at ≤ stateBytes ⌝ }
+    ensures { λ r. ⌜ r ≡ hostDecodes (now (s .entry)) at ⌝ }
 {
-    is_flag_at(s, 3) & is_flag_at(s, 4) & is_flag_at(s, 5) & bus_decodes(s)
+    is_flag_at(s, at, 0)
+        & is_flag_at(s, at, 1)
+        & is_flag_at(s, at, 2)
+        & bus_decodes(s, at + state::BUS_OFFSET)
 }
 
-fn mailbox_decodes(s: &[u8]) -> bool
-    ensures { λ r. ⌜ r ≡ mailboxDecodes (now (s .entry)) 28 ⌝ }
+fn mailbox_decodes(s: &[u8], at: usize) -> bool
+    ensures { λ r. ⌜ r ≡ mailboxDecodes (now (s .entry)) at ⌝ }
 {
-    is_flag_at(s, 28)
-        & is_flag_at(s, 29)
-        & is_flag_at(s, 30)
-        & is_flag_at(s, 31)
-        & is_flag_at(s, 32)
+    is_flag_at(s, at, 0)
+        & is_flag_at(s, at, 1)
+        & is_flag_at(s, at, 2)
+        & is_flag_at(s, at, 3)
+        & is_flag_at(s, at, 4)
 }
 
 // Whether bytes decode to a tag.
 pub fn decodes(s: &[u8]) -> bool
     ensures { λ r. ⌜ r ≡ decodes (now (s .entry)) ⌝ }
 {
-    (s.len() == STATE_BYTES) & air_decodes(s) & host_decodes(s) & mailbox_decodes(s)
+    (s.len() == state::STATE_BYTES)
+        & air_decodes(s, state::AIR_PART_PLACE)
+        & host_decodes(s, state::HOST_PART_PLACE)
+        & mailbox_decodes(s, state::MAILBOX_PART_PLACE)
 }

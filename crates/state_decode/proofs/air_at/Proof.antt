@@ -6,20 +6,20 @@ use Rattle.state_decode.proofs.air_at.Tie as tie
 flag-at-requires : tie.Need-flag-at-requires
 flag-at-requires c κs = search needs
 
-byte-at-requires : tie.Need-byte-at-requires
-byte-at-requires c κs = search needs
+byte-in-requires : tie.Need-byte-in-requires
+byte-in-requires c κs = search needs
 
 radio-state-of-requires : tie.Need-radio-state-of-requires
 radio-state-of-requires c κs = search needs
 
-byte-at-requires-2 : tie.Need-byte-at-requires-2
-byte-at-requires-2 c κs = search needs
+byte-in-requires-2 : tie.Need-byte-in-requires-2
+byte-in-requires-2 c κs = search needs
 
 returns : tie.Need-returns
 unfolding airAt
-returns c = rw (c .byte-at2 .ensures, c .before .radio-state-of .ensures, c .before .before .byte-at .ensures, c .before .before .before .flag-at .ensures)
+returns c = rw (c .byte-in2 .ensures, c .before .radio-state-of .ensures, c .before .before .byte-in .ensures, c .before .before .before .flag-at .ensures)
 
 pub air-at-spec : {M : Type 1} → statement M
 air-at-spec =
     tie.close
-    (tie.spec flag-at-requires byte-at-requires radio-state-of-requires byte-at-requires-2 returns)
+    (tie.spec flag-at-requires byte-in-requires radio-state-of-requires byte-in-requires-2 returns)

@@ -3,23 +3,23 @@ use borrow.Author.Needs.{needs}
 use Rattle.state_decode.proofs.bus_at.Statement.{statement}
 use Rattle.state_decode.proofs.bus_at.Tie as tie
 
-byte-at-requires : tie.Need-byte-at-requires
-byte-at-requires c κs = search needs
+byte-in-requires : tie.Need-byte-in-requires
+byte-in-requires c κs = search needs
 
 space-of-requires : tie.Need-space-of-requires
 space-of-requires c κs = search needs
 
-byte-at-requires-2 : tie.Need-byte-at-requires-2
-byte-at-requires-2 c κs = search needs
+byte-in-requires-2 : tie.Need-byte-in-requires-2
+byte-in-requires-2 c κs = search needs
 
-byte-at-requires-3 : tie.Need-byte-at-requires-3
-byte-at-requires-3 c κs = search needs
+byte-in-requires-3 : tie.Need-byte-in-requires-3
+byte-in-requires-3 c κs = search needs
 
 word-of-requires : tie.Need-word-of-requires
 word-of-requires c κs = search needs
 
-byte-at-requires-4 : tie.Need-byte-at-requires-4
-byte-at-requires-4 c κs = search needs
+byte-in-requires-4 : tie.Need-byte-in-requires-4
+byte-in-requires-4 c κs = search needs
 
 flag-at-requires : tie.Need-flag-at-requires
 flag-at-requires c κs = search needs
@@ -27,28 +27,28 @@ flag-at-requires c κs = search needs
 flag-at-requires-2 : tie.Need-flag-at-requires-2
 flag-at-requires-2 c κs = search needs
 
-byte-at-requires-5 : tie.Need-byte-at-requires-5
-byte-at-requires-5 c κs = search needs
+byte-in-requires-5 : tie.Need-byte-in-requires-5
+byte-in-requires-5 c κs = search needs
 
 bus-of-requires : tie.Need-bus-of-requires
 bus-of-requires c κs = search needs
 
 returns : tie.Need-returns
 unfolding busAt
-returns c = rw (c .bus-of .ensures, c .before .byte-at5 .ensures, c .before .before .flag-at2 .ensures, c .before .before .before .flag-at .ensures, c .before .before .before .before .byte-at4 .ensures, c .before .before .before .before .before .word-of .ensures, c .before .before .before .before .before .before .byte-at3 .ensures, c .before .before .before .before .before .before .before .byte-at2 .ensures, c .before .before .before .before .before .before .before .before .space-of .ensures, c .before .before .before .before .before .before .before .before .before .byte-at .ensures)
+returns c = rw (c .bus-of .ensures, c .before .byte-in5 .ensures, c .before .before .flag-at2 .ensures, c .before .before .before .flag-at .ensures, c .before .before .before .before .byte-in4 .ensures, c .before .before .before .before .before .word-of .ensures, c .before .before .before .before .before .before .byte-in3 .ensures, c .before .before .before .before .before .before .before .byte-in2 .ensures, c .before .before .before .before .before .before .before .before .space-of .ensures, c .before .before .before .before .before .before .before .before .before .byte-in .ensures)
 
 pub bus-at-spec : {M : Type 1} → statement M
 bus-at-spec =
     tie.close
     (tie.spec
-    byte-at-requires
+    byte-in-requires
     space-of-requires
-    byte-at-requires-2
-    byte-at-requires-3
+    byte-in-requires-2
+    byte-in-requires-3
     word-of-requires
-    byte-at-requires-4
+    byte-in-requires-4
     flag-at-requires
     flag-at-requires-2
-    byte-at-requires-5
+    byte-in-requires-5
     bus-of-requires
     returns)

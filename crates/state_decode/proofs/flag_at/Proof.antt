@@ -2,11 +2,11 @@ use borrow.Author.Needs.{needs}
 use Rattle.state_decode.proofs.flag_at.Statement.{statement}
 use Rattle.state_decode.proofs.flag_at.Tie as tie
 
-byte-at-requires : tie.Need-byte-at-requires
-byte-at-requires c κs = search needs
+byte-in-requires : tie.Need-byte-in-requires
+byte-in-requires c κs = search needs
 
 returns : tie.Need-returns
-returns c = rw (c .byte-at .ensures)
+returns c = rw (c .byte-in .ensures)
 
 pub flag-at-spec : {M : Type 1} → statement M
-flag-at-spec = tie.close (tie.spec byte-at-requires returns)
+flag-at-spec = tie.close (tie.spec byte-in-requires returns)

@@ -12,21 +12,24 @@ flag-at-requires-2 c κs = search needs
 flag-at-requires-3 : tie.Need-flag-at-requires-3
 flag-at-requires-3 c κs = search needs
 
-byte-at-requires : tie.Need-byte-at-requires
-byte-at-requires c κs = search needs
+byte-in-requires : tie.Need-byte-in-requires
+byte-in-requires c κs = search needs
 
-byte-at-requires-2 : tie.Need-byte-at-requires-2
-byte-at-requires-2 c κs = search needs
+byte-in-requires-2 : tie.Need-byte-in-requires-2
+byte-in-requires-2 c κs = search needs
 
 word-of-requires : tie.Need-word-of-requires
 word-of-requires c κs = search needs
+
+add-bus-at : tie.Need-add-bus-at
+add-bus-at c = search needs
 
 bus-at-requires : tie.Need-bus-at-requires
 bus-at-requires c κs = search needs
 
 returns : tie.Need-returns
 unfolding hostAt
-returns c = rw (c .bus-at .ensures, c .before .word-of .ensures, c .before .before .byte-at2 .ensures, c .before .before .before .byte-at .ensures, c .before .before .before .before .flag-at3 .ensures, c .before .before .before .before .before .flag-at2 .ensures, c .before .before .before .before .before .before .flag-at .ensures)
+returns c = rw (c .bus-at .ensures, c .before .word-of .ensures, c .before .before .byte-in2 .ensures, c .before .before .before .byte-in .ensures, c .before .before .before .before .flag-at3 .ensures, c .before .before .before .before .before .flag-at2 .ensures, c .before .before .before .before .before .before .flag-at .ensures)
 
 pub host-at-spec : {M : Type 1} → statement M
 host-at-spec =
@@ -35,8 +38,9 @@ host-at-spec =
     flag-at-requires
     flag-at-requires-2
     flag-at-requires-3
-    byte-at-requires
-    byte-at-requires-2
+    byte-in-requires
+    byte-in-requires-2
     word-of-requires
+    add-bus-at
     bus-at-requires
     returns)

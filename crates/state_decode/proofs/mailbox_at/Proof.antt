@@ -18,18 +18,18 @@ flag-at-requires-4 c κs = search needs
 flag-at-requires-5 : tie.Need-flag-at-requires-5
 flag-at-requires-5 c κs = search needs
 
-byte-at-requires : tie.Need-byte-at-requires
-byte-at-requires c κs = search needs
+byte-in-requires : tie.Need-byte-in-requires
+byte-in-requires c κs = search needs
 
-byte-at-requires-2 : tie.Need-byte-at-requires-2
-byte-at-requires-2 c κs = search needs
+byte-in-requires-2 : tie.Need-byte-in-requires-2
+byte-in-requires-2 c κs = search needs
 
 word-of-requires : tie.Need-word-of-requires
 word-of-requires c κs = search needs
 
 returns : tie.Need-returns
 unfolding mailboxAt
-returns c = rw (c .word-of .ensures, c .before .byte-at2 .ensures, c .before .before .byte-at .ensures, c .before .before .before .flag-at5 .ensures, c .before .before .before .before .flag-at4 .ensures, c .before .before .before .before .before .flag-at3 .ensures, c .before .before .before .before .before .before .flag-at2 .ensures, c .before .before .before .before .before .before .before .flag-at .ensures)
+returns c = rw (c .word-of .ensures, c .before .byte-in2 .ensures, c .before .before .byte-in .ensures, c .before .before .before .flag-at5 .ensures, c .before .before .before .before .flag-at4 .ensures, c .before .before .before .before .before .flag-at3 .ensures, c .before .before .before .before .before .before .flag-at2 .ensures, c .before .before .before .before .before .before .before .flag-at .ensures)
 
 pub mailbox-at-spec : {M : Type 1} → statement M
 mailbox-at-spec =
@@ -40,7 +40,7 @@ mailbox-at-spec =
     flag-at-requires-3
     flag-at-requires-4
     flag-at-requires-5
-    byte-at-requires
-    byte-at-requires-2
+    byte-in-requires
+    byte-in-requires-2
     word-of-requires
     returns)

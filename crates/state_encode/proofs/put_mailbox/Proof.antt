@@ -19,11 +19,11 @@ flag-byte-requires-4 c κs = search needs
 flag-byte-requires-5 : tie.Need-flag-byte-requires-5
 flag-byte-requires-5 c κs = search needs
 
-cast-t10 : tie.Need-cast-t10
-cast-t10 c = search needs
+cast-t11 : tie.Need-cast-t11
+cast-t11 c = search needs
 
-cast-t12 : tie.Need-cast-t12
-cast-t12 c = search needs
+cast-t13 : tie.Need-cast-t13
+cast-t13 c = search needs
 
 slice-aggregate-put-bytes : tie.Need-slice-aggregate-put-bytes
 slice-aggregate-put-bytes c = search needs
@@ -47,8 +47,8 @@ put-mailbox-spec =
     flag-byte-requires-3
     flag-byte-requires-4
     flag-byte-requires-5
-    cast-t10
-    cast-t12
+    cast-t11
+    cast-t13
     slice-aggregate-put-bytes
     put-bytes-requires
     same-length

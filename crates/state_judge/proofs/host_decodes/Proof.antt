@@ -12,6 +12,9 @@ is-flag-at-requires-2 c κs = search needs
 is-flag-at-requires-3 : tie.Need-is-flag-at-requires-3
 is-flag-at-requires-3 c κs = search needs
 
+add-bus-decodes : tie.Need-add-bus-decodes
+add-bus-decodes c = search needs
+
 bus-decodes-requires : tie.Need-bus-decodes-requires
 bus-decodes-requires c κs = search needs
 
@@ -26,5 +29,6 @@ host-decodes-spec =
     is-flag-at-requires
     is-flag-at-requires-2
     is-flag-at-requires-3
+    add-bus-decodes
     bus-decodes-requires
     returns)

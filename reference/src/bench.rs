@@ -144,7 +144,7 @@ impl Bench {
     /// Fresh, with the bench's UID.
     pub fn fresh() -> Bench {
         Bench {
-            tag: model::fresh(UID),
+            tag: Tag::fresh(UID),
             memory: [0; MEMORY_SIZE],
             reply: [0; REPLY_SIZE],
             frame: [0; LONGEST_FRAME],

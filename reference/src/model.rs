@@ -41,30 +41,6 @@ pub enum Refusal {
     Range = 4,
 }
 
-/// 01: "all bytes, registers and passwords 0, ends 0Fh, UID as set, Ready, all supplies off".
-/// The bytes are the caller's 1,024 zeros.
-pub fn fresh(uid: [u8; 8]) -> Tag {
-    Tag {
-        uid,
-        vcc: false,
-        field: false,
-        registers: Registers::fresh(),
-        rf_mngt_dyn: 0,
-        mailbox: Mailbox {
-            control: 0,
-            length: 0,
-        },
-        i2c_password: [0; 8],
-        i2c_session: false,
-        programming: false,
-        counter: 0,
-        bus: Bus::Idle,
-        radio_state: RadioState::Ready,
-        radio_session: 0,
-        radio_passwords: [[0; 8]; 4],
-    }
-}
-
 /// One signal. A refusal leaves the tag and every lent byte as they were.
 pub fn step(
     tag: &mut Tag,

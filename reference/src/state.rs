@@ -275,6 +275,6 @@ pub fn fresh(uid: &[u8], memory: &mut [u8], state: &mut [u8]) -> u32 {
         return REFUSED_UID_LENGTH;
     };
     memory.fill(0);
-    *bytes = encode(&model::fresh(uid));
+    *bytes = encode(&Tag::fresh(uid));
     number(Ok(Answer::None))
 }

@@ -252,6 +252,30 @@ pub struct Tag {
 }
 
 impl Tag {
+    /// 01: "all bytes, registers and passwords 0, ends 0Fh, UID as set, Ready, all supplies off".
+    /// The bytes are the caller's 1,024 zeros.
+    pub fn fresh(uid: [u8; 8]) -> Tag {
+        Tag {
+            uid,
+            vcc: false,
+            field: false,
+            registers: Registers::fresh(),
+            rf_mngt_dyn: 0,
+            mailbox: Mailbox {
+                control: 0,
+                length: 0,
+            },
+            i2c_password: [0; 8],
+            i2c_session: false,
+            programming: false,
+            counter: 0,
+            bus: Bus::Idle,
+            radio_state: RadioState::Ready,
+            radio_session: 0,
+            radio_passwords: [[0; 8]; 4],
+        }
+    }
+
     /// One byte of a register, as either side writes it: defined bits kept.
     pub fn write_register(&mut self, address: u16, value: u8) {
         self.registers.set(address, value & defined_bits(address));

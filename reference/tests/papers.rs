@@ -233,7 +233,7 @@ fn bad_lines() {
 
 /// A powered tag in the field with all that is lent.
 fn powered() -> (Tag, Vec<u8>, Vec<u8>) {
-    let mut tag = model::fresh(UID);
+    let mut tag = Tag::fresh(UID);
     tag.vcc = true;
     tag.field = true;
     (tag, vec![0; 1024], vec![0; 643])
@@ -478,7 +478,7 @@ fn ranges_are_kept() {
 /// The state's bytes: those that decode come back the same, and a byte that the bus does not use must be 0.
 #[test]
 fn state_bytes() {
-    let mut bytes = state::encode(&model::fresh(UID));
+    let mut bytes = state::encode(&Tag::fresh(UID));
     assert_eq!(bytes[at::ENDA1..at::I2CSS], [0x0F, 0, 0x0F, 0, 0x0F, 0]);
     assert_eq!(bytes[at::UID..], UID);
     let judged = [

@@ -234,7 +234,7 @@ struct Bench {
 
 impl Bench {
     fn fresh() -> Bench {
-        let tag = model::fresh(UID);
+        let tag = Tag::fresh(UID);
         Bench {
             state: state::encode(&tag),
             tag,

@@ -26,7 +26,7 @@ struct Entry {
 impl Entry {
     fn new() -> Entry {
         Entry {
-            tag: model::fresh(UID),
+            tag: Tag::fresh(UID),
             memory: [0; MEMORY],
             reply: [0; REPLY],
             memory_lent: MEMORY_SIZE,
@@ -90,7 +90,7 @@ impl Entry {
             return refused(Refusal::Memory);
         }
         self.memory[..MEMORY_SIZE].fill(0);
-        self.tag = model::fresh(UID);
+        self.tag = Tag::fresh(UID);
         b"-".to_vec()
     }
 }

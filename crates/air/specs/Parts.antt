@@ -1,8 +1,13 @@
--- One part of what a field change touches replaced, the rest as it was. These alone write its record out, so that a field more is one entry in each setter of its record.
-use mathlib.Core.Bool.{Bool}
+-- What a field change touches, out of the field; and one part of it replaced, the rest as it was. These alone write its record out, so that a field more is one entry in each.
+use mathlib.Core.Bool.{Bool, false}
 use Prim.Native.Nat.{ℕ}
 use Rattle.air.specs.declared.RadioState.{RadioState}
+use Rattle.air.specs.declared.RadioState.the-variants.{Ready}
 use Rattle.air.specs.declared.Air.{Air}
+
+-- Ready, no radio session
+abbrev pub outOfField : Air
+outOfField = record { field = false; radio = Ready; session = 0 }
 
 abbrev pub withField : Bool → Air → Air
 withField on a = record { field = on; radio = a .radio; session = a .session }

@@ -4,7 +4,7 @@ use Rattle.parts.specs.Pick.{pick}
 use Rattle.air.specs.declared.RadioState.{RadioState}
 use Rattle.air.specs.declared.RadioState.the-variants.{Ready, Quiet, Selected}
 use Rattle.air.specs.declared.Air.{Air}
-use Rattle.air.specs.Parts.{withField, withState}
+use Rattle.air.specs.Parts.{outOfField, withField, withState}
 
 unfoldable pub isQuiet : RadioState → Bool
 isQuiet Ready = false
@@ -33,9 +33,6 @@ abbrev pub reset : Air → Air
 reset a = withState Ready a
 
 -- "Field off makes the tag Ready and closes the radio session."
-abbrev pub outOfField : Air
-outOfField = record { field = false; radio = Ready; session = 0 }
-
 abbrev pub fieldOff : Air → Air
 fieldOff a = outOfField
 

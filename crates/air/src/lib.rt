@@ -1,7 +1,7 @@
 // The radio state and the field.
 ghost use mathlib.Core.Path.{_≡_};
-ghost use Rattle.air.specs.Radio.{isQuiet, isSelected, selected, deselected, quieted, reset, outOfField, fieldOff, fieldOn, fieldAt};
-ghost use Rattle.air.specs.Parts.{withState, withRadioSession};
+ghost use Rattle.air.specs.Radio.{isQuiet, isSelected, selected, deselected, quieted, reset, fieldOff, fieldOn, fieldAt};
+ghost use Rattle.air.specs.Parts.{outOfField, withState, withRadioSession};
 
 pub enum RadioState {
     Ready,

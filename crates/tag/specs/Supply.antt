@@ -10,7 +10,7 @@ use Rattle.tag.specs.declared.Core.{Core}
 use Rattle.tag.specs.declared.WireSide.{WireSide}
 use Rattle.tag.specs.declared.Tag.{Tag}
 use Rattle.tag.specs.Parts.{withVcc, withRegisters, withMailbox, withHost, withWireCore}
-use Rattle.air.specs.Radio.{outOfField}
+use Rattle.air.specs.Parts.{outOfField}
 use Rattle.mailbox.specs.Mailbox.{emptyMailbox, disabled}
 use Rattle.keys.specs.Keys.{freshPasswords}
 

@@ -1,16 +1,16 @@
--- The air side's part of the state, at any place: its length, its bytes, there and back. Assumes nothing.
+-- The air side's part of the state, at any place: its length, its bytes, there and back. No field is named that is a flag, so that a flag more changes nothing here. Assumes nothing.
 use mathlib.Core.Path.{_≡_, refl}
 use mathlib.Core.Bool.{true}
 use mathlib.Core.List.{List}
-use Prim.Native.Nat.{ℕ, _+_}
-use lib.Dec.{leb}
-use lib.ListN.{length, getD}
+use Prim.Native.Nat.{ℕ}
+use lib.ListN.{length}
 use Rattle.parts.specs.Bytes.{bytesAt, areBytes}
 use Rattle.parts.proofs.Below.{Below}
 use Rattle.parts.proofs.Bools.{and-left, and-right}
 use Rattle.air.specs.declared.Air.{Air}
-use Rattle.state.specs.Layout.{airPartLength, isFlag, airBytes, airDecodes, airAt}
+use Rattle.state.specs.Layout.{airPartLength, airBytes, airDecodes, airAt}
 use Rattle.state.specs.Claims.{isByte}
+use Rattle.state.proofs.Places.{same-head}
 use Rattle.state.proofs.Numbers.{flag-byte, radio-byte, byte-fits, flag-fits, flag-back, flag-again, radio-fits, radio-back, radio-again}
 
 pub air-length : (a : Air) → length (airBytes a) ≡ airPartLength
@@ -19,15 +19,15 @@ air-length a = refl
 
 pub air-bytes : (a : Air) → isByte (a .session) ≡ true → areBytes (airBytes a) ≡ true
 unfolding areBytes airBytes
-air-bytes a h = rw (flag-byte (a .field), radio-byte (a .radio), h)
+air-bytes a h = simp (flag-byte, radio-byte, h)
 
 pub air-decodes : (a : Air) → airDecodes (airBytes a) 0 ≡ true
 unfolding airDecodes airBytes
-air-decodes a = rw (flag-fits (a .field), radio-fits (a .radio))
+air-decodes a = simp (flag-fits, radio-fits)
 
 pub air-back : (a : Air) → airAt (airBytes a) 0 ≡ a
 unfolding airAt airBytes
-air-back a = rw (flag-back (a .field), radio-back (a .radio))
+air-back a = simp (flag-back, radio-back)
 
 module _ (s : List ℕ) (at : ℕ) where
   -- it looks only at its own bytes
@@ -37,10 +37,7 @@ module _ (s : List ℕ) (at : ℕ) where
 
   pub air-again : airDecodes s at ≡ true → airBytes (airAt s at) ≡ bytesAt s at airPartLength
   unfolding airDecodes airBytes airAt bytesAt
-  air-again d =
-      let f = isFlag (getD s (at + 0) 0) in
-      let r = leb (getD s (at + 1) 0) 2 in
-      rw (flag-again (getD s (at + 0) 0) (and-left f r d), radio-again (getD s (at + 1) 0) (and-right f r d))
+  air-again d = search (same-head, flag-again, radio-again, and-left, and-right, d) depth 20
 
   pub air-fits : Below s → isByte (airAt s at .session) ≡ true
   unfolding airAt

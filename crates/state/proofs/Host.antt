@@ -1,18 +1,17 @@
 -- The host's part of the state, at any place: its length, its bytes, there and back. Assumes nothing.
-use mathlib.Core.Path.{_≡_, refl, sym, ap, _∙_}
-use mathlib.Core.Bool.{true, _&&_}
-use mathlib.Core.List.{List, _++_}
+use mathlib.Core.Path.{_≡_, sym, ap, _∙_}
+use mathlib.Core.Bool.{true}
+use mathlib.Core.List.{List}
 use Prim.Native.Nat.{ℕ, _+_}
 use native.Mathlib.Omega.{arith}
-use lib.ListN.{length, getD}
+use lib.ListN.{length}
 use Rattle.parts.specs.Bytes.{bytesAt, areBytes}
 use Rattle.parts.proofs.Below.{Below}
 use Rattle.parts.proofs.Bools.{and-left, and-right}
-use Rattle.bus.specs.declared.Bus.{Bus}
 use Rattle.tag.specs.declared.Host.{Host}
-use Rattle.state.specs.Layout.{busOffset, busLength, hostPartLength, isFlag, busDecodes, busAt, hostBytes, hostDecodes, hostAt}
+use Rattle.state.specs.Layout.{busOffset, busLength, hostPartLength, busDecodes, busAt, hostBytes, hostDecodes, hostAt}
 use Rattle.state.specs.Claims.{isWord, busFits}
-use Rattle.state.proofs.Places.{bytesAt-join, bytesAt-within}
+use Rattle.state.proofs.Places.{same-head, bytesAt-join, bytesAt-within}
 use Rattle.state.proofs.Numbers.{flag-byte, low-byte, high-byte, word-fits, flag-fits, flag-back, flag-again, word-back, low-again, high-again}
 use Rattle.state.proofs.Bus.{bus-length, are-bus, bus-decodes, bus-back, bus-own, bus-again, bus-fits}
 
@@ -23,11 +22,11 @@ host-length h = rw (bus-length (h .bus))
 pub host-bytes : (h : Host) → isWord (h .counter) ≡ true → busFits (h .bus) ≡ true → areBytes (hostBytes h) ≡ true
 unfolding areBytes hostBytes
 host-bytes h c b =
-    rw (flag-byte (h .vcc), flag-byte (h .session), flag-byte (h .programming), low-byte (h .counter), high-byte (h .counter) c) (are-bus (h .bus) b)
+    simp (flag-byte, low-byte, high-byte (h .counter) c, are-bus (h .bus) b)
 
 pub host-decodes : (h : Host) → hostDecodes (hostBytes h) 0 ≡ true
 unfolding hostDecodes hostBytes busDecodes
-host-decodes h = rw (flag-fits (h .vcc), flag-fits (h .session), flag-fits (h .programming)) (bus-decodes (h .bus))
+host-decodes h = simp flag-fits (bus-decodes (h .bus))
 
 host-bus : (h : Host) → busAt (hostBytes h) busOffset ≡ h .bus
 unfolding hostBytes busAt
@@ -35,7 +34,7 @@ host-bus h = bus-back (h .bus)
 
 pub host-back : (h : Host) → hostAt (hostBytes h) 0 ≡ h
 unfolding hostAt hostBytes
-host-back h = rw (flag-back (h .vcc), flag-back (h .session), flag-back (h .programming), word-back (h .counter), host-bus h)
+host-back h = simp (flag-back, word-back, host-bus h)
 
 module _ (s : List ℕ) (at : ℕ) where
   -- the bus by the host's bytes
@@ -53,13 +52,8 @@ module _ (s : List ℕ) (at : ℕ) where
   pub host-again : Below s → hostDecodes s at ≡ true → hostBytes (hostAt s at) ≡ bytesAt s at hostPartLength
   unfolding hostDecodes hostBytes hostAt bytesAt
   host-again h d =
-      let v = isFlag (getD s (at + 0) 0) in
-      let i = isFlag (getD s (at + 1) 0) in
-      let p = isFlag (getD s (at + 2) 0) in
-      let b = busDecodes s (at + busOffset) in
-      let d2 = and-left (v && i && p) b d in
-      let d1 = and-left (v && i) p d2 in
-      rw (flag-again (getD s (at + 0) 0) (and-left v i d1), flag-again (getD s (at + 1) 0) (and-right v i d1), flag-again (getD s (at + 2) 0) (and-right (v && i) p d2), low-again (getD s (at + 3) 0) (getD s (at + 4) 0) (h (at + 3)), high-again (getD s (at + 3) 0) (getD s (at + 4) 0) (h (at + 3)), bus-again s (at + busOffset) h (and-right (v && i && p) b d)) (bytesAt-join s at busOffset busLength)
+      search (same-head, flag-again, low-again, high-again, bus-again s (at + busOffset) h, h, and-left, and-right, d) depth 30
+      ∙ bytesAt-join s at busOffset busLength
 
   pub counter-fits : Below s → isWord (hostAt s at .counter) ≡ true
   unfolding hostAt

@@ -9,6 +9,10 @@ use lib.Seq.{sets, getD-append-add, take-at, take-length}
 use Rattle.parts.specs.Bytes.{bytesAt}
 use Rattle.parts.proofs.Lists.{bytesAt-part, bytesAt-getD, sets-append}
 
+-- lists of the same first and the same rest
+pub same-head : (x y : ℕ) (p q : List ℕ) → x ≡ y → p ≡ q → x ∷ p ≡ y ∷ q
+same-head x y p q e f = rw (e, f)
+
 -- a part after p is read as without p
 pub bytesAt-skip : (p q : List ℕ) (k at n : ℕ) → length p ≡ k → bytesAt (p ++ q) (k + at) n ≡ bytesAt q at n
 unfolding bytesAt

@@ -1,6 +1,6 @@
 -- Parts stored one after the other are the whole stored. Assumes nothing.
-use mathlib.Core.Path.{_≡_, refl, ap, _∙_}
-use mathlib.Core.List.{List, [], _∷_, _++_}
+use mathlib.Core.Path.{_≡_, ap, _∙_}
+use mathlib.Core.List.{List, _++_}
 use Prim.Native.Nat.{ℕ, _+_}
 use native.Mathlib.Omega.{arith}
 use lib.ListN.{length}
@@ -9,7 +9,7 @@ use Rattle.parts.specs.Bytes.{bytesAt}
 use Rattle.keys.specs.declared.Passwords.{Passwords}
 use Rattle.tag.specs.declared.Host.{Host}
 use Rattle.tag.specs.declared.Tag.{Tag}
-use Rattle.state.specs.Layout.{busOffset, busLength, airPartLength, hostPartLength, registersPartLength, mailboxPartLength, passwordsPartLength, airPartPlace, hostPartPlace, registersPartPlace, mailboxPartPlace, passwordsPartPlace, uidPartPlace, flagByte, lowByte, highByte, airBytes, busBytes, hostBytes, registerBytes, mailboxBytes, passwordBytes, bytesOf}
+use Rattle.state.specs.Layout.{busOffset, busLength, airPartLength, hostPartLength, registersPartLength, mailboxPartLength, passwordsPartLength, airPartPlace, hostPartPlace, registersPartPlace, mailboxPartPlace, passwordsPartPlace, uidPartPlace, airBytes, busBytes, hostBytes, registerBytes, mailboxBytes, passwordBytes, bytesOf}
 use Rattle.state.proofs.Places.{bytesAt-whole, sets-then, sets-next}
 use Rattle.state.proofs.Air.{air-length}
 use Rattle.state.proofs.Bus.{bus-length}
@@ -18,25 +18,15 @@ use Rattle.state.proofs.Registers.{registers-length}
 use Rattle.state.proofs.Mailbox.{mailbox-length}
 use Rattle.state.proofs.Passwords.{Eights}
 
--- the host's bytes before the bus
-abbrev before : Host → List ℕ
-before h = flagByte (h .vcc) ∷ flagByte (h .session) ∷ flagByte (h .programming) ∷ lowByte (h .counter) ∷ highByte (h .counter) ∷ []
-
--- .. and the bus
-host-bus-stored : (h : Host) (s : List ℕ) (at : ℕ) → sets (sets s at (before h)) (at + busOffset) (busBytes (h .bus)) ≡ sets s at (hostBytes h)
-unfolding hostBytes
-host-bus-stored h s at = sets-then (before h) (busBytes (h .bus)) s at busOffset refl
-
-pub host-stored : (h : Host) (s : List ℕ) (at v i p : ℕ) (leg r₁ r₂ : List ℕ) → v ≡ flagByte (h .vcc) → i ≡ flagByte (h .session) → p ≡ flagByte (h .programming)
-    → leg ≡ busBytes (h .bus)
-    → r₁ ≡ sets s at (bytesAt (v ∷ i ∷ p ∷ lowByte (h .counter) ∷ highByte (h .counter) ∷ []) 0 busOffset)
-    → r₂ ≡ sets r₁ (at + busOffset) (bytesAt leg 0 busLength)
-    → r₂ ≡ sets s at (hostBytes h)
-host-stored h s at v i p leg r₁ r₂ ev ei ep el e₁ e₂ =
+-- the host's bytes before the bus, and the bus
+pub host-stored : (h : Host) (s : List ℕ) (at : ℕ) (front leg r₁ r₂ : List ℕ) → front ++ busBytes (h .bus) ≡ hostBytes h → length front ≡ busOffset → leg ≡ busBytes (h .bus)
+    → r₁ ≡ sets s at (bytesAt front 0 busOffset) → r₂ ≡ sets r₁ (at + busOffset) (bytesAt leg 0 busLength) → r₂ ≡ sets s at (hostBytes h)
+host-stored h s at front leg r₁ r₂ e n el e₁ e₂ =
     e₂
     ∙ ap (λ (b : List ℕ). sets r₁ (at + busOffset) b) (bytesAt-whole leg busLength (ap length el ∙ bus-length (h .bus)) ∙ el)
-    ∙ ap (λ (m : List ℕ). sets m (at + busOffset) (busBytes (h .bus))) (e₁ ∙ ap (sets s at) (bytesAt-whole (v ∷ i ∷ p ∷ lowByte (h .counter) ∷ highByte (h .counter) ∷ []) busOffset refl))
-    ∙ rw (ev, ei, ep) (host-bus-stored h s at)
+    ∙ ap (λ (m : List ℕ). sets m (at + busOffset) (busBytes (h .bus))) (e₁ ∙ ap (sets s at) (bytesAt-whole front busOffset n))
+    ∙ sets-then front (busBytes (h .bus)) s at busOffset n
+    ∙ ap (sets s at) e
 
 -- the five passwords
 pub passwords-stored : (p : Passwords) (s : List ℕ) (at : ℕ) (r₁ r₂ r₃ r₄ r₅ : List ℕ) → Eights p → r₁ ≡ sets s at (p .i2c .bytes)

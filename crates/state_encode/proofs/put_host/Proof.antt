@@ -1,3 +1,6 @@
+use mathlib.Core.Path.{refl}
+use mathlib.Core.List.{[], _∷_}
+use Rattle.state.specs.Layout.{lowByte, highByte, hostBytes}
 use Rattle.state_encode.proofs.Stored.{host-stored}
 use borrow.Author.Needs.{needs}
 use Rattle.state_encode.proofs.put_host.Statement.{statement}
@@ -40,9 +43,16 @@ same-length : tie.Need-same-length
 same-length c = search needs
 
 returns : tie.Need-returns
+unfolding hostBytes
 returns c =
-    let a = c .before .before .before .before .before .before .before .before .before .before .before .before .before .before .before .before .before .args in
-    host-stored (a .h) (a .s .now) (a .at) (c .before .before .before .before .before .before .before .before .before .before .before .before .before .before .before .flag-byte .result) (c .before .before .before .before .before .before .before .before .before .before .before .before .before .before .flag-byte2 .result) (c .before .before .before .before .before .before .before .before .before .before .before .before .before .flag-byte3 .result) (c .before .before .before .before .before .bus-bytes .result) _ _ (c .before .before .before .before .before .before .before .before .before .before .before .before .before .before .before .flag-byte .ensures) (c .before .before .before .before .before .before .before .before .before .before .before .before .before .before .flag-byte2 .ensures) (c .before .before .before .before .before .before .before .before .before .before .before .before .before .flag-byte3 .ensures) (c .before .before .before .before .before .bus-bytes .ensures) (c .before .before .before .before .before .before .before .before .put-bytes .ensures) (c .before .before .put-bytes2 .ensures)
+    let stored = c .before .before in
+    let bus = stored .before .before .before in
+    let front = bus .before .before .before in
+    let flag3 = front .before .before .before .before .before in
+    let flag2 = flag3 .before in
+    let flag = flag2 .before in
+    let a = flag .before .before .args in
+    host-stored (a .h) (a .s .now) (a .at) (flag .flag-byte .result ∷ flag2 .flag-byte2 .result ∷ flag3 .flag-byte3 .result ∷ lowByte (a .h .counter) ∷ highByte (a .h .counter) ∷ []) _ _ _ (rw (flag .flag-byte .ensures, flag2 .flag-byte2 .ensures, flag3 .flag-byte3 .ensures)) refl (bus .bus-bytes .ensures) (front .put-bytes .ensures) (stored .put-bytes2 .ensures)
 
 pub put-host-spec : {M : Type 1} → statement M
 put-host-spec =

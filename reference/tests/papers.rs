@@ -481,21 +481,15 @@ fn state_bytes() {
     let mut bytes = state::encode(&Tag::fresh(UID));
     assert_eq!(bytes[at::ENDA1..at::I2CSS], [0x0F, 0, 0x0F, 0, 0x0F, 0]);
     assert_eq!(bytes[at::UID..], UID);
-    let judged = [
-        at::FIELD,
-        at::RADIO_STATE,
-        at::VCC,
-        at::I2C_SESSION,
-        at::PROGRAMMING,
-    ];
     for place in 0..STATE_SIZE {
         for value in 0..=255 {
             let before = std::mem::replace(&mut bytes[place], value);
             if let Some(tag) = state::decode(&bytes) {
                 assert_eq!(state::encode(&tag), bytes);
             } else {
+                // before the counter all but the radio session are flags or have their numbers
                 assert!(
-                    judged.contains(&place)
+                    (place < at::COUNTER && place != at::RADIO_SESSION)
                         || (at::BUS..at::RF_MNGT).contains(&place)
                         || (at::MB_EN..at::MESSAGE_LENGTH).contains(&place)
                 );

@@ -358,4 +358,4 @@ module _ (v : RadioSide) (vcc : Bool) (m f : List ℕ) where
 
   pub frame-behaves : (u : Uid) (transfer programming : Bool) → F (requestOf f u) (radioOf v u vcc transfer programming m f)
   unfolding radioOf
-  frame-behaves u transfer programming = answer-behaves u (judge f (v .air) u (v .core .registers .dynamic) (transfer || programming))
+  frame-behaves u transfer programming = answer-behaves u (judge f (v .air) u (v .core .registers .dynamic) _)

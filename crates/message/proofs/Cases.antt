@@ -1,7 +1,7 @@
 -- What holds of the result of AB and AC, from what holds of every error and of the good reply. Assumes nothing.
-use mathlib.Core.Path.{_≡_, refl}
-use mathlib.Core.Bool.{Bool, true, false, _||_}
+use mathlib.Core.Bool.{_||_}
 use mathlib.Core.List.{List, [], _∷_}
+use mathlib.Mathlib.Data.Bool.Basic.{or-eq-false-eq-eq-false-and-eq-false}
 use Prim.Native.Nat.{ℕ, _+_, _≤_}
 use lib.Dec.{ltb, eqb}
 use borrow.Author.Tests.{ltb-false}
@@ -14,10 +14,6 @@ use Rattle.reply.specs.declared.RadioSide.{RadioSide}
 use Rattle.reply.specs.Reply.{good}
 use Rattle.reply.specs.Outcome.{CommandResult, commandResult, fails, sideMailbox}
 use Rattle.message.specs.Message.{lengthOf, asked, mailboxAfterRead, readMessageOf}
-
-neither : (a b : Bool) → (a || b) ≡ false → a ≡ false
-neither true b h = h
-neither false b h = refl
 
 module _ (K : CommandResult → Type 0) (v : RadioSide) (m : List ℕ) (fail : (error : RadioError) → K (fails error v m)) where
   pub length-case : K (commandResult (good (lengthByte (v .core .mailbox) ∷ [])) v m) → K (lengthOf v m)
@@ -35,4 +31,4 @@ module _ (K : CommandResult → Type 0) (v : RadioSide) (m : List ℕ) (fail : (
       let end = pointer + asked mailbox pointer n in
       pick-case K _ _ _ (λ _. fail MailboxDisabled)
       (λ _. pick-case K (ltb (mailbox .length) end || eqb (mailbox .length) 0) _ _ (λ _. fail PastMessage)
-      (λ h. done (ltb-false (mailbox .length) end (neither _ _ h))))
+      (λ h. done (ltb-false (mailbox .length) end (or-eq-false-eq-eq-false-and-eq-false _ _ .0 h .0))))

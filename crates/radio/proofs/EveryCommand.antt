@@ -2,7 +2,7 @@
 -- the law of its command (proofs/Cases.antt of the command's crate) asks for one fact on all errors. Assumes nothing.
 use mathlib.Core.Path.{_≡_, refl, sym, ap, _∙_}
 use mathlib.Core.Bool.{Bool, true, false, not, _&&_, _||_}
-use mathlib.Core.List.{List, [], _∷_}
+use mathlib.Core.List.{List, []}
 use mathlib.Core.Logic.{_⊎_, inl, inr, ⊎-elim}
 use Prim.Native.Nat.{ℕ, _+_, _*_, _-_, _≤_, _<_}
 use native.Mathlib.Omega.{arith}
@@ -114,27 +114,27 @@ module _ (q : RequestFields) (v : RadioSide) (vcc : Bool) (m f : List ℕ) where
   Ranges next = q .first < 256 → SideFits vcc v → SideFits vcc next
 
   -- ---- kinds of results
-  fail : (P : Type 0) (error : RadioError) → K P (fails error v m)
+  fail : {P : Type 0} (error : RadioError) → K P (fails error v m)
   unfolding replySize
-  fail P error =
+  fail error =
       record { room = λ _. omega arith; range = λ _ h. h; size = refl; bytes = λ h _. h; keys = same-keys refl; errors = inr (failed error refl) }
 
   -- a good reply that leaves the side `next`
-  gives : (P : Type 0) (s : List ℕ) (next : RadioSide) → (mailboxInRange (v .core .mailbox) ≡ true → length s ≤ 640) → Ranges next
+  gives : {P : Type 0} (s : List ℕ) (next : RadioSide) → (mailboxInRange (v .core .mailbox) ≡ true → length s ≤ 640) → Ranges next
       → KeysAfter f (v .core .passwords) (next .core .passwords) → K P (commandResult (good s) next m)
   unfolding replySize
-  gives P s next l h k =
+  gives s next l h k =
       record { room = λ r. omega (arith, l r); range = h; size = refl; bytes = λ b _. b; keys = k; errors = inr (served s refl) }
 
   -- a good reply that changes nothing
-  replies : (P : Type 0) (s : List ℕ) → (mailboxInRange (v .core .mailbox) ≡ true → length s ≤ 640) → K P (commandResult (good s) v m)
-  replies P s l = gives P s v l (λ _ h. h) (same-keys refl)
+  replies : {P : Type 0} (s : List ℕ) → (mailboxInRange (v .core .mailbox) ≡ true → length s ≤ 640) → K P (commandResult (good s) v m)
+  replies s l = gives s v l (λ _ h. h) (same-keys refl)
 
   -- done, and bytes of the frame stored into the memory
-  stores : (P : Type 0) (next : RadioSide) (at place n : ℕ) → Ranges next → next .core .passwords ≡ v .core .passwords
+  stores : {P : Type 0} (next : RadioSide) (at place n : ℕ) → Ranges next → next .core .passwords ≡ v .core .passwords
       → K P (commandResult (good []) next (sets m at (bytesAt f place n)))
   unfolding replySize
-  stores P next at place n h k =
+  stores next at place n h k =
       record {
         room = λ _. omega arith;
         range = h;
@@ -148,32 +148,32 @@ module _ (q : RequestFields) (v : RadioSide) (vcc : Bool) (m f : List ℕ) where
   in-air a h _ fits = record { air = h (fits .air); registers = fits .registers; mailbox = fits .mailbox; supplied = fits .supplied }
 
   -- silence, with the radio state changed
-  hushes : (P : Type 0) (a : Air) → (airInRange (v .air) ≡ true → airInRange a ≡ true) → K P (commandResult nothing (withAir a v) m)
+  hushes : {P : Type 0} (a : Air) → (airInRange (v .air) ≡ true → airInRange a ≡ true) → K P (commandResult nothing (withAir a v) m)
   unfolding replySize
-  hushes P a h =
+  hushes a h =
       record { room = λ _. omega arith; range = in-air a h; size = refl; bytes = λ b _. b; keys = same-keys refl; errors = inr (silent refl) }
 
   -- ---- blocks
-  reads : (P : Type 0) (option : Bool) (first more : ℕ) → K P (readOf v m option first more)
-  reads P option first more =
-      read-case (K P) v m option first more (fail P)
-      (λ h. replies P _ (λ _. omega (arith, h, blocks-le (v .core .registers) (v .air .session) m option first (more + 1))))
+  reads : {P : Type 0} (option : Bool) (first more : ℕ) → K P (readOf v m option first more)
+  reads {P} option first more =
+      read-case (K P) v m option first more fail
+      (λ h. replies _ (λ _. omega (arith, h, blocks-le (v .core .registers) (v .air .session) m option first (more + 1))))
 
-  writes : (P : Type 0) (first more at : ℕ) → K P (writeOf v m first more f at)
-  writes P first more at = write-case (K P) v m first more f at (fail P) (stores P v (4 * first) at (4 * (more + 1)) (λ _ h. h) refl)
+  writes : {P : Type 0} (first more at : ℕ) → K P (writeOf v m first more f at)
+  writes {P} first more at = write-case (K P) v m first more f at fail (stores v (4 * first) at (4 * (more + 1)) (λ _ h. h) refl)
 
-  locks : (P : Type 0) (block : ℕ) → K P (lockOf v m block)
-  locks P block =
-      lock-case (K P) v m block (fail P)
-      (gives P [] _ (λ _. omega arith)
+  locks : {P : Type 0} (block : ℕ) → K P (lockOf v m block)
+  locks {P} block =
+      lock-case (K P) v m block fail
+      (gives [] _ (λ _. omega arith)
       (λ _ fits. record { air = fits .air; registers = ccfile-kept (v .core .registers) _ (fits .registers); mailbox = fits .mailbox; supplied = fits .supplied })
       (same-keys refl))
 
-  statuses : (P : Type 0) (first more : ℕ) → K P (statusReply v m first more)
-  statuses P first more =
+  statuses : {P : Type 0} (first more : ℕ) → K P (statusReply v m first more)
+  statuses {P} first more =
       let n = pick (ltb (128 - first) (more + 1)) (128 - first) (more + 1) in
-      status-case (K P) v m first more (fail P)
-      (λ _. replies P _ (λ _. omega (arith, counted-le first more, length-statuses (v .core .registers) (v .air .session) first n)))
+      status-case (K P) v m first more fail
+      (λ _. replies _ (λ _. omega (arith, counted-le first more, length-statuses (v .core .registers) (v .air .session) first n)))
 
   -- ---- registers
   abbrev Carried : Mailbox → Type 0
@@ -188,12 +188,12 @@ module _ (q : RequestFields) (v : RadioSide) (vcc : Bool) (m f : List ℕ) where
   unfolding mailboxAfterWrite
   mailbox-after p x fits = mailbox-by (rowOf p .rule) x fits
 
-  configures : (P : Type 0) (p x : ℕ) → K P (writeConfigOf v m p x)
+  configures : {P : Type 0} (p x : ℕ) → K P (writeConfigOf v m p x)
   unfolding writtenCore
-  configures P p x =
-      write-config-case (K P) v m p x (fail P)
+  configures {P} p x =
+      write-config-case (K P) v m p x fail
       (λ allowed.
-      gives P [] _ (λ _. omega arith)
+      gives [] _ (λ _. omega arith)
       (λ _ fits.
       let b = mailbox-after p x fits in
       record { air = fits .air; registers = written-kept (v .core .registers) p x (fits .registers) allowed; mailbox = b .0; supplied = b .1 })
@@ -215,23 +215,23 @@ module _ (q : RequestFields) (v : RadioSide) (vcc : Bool) (m f : List ℕ) where
   control-supplied x mode fits =
       pick-case (λ (b : Mailbox). (vcc || not (b .enabled)) ≡ true) _ _ _ (λ h. enabled-supplied mode fits) (λ h. or-second vcc true refl)
 
-  controls : (P : Type 0) (p x : ℕ) → K P (writeDynamicOf v m vcc p x)
-  controls P p x =
+  controls : {P : Type 0} (p x : ℕ) → K P (writeDynamicOf v m vcc p x)
+  controls {P} p x =
       let mode = v .core .registers .mode in
-      write-dynamic-case (K P) v m (fail P) vcc p x
-      (gives P [] _ (λ _. omega arith)
+      write-dynamic-case (K P) v m fail vcc p x
+      (gives [] _ (λ _. omega arith)
       (in-mailbox _ (λ _ fits. (controlled-kept x mode vcc (v .core .mailbox) (fits .mailbox), control-supplied x mode fits)))
       (same-keys refl))
 
-  puts : (P : Type 0) (at : ℕ) → K P (writeMessageOf v m (q .first) f at)
+  puts : {P : Type 0} (at : ℕ) → K P (writeMessageOf v m (q .first) f at)
   unfolding takesMessage
-  puts P at =
+  puts {P} at =
       let b = v .core .mailbox in
       let more = q .first in
-      write-message-case (K P) v m more f at (fail P)
+      write-message-case (K P) v m more f at fail
       (λ e.
       let free = and-left (b .enabled && not (b .host .put)) (not (b .rf .put)) e in
-      stores P _ 512 at (more + 1)
+      stores _ 512 at (more + 1)
       (in-mailbox _ (λ l fits. (
         radio-put-kept b (more + 1) (and-left (b .enabled) (not (b .host .put)) free) (omega arith) (omega arith) (not-true (b .host .put) (and-right (b .enabled) (not (b .host .put)) free)),
         fits .supplied,
@@ -243,12 +243,12 @@ module _ (q : RequestFields) (v : RadioSide) (vcc : Bool) (m f : List ℕ) where
   unfolding mailboxInRange
   longest h = leb-true (v .core .mailbox .length) 256 (and-left _ _ (and-left _ _ (and-left _ _ (and-left _ _ (and-left _ _ h)))))
 
-  takes : (P : Type 0) (p n : ℕ) → K P (readMessageOf v m p n)
+  takes : {P : Type 0} (p n : ℕ) → K P (readMessageOf v m p n)
   unfolding mailboxAfterRead
-  takes P p n =
+  takes {P} p n =
       let b = v .core .mailbox in
-      read-message-case (K P) v m (fail P) p n
-      (λ h. gives P _ _ (λ r. omega (arith, h, longest r, length-bytesAt m (512 + p) (asked b p n)))
+      read-message-case (K P) v m fail p n
+      (λ h. gives _ _ (λ r. omega (arith, h, longest r, length-bytesAt m (512 + p) (asked b p n)))
       (in-mailbox _ (λ _ fits. (
         pick-case (λ (x : Mailbox). mailboxInRange x ≡ true) _ _ _ (λ k. radio-read-kept b (fits .mailbox)) (λ k. fits .mailbox),
         pick-case (λ (x : Mailbox). (vcc || not (x .enabled)) ≡ true) _ _ _ (λ k. fits .supplied) (λ k. fits .supplied),
@@ -260,44 +260,44 @@ module _ (q : RequestFields) (v : RadioSide) (vcc : Bool) (m f : List ℕ) where
   unfolding airInRange replySize
   presents-password n at =
       let P = PresentPassword ≡ PresentPassword in
-      present-case (K P) v m n f at (λ _. fail P)
+      present-case (K P) v m n f at (λ _. fail)
       (λ _ _ error. record { room = λ _. omega arith; range = in-air _ (λ _. refl); size = refl; bytes = λ b _. b; keys = same-keys refl; errors = inl refl })
-      (λ h. gives P [] _ (λ _. omega arith) (in-air _ (λ _. le-leb (n + 1) 4 (omega (arith, h)))) (same-keys refl))
+      (λ h. gives [] _ (λ _. omega arith) (in-air _ (λ _. le-leb (n + 1) 4 (omega (arith, h)))) (same-keys refl))
 
-  writes-password : (P : Type 0) (n at : ℕ) → K P (writePasswordOf v m n f at)
-  writes-password P n at =
-      write-password-case (K P) v m n f at (fail P)
-      (gives P [] _ (λ _. omega arith)
+  writes-password : {P : Type 0} (n at : ℕ) → K P (writePasswordOf v m n f at)
+  writes-password {P} n at =
+      write-password-case (K P) v m n f at fail
+      (gives [] _ (λ _. omega arith)
       (λ _ fits. record { air = fits .air; registers = fits .registers; mailbox = fits .mailbox; supplied = fits .supplied })
       (new-key n at refl))
 
-  selects : (P : Type 0) (own : Bool) → K P (selectUidOf v m own)
+  selects : {P : Type 0} (own : Bool) → K P (selectUidOf v m own)
   unfolding airInRange deselected
-  selects P own =
-      select-case (K P) v m own (gives P [] _ (λ _. omega arith) (in-air _ (λ h. h)) (same-keys refl))
-      (hushes P _ (λ h. pick-case (λ (a : Air). leb (a .session) 4 ≡ true) _ _ _ (λ k. h) (λ k. h)))
+  selects {P} own =
+      select-case (K P) v m own (gives [] _ (λ _. omega arith) (in-air _ (λ h. h)) (same-keys refl))
+      (hushes _ (λ h. pick-case (λ (a : Air). leb (a .session) 4 ≡ true) _ _ _ (λ k. h) (λ k. h)))
 
   -- ---- every command, a line each
   every-command : (c : Command) → K (c ≡ PresentPassword) (serveCommand c q v vcc m f)
   unfolding serveCommand airInRange
-  every-command StayQuiet = stay-quiet-case (K _) v m (hushes _ _ (λ h. h))
-  every-command Select = selects _ (q .own)
-  every-command ResetToReady = reset-case (K _) v m (gives _ [] _ (λ _. omega arith) (in-air _ (λ h. h)) (same-keys refl))
-  every-command ReadSingleBlock = reads _ (q .option) (q .first) 0
-  every-command ReadMultipleBlocks = reads _ (q .option) (q .first) (q .second)
-  every-command WriteSingleBlock = writes _ (q .first) 0 (q .at + 1)
-  every-command WriteMultipleBlocks = writes _ (q .first) (q .second) (q .at + 2)
-  every-command LockBlock = locks _ (q .first)
-  every-command GetMultipleBlockSecurityStatus = statuses _ (q .first) (q .second)
-  every-command ReadConfiguration = read-config-case (K _) v m (q .first) (fail _) (replies _ _ (λ _. omega arith))
-  every-command WriteConfiguration = configures _ (q .first) (q .second)
-  every-command ReadDynamicConfiguration = read-dynamic-case (K _) v m (fail _) (q .first) (replies _ _ (λ _. omega arith))
-  every-command WriteDynamicConfiguration = controls _ (q .first) (q .second)
-  every-command WriteMessage = puts _ (q .at + 1)
-  every-command ReadMessageLength = length-case (K _) v m (fail _) (replies _ _ (λ _. omega arith))
-  every-command ReadMessage = takes _ (q .first) (q .second)
+  every-command StayQuiet = stay-quiet-case (K _) v m (hushes _ (λ h. h))
+  every-command Select = selects (q .own)
+  every-command ResetToReady = reset-case (K _) v m (gives [] _ (λ _. omega arith) (in-air _ (λ h. h)) (same-keys refl))
+  every-command ReadSingleBlock = reads (q .option) (q .first) 0
+  every-command ReadMultipleBlocks = reads (q .option) (q .first) (q .second)
+  every-command WriteSingleBlock = writes (q .first) 0 (q .at + 1)
+  every-command WriteMultipleBlocks = writes (q .first) (q .second) (q .at + 2)
+  every-command LockBlock = locks (q .first)
+  every-command GetMultipleBlockSecurityStatus = statuses (q .first) (q .second)
+  every-command ReadConfiguration = read-config-case (K _) v m (q .first) fail (replies _ (λ _. omega arith))
+  every-command WriteConfiguration = configures (q .first) (q .second)
+  every-command ReadDynamicConfiguration = read-dynamic-case (K _) v m fail (q .first) (replies _ (λ _. omega arith))
+  every-command WriteDynamicConfiguration = controls (q .first) (q .second)
+  every-command WriteMessage = puts (q .at + 1)
+  every-command ReadMessageLength = length-case (K _) v m fail (replies _ (λ _. omega arith))
+  every-command ReadMessage = takes (q .first) (q .second)
   every-command PresentPassword = presents-password (q .first) (q .at + 1)
-  every-command WritePassword = writes-password _ (q .first) (q .at + 1)
+  every-command WritePassword = writes-password (q .first) (q .at + 1)
 
 -- ---- every frame
 -- the code of each command: a request under another code than B3 is no PresentPassword
@@ -339,7 +339,7 @@ module _ (v : RadioSide) (vcc : Bool) (m f : List ℕ) where
   F q x = Behaves (command f ≡ 0xB3) q v vcc m f x
 
   silence : (q : RequestFields) → F q (commandResult nothing v m)
-  silence q = hushes q v vcc m f _ (v .air) (λ h. h)
+  silence q = hushes q v vcc m f (v .air) (λ h. h)
 
   pub request-behaves : (u : Uid) → F (requestOf f u) (serveOf (requestOf f u) v vcc m f)
   unfolding serveOf serveCode commandOf codeOf
@@ -353,7 +353,7 @@ module _ (v : RadioSide) (vcc : Bool) (m f : List ℕ) where
   answer-behaves : (u : Uid) (verdict : Verdict) → F (requestOf f u) (verdictResult verdict v u vcc m f)
   unfolding verdictResult
   answer-behaves u Silence = silence (requestOf f u)
-  answer-behaves u (Error error) = fail (requestOf f u) v vcc m f _ error
+  answer-behaves u (Error error) = fail (requestOf f u) v vcc m f error
   answer-behaves u Request = request-behaves u
 
   pub frame-behaves : (u : Uid) (transfer programming : Bool) → F (requestOf f u) (radioOf v u vcc transfer programming m f)

@@ -2,8 +2,8 @@
 use mathlib.Core.Path.{_≡_, refl, sym, ap, subst, _∙_}
 use mathlib.Core.Bool.{Bool, true, false, not, _||_}
 use mathlib.Core.List.{List, [], _∷_, _++_, append-assoc, append-nil}
-use mathlib.Core.Logic.{_⊎_, inl, inr, ⊎-elim}
-use Prim.Native.Nat.{ℕ, zero, suc, _+_, _*_, _-_, _≤_, _<_}
+use mathlib.Core.Logic.{inl, inr, ⊎-elim}
+use Prim.Native.Nat.{ℕ, zero, suc, _+_, _*_, _-_, _<_}
 use native.Mathlib.Omega.{arith}
 use lib.Dec.{leb, ltb, eqb}
 use lib.ListN.{length, getD, drop, length-append}
@@ -11,7 +11,7 @@ use lib.Seq.{getD-at}
 use borrow.Author.Tests.{eq-eqb, ltb-true, ltb-false, lt-leb}
 use Rattle.parts.specs.Pick.{pick}
 use Rattle.parts.specs.Bytes.{bytesAt}
-use Rattle.parts.proofs.Picks.{pick-case, pick-false}
+use Rattle.parts.proofs.Picks.{pick-false}
 use Rattle.registers.specs.declared.Ends.{Ends}
 use Rattle.registers.specs.declared.Registers.{Registers}
 use Rattle.rights.specs.declared.Side.the-variants.{Radio}

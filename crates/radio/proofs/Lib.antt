@@ -1,3 +1,4 @@
+pub mod EveryCommand
 pub mod ShutOut
 pub mod Kept
 pub mod Room

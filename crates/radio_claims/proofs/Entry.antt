@@ -14,6 +14,7 @@ use Rattle.reply.specs.declared.RadioSide.{RadioSide}
 use Rattle.reply.specs.Reply.{ReplyBody, body, answerOf, bufferOf}
 use Rattle.reply.specs.Outcome.{CommandResult, radioSide, withRadio}
 use Rattle.radio.specs.Radio.{radioOf}
+use Rattle.radio.proofs.EveryCommand.{Shape, silent, served, failed}
 use Rattle.refusals.specs.declared.Refusal.{Refusal}
 use Rattle.refusals.proofs.Laws.{judged-case}
 use Rattle.model.proofs.Acts.{room-of, frame-code}
@@ -22,7 +23,7 @@ use Rattle.model.specs.declared.Answer.the-variants.{Refused, Nothing, Ack, NoA
 use Rattle.model.specs.declared.Signal.{Signal}
 use Rattle.model.specs.Step.{StepResult, fromRadio, transferOpen, actOf, stepOf}
 use Rattle.radio_claims.specs.Claims.{errorLeaves, ErrorCallsLeave}
-use Rattle.radio_claims.proofs.Errors.{Shape, silent, served, failed, frame-leaves}
+use Rattle.radio_claims.proofs.Errors.{frame-leaves}
 
 -- the first byte of a reply stands first in the buffer
 first-byte : (x : ℕ) (b o : List ℕ) → 0 < length o → getD (bufferOf (body (x ∷ b)) o) 0 0 ≡ x

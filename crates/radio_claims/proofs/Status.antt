@@ -2,16 +2,16 @@
 use mathlib.Core.Path.{_≡_, refl, sym, ap, subst, _∙_}
 use mathlib.Core.Bool.{Bool, true, false, not, _||_}
 use mathlib.Core.List.{List, [], _∷_, _++_, append-assoc, append-nil}
-use mathlib.Core.Logic.{_⊎_, inl, inr, ⊎-elim}
-use Prim.Native.Nat.{ℕ, zero, suc, _+_, _*_, _-_, _≤_, _<_}
+use mathlib.Core.Logic.{inl, inr, ⊎-elim}
+use Prim.Native.Nat.{ℕ, zero, suc, _+_, _*_, _-_, _<_}
 use native.Mathlib.Omega.{arith}
 use lib.Dec.{leb, ltb, eqb}
 use lib.ListN.{length, getD, drop, length-append}
 use lib.Seq.{getD-at}
-use borrow.Author.Tests.{eq-eqb, ltb-true, ltb-false, lt-leb, leb-false}
+use borrow.Author.Tests.{eq-eqb, ltb-true, ltb-false, lt-leb}
 use Rattle.parts.specs.Pick.{pick}
 use Rattle.parts.specs.Bytes.{bytesAt}
-use Rattle.parts.proofs.Picks.{pick-case, pick-false}
+use Rattle.parts.proofs.Picks.{pick-false}
 use Rattle.registers.specs.declared.Ends.{Ends}
 use Rattle.registers.specs.declared.Registers.{Registers}
 use Rattle.rights.specs.declared.Side.the-variants.{Radio}
@@ -30,7 +30,9 @@ use Rattle.blocks.specs.Blocks.{leavesArea, blocksOf, readOf}
 use Rattle.block_status.specs.Status.{statusOf, statusesOf, statusReply}
 use Rattle.block_bytes.specs.Block.{blockOf}
 use Rattle.block_bytes.proofs.Block.{block-with, length-with}
-use Rattle.block_status.proofs.Statuses.{length-statuses}
+use Rattle.block_status.proofs.Statuses.{counted-le, length-statuses}
+use Rattle.block_status.proofs.Cases.{status-case}
+use Rattle.blocks.proofs.Cases.{read-case}
 use Rattle.block_writes.specs.Writes.{mayWriteAll, writeOf}
 use Rattle.request.specs.Request.{requestOf}
 use Rattle.serve.specs.Commands.{serveCommand, serveOf}
@@ -180,29 +182,18 @@ Counted first more = pick (ltb (128 - first) (more + 1)) (128 - first) (more + 1
 
 status-data : (t : RadioSide) (m : List ℕ) (first more : ℕ) (data- : List ℕ) → statusReply t m first more .reply ≡ good data-
     → (first < 128) × (data- ≡ statusesOf (t .core .registers) (t .air .session) first (Counted first more))
-unfolding statusReply
 status-data t m first more data- =
-    pick-case (λ (x : CommandResult). x .reply ≡ good data- → (first < 128) × (data- ≡ statusesOf (t .core .registers) (t .air .session) first (Counted first more))) (leb 128 first) _ _
-    (λ h k. absurd (no-data _ data- k))
-    (λ h k. (leb-false 128 first h, same-data _ data- k))
-
-counted : (first more : ℕ) → Counted first more ≤ 128 - first
-counted first more = pick-case (λ (n : ℕ). n ≤ 128 - first) _ _ _ (λ h. omega arith) (λ h. ltb-false (128 - first) (more + 1) h)
-
-inside : (a b : Bool) → (a || b) ≡ false → a ≡ false
-inside true b h = h
-inside false b h = refl
+    status-case (λ (x : CommandResult). x .reply ≡ good data- → (first < 128) × (data- ≡ statusesOf (t .core .registers) (t .air .session) first (Counted first more))) t m first more
+    (λ error k. absurd (no-data _ data- k))
+    (λ h k. (h, same-data _ data- k))
 
 read-data : (t : RadioSide) (m : List ℕ) (first more : ℕ) (data- : List ℕ) → readOf t m true first more .reply ≡ good data-
     → (first + more < 128) × (data- ≡ blocksOf (t .core .registers) (t .air .session) m true first (more + 1))
-unfolding readOf leavesArea
 read-data t m first more data- =
     let r = t .core .registers in
-    let P : CommandResult → Type 0 = λ (x : CommandResult). x .reply ≡ good data- → (first + more < 128) × (data- ≡ blocksOf r (t .air .session) m true first (more + 1)) in
-    pick-case P (leb 128 first) _ _ (λ h k. absurd (no-data _ data- k))
-    (λ h. pick-case P (leavesArea (r .ends) first (first + more)) _ _ (λ h k. absurd (no-data _ data- k))
-    (λ f. pick-case P _ _ _ (λ h k. absurd (no-data _ data- k))
-    (λ h k. (leb-false 128 (first + more) (inside _ _ f), same-data _ data- k))))
+    read-case (λ (x : CommandResult). x .reply ≡ good data- → (first + more < 128) × (data- ≡ blocksOf r (t .air .session) m true first (more + 1))) t m true first more
+    (λ error k. absurd (no-data _ data- k))
+    (λ h k. (h, same-data _ data- k))
 
 -- ---- the rows of the four commands
 module _ (t : RadioSide) (u : Uid) (vcc : Bool) (m s : List ℕ) where
@@ -259,7 +250,7 @@ status-as-write t u vcc transfer programming m s w data- k a b e h l =
     let near : k < n = omega (arith, l, ap length (d .1) ∙ length-statuses r (t .air .session) first n) in
     let at = ap (λ (z : List ℕ). getD z k 0) (d .1) ∙ statuses-at r (t .air .session) first n k near in
     subst (λ (x : ℕ). StatusAgrees x (radioOf t u vcc transfer programming m w .reply)) (sym at)
-    (write-asked t u vcc transfer programming m w (first + k) b e (omega (arith, d .0, near, counted first (param s 1))))
+    (write-asked t u vcc transfer programming m w (first + k) b e (omega (arith, d .0, near, counted-le first (param s 1))))
 
 with-option : (t : RadioSide) (m : List ℕ) (option : Bool) (first more : ℕ) → option ≡ true → readOf t m option first more ≡ readOf t m true first more
 with-option t m option first more h = ap (λ (b : Bool). readOf t m b first more) h

@@ -11,7 +11,7 @@ use Rattle.tag.specs.Layout.{pagePlace}
 use Rattle.state.specs.Layout.{tagOf}
 use Rattle.model.specs.Step.{transferOpen}
 use Rattle.capi.specs.Interface.{CallResult, callResult}
-use Rattle.calls.specs.Calls.{Call}
+use Rattle.refusals.specs.Call.{Call}
 use Rattle.library_demand3.specs.Calls.{LibraryStep, exported}
 use Rattle.library_demand3.specs.Claim.{libraryStruck, LibraryDemand3}
 

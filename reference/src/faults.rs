@@ -101,12 +101,12 @@ pub fn make(dice: &mut Dice, fault: Fault, lent: &mut Lent, call: &mut Call) {
 
 /// No signal has it, not even by its low byte alone.
 fn unknown_code(dice: &mut Dice) -> u32 {
-    let last = u32::from(model::FRAME) + 1;
+    let last = u32::from(model::LAST) + 1;
     let known = 1 + dice.below(last as usize) as u32;
     dice.pick(&[
         0,
         last + 1,
-        10,
+        last + 2,
         255,
         256 + known,
         0x8000_0000 + known,

@@ -12,6 +12,7 @@ pub const FETCH: u8 = 4;
 pub const STOP: u8 = 5;
 pub const PROGRAMMING_END: u8 = 6;
 pub const FRAME: u8 = 7;
+pub const LAST: u8 = FRAME;
 
 /// One signal as it is handed in; `frame` counts for the radio frame only.
 #[derive(Clone, Copy, Debug)]

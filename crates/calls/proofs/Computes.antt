@@ -26,7 +26,7 @@ use Rattle.fetch.specs.Fetch.{memoryByte, mailboxByte, userByte, systemByte, fe
 use Rattle.signal.specs.Signal.{dueOf, startAt, startOf, stopAt}
 use Rattle.send.specs.Send.{selectBy, dataOf, sendAt}
 use Rattle.wire.specs.Wire.{fetchAt, signalOf}
-use Rattle.wire_claims.specs.Claims.{sentByte}
+use Rattle.signal_table.specs.Table.{signalTable, signalFound, isFound, signalInRange, signalIn, signalBy, sentByte}
 use Rattle.reply.specs.Reply.{answerOf, bufferOf}
 use Rattle.frame.specs.Fields.{uidPlace, paramPlace, ownUid, param}
 use Rattle.rule_list.specs.RuleList.{anyHolds, firstSays}
@@ -45,14 +45,12 @@ use Rattle.password.specs.Password.{presentOf, writePasswordOf}
 use Rattle.radio_state.specs.RadioState.{stayQuietOf, selectUidOf, resetToReadyOf}
 use Rattle.serve.specs.Commands.{serveCommand, serveCode, serveOf}
 use Rattle.radio.specs.Radio.{verdictResult, radioOf}
-use Rattle.refusals.specs.Signals.{topValue, signalInRange}
-use Rattle.model.specs.Signals.{signalBy}
-use Rattle.refusals.specs.Refusals.{number, tagInRange, judgement, unlessRefused}
+use Rattle.refusals.specs.Refusals.{number, looksAtTag, tagInRange, judgement, unlessRefused}
 use Rattle.model.specs.Step.{fromWire, fromRadio, actOf, stepOf, freshOf}
 use Rattle.calls.specs.Calls.{entry, runBy, framesFit}
 use Rattle.calls.specs.Examples.{sends}
 
 -- all that a run of written-down calls computes with
 unfoldable pub computes : Unit {0}
-unfolding bytesAt copied agree pick shifted bit bits byte run crcOf goodFrame closedAt definedOnly freshRegisters registerAt withArea withEnd written areaOfBlock areaOfByte endsInRange laterLargest exceedsBefore endAccepted endAllows securityOf sessionOpens radioWrites radioReads wireBits wireWrites wireReads isLocked readRight writeRight mayRead mayWrite isOpen isActive pageBytes radioPassword withRadioPassword freshPasswords controlByte lengthByte enabled controlled isQuiet isSelected deselected fieldAt vccAt freshTag registersInRange airInRange mailboxInRange suppliedInRange hostInRange coreInRange wireInRange inRange pageAcked busInRange memoryAcked mailboxAcked userAcked writtenAll registerAcked passwordAcked systemAcked spaceAcked acked selectOf choose firstOf userWritten passwordWritten systemWritten legWritten settle memoryByte mailboxByte userByte systemByte fetched isLast sentByte dueOf startAt startOf stopAt selectBy dataOf sendAt fetchAt signalOf answerOf bufferOf uidPlace paramPlace ownUid param isKnown takesOption paramBytes isSilent isMute errorOf shutOut badFlags wrongLength judge leavesArea statusOf blockOf blocksOf readOf mayWriteAll writeOf lockOf statusesOf statusReply readConfigOf mailboxAfterWrite writtenCore writeConfigOf readDynamicOf writeDynamicOf takesMessage writeMessageOf lengthOf asked mailboxAfterRead readMessageOf presentOf writePasswordOf stayQuietOf selectUidOf resetToReadyOf serveOf verdictResult radioOf areBytes topValue signalInRange signalBy number firstSays judgement unlessRefused fromWire fromRadio tagInRange actOf stepOf freshOf entry runBy sends framesFit anyHolds commandTable commandOf sizeOf makerDiffers uidDiffers silenceHolds receptionSilences addressSilences requestSilences errorHolds ruleError errorRules serveCommand serveCode rowIn rowOf definedIn
+unfolding bytesAt copied agree pick shifted bit bits byte run crcOf goodFrame closedAt definedOnly freshRegisters registerAt withArea withEnd written areaOfBlock areaOfByte endsInRange laterLargest exceedsBefore endAccepted endAllows securityOf sessionOpens radioWrites radioReads wireBits wireWrites wireReads isLocked readRight writeRight mayRead mayWrite isOpen isActive pageBytes radioPassword withRadioPassword freshPasswords controlByte lengthByte enabled controlled isQuiet isSelected deselected fieldAt vccAt freshTag registersInRange airInRange mailboxInRange suppliedInRange hostInRange coreInRange wireInRange inRange pageAcked busInRange memoryAcked mailboxAcked userAcked writtenAll registerAcked passwordAcked systemAcked spaceAcked acked selectOf choose firstOf userWritten passwordWritten systemWritten legWritten settle memoryByte mailboxByte userByte systemByte fetched isLast sentByte dueOf startAt startOf stopAt selectBy dataOf sendAt fetchAt signalOf answerOf bufferOf uidPlace paramPlace ownUid param isKnown takesOption paramBytes isSilent isMute errorOf shutOut badFlags wrongLength judge leavesArea statusOf blockOf blocksOf readOf mayWriteAll writeOf lockOf statusesOf statusReply readConfigOf mailboxAfterWrite writtenCore writeConfigOf readDynamicOf writeDynamicOf takesMessage writeMessageOf lengthOf asked mailboxAfterRead readMessageOf presentOf writePasswordOf stayQuietOf selectUidOf resetToReadyOf serveOf verdictResult radioOf areBytes signalTable signalFound isFound signalInRange signalIn signalBy number looksAtTag firstSays judgement unlessRefused fromWire fromRadio tagInRange actOf stepOf freshOf entry runBy sends framesFit anyHolds commandTable commandOf sizeOf makerDiffers uidDiffers silenceHolds receptionSilences addressSilences requestSilences errorHolds ruleError errorRules serveCommand serveCode rowIn rowOf definedIn
 computes = tt

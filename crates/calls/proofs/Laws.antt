@@ -14,13 +14,13 @@ use Rattle.refusals.specs.declared.Judgement.the-variants.{RefusedBy}
 use Rattle.refusals.specs.Refusals.{argumentRules, judgement, unlessRefused}
 use Rattle.refusals.proofs.Laws.{judged-case, judged-map}
 use Rattle.refusals.proofs.Ranges.{range-parts}
-use Rattle.model.specs.declared.Signal.{Signal}
-use Rattle.model.specs.Signals.{signalBy}
+use Rattle.signal_table.specs.declared.Signal.{Signal}
 use Rattle.model.specs.Step.{refused, actOf}
 use Rattle.model.specs.Claims.{Fit}
-use Rattle.model.proofs.Acts.{fit-step}
+use Rattle.model.proofs.Acts.{signalOfCall, fit-step}
 use Rattle.model.proofs.Kept.{keeps}
-use Rattle.calls.specs.Calls.{Call, callAnswer, Device, DeviceResult, deviceResult, deviceResultOf, RunResult, runResult, runBy, entry, framesFit}
+use Rattle.refusals.specs.Call.{Call}
+use Rattle.calls.specs.Calls.{callAnswer, Device, DeviceResult, deviceResult, deviceResultOf, RunResult, runResult, runBy, entry, framesFit}
 use Rattle.calls.specs.Claims.{EntryTells, RunsOn}
 
 -- ---- refusals 1 and 4 do not come
@@ -32,19 +32,19 @@ abbrev pub actedBy : Signal → Device → Call → DeviceResult
 actedBy x d c = deviceResultOf (actOf x (d .tag) (d .memory) (c .buffer) (c .frame))
 
 abbrev pub acted : Device → Call → DeviceResult
-acted d c = actedBy (signalBy (c .code) (c .value)) d c
+acted d c = actedBy (signalOfCall c) d c
 
 abbrev pub refusal : Refusal → Device → Call → DeviceResult
 refusal r d c = deviceResult (callAnswer (Refused r) (c .buffer)) d
 
 -- what judging finds by the call's own arguments
 abbrev pub found : Call → Judgement
-found c = judgement (argumentRules (c .buffer) (c .code) (c .value))
+found c = judgement (argumentRules c)
 
 pub call-is : (d : Device) (c : Call) → Fits d → entry d c ≡ unlessRefused (found c) (λ (r : Refusal). refusal r d c) (acted d c)
 unfolding entry
 call-is d c f =
-    ap deviceResultOf (fit-step (d .tag) (d .memory) (c .buffer) (c .code) (c .value) (c .frame) f)
+    ap deviceResultOf (fit-step (d .tag) (d .memory) c f)
     ∙ judged-map deviceResultOf (found c) (λ (r : Refusal). refused r (d .tag) (d .memory) (c .buffer)) _
 
 -- a property of a call, from the refusals and from the signal
@@ -73,7 +73,7 @@ frames-first (c ∷ p) q h =
 
 pub fits-next : (d : Device) (c : Call) → areBytes (c .frame) ≡ true → Fits d → Fits (entry d c .device)
 unfolding entry
-fits-next d c b f = keeps (d .tag) (d .memory) (c .buffer) (c .code) (c .value) (c .frame) b f
+fits-next d c b f = keeps (d .tag) (d .memory) c b f
 
 pub entry-tells : EntryTells
 unfolding entry

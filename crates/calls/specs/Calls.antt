@@ -5,15 +5,9 @@ use Prim.Native.Nat.{ℕ}
 use Rattle.parts.specs.Bytes.{areBytes}
 use Rattle.tag.specs.declared.Tag.{Tag}
 use Rattle.reply.specs.Reply.{ReplyBody, answerOf, bufferOf}
+use Rattle.refusals.specs.Call.{Call}
 use Rattle.model.specs.declared.Answer.{Answer}
 use Rattle.model.specs.Step.{StepResult, fromRadio, stepOf}
-
--- what a call hands in beside the tag and its memory: a reply buffer, a signal's code and value, a frame
-pub record Call : Type 0 where
-  pub buffer : List ℕ
-  pub code : ℕ
-  pub value : ℕ
-  pub frame : List ℕ
 
 -- the answer to a call: the refusal number or 01's answer, with the whole reply buffer as the call leaves it
 pub record CallAnswer : Type 0 where
@@ -51,7 +45,7 @@ abbrev pub deviceResultOf : StepResult → DeviceResult
 deviceResultOf result = deviceResult (callAnswer (result .answer) (result .reply)) (device (result .tag) (result .memory))
 
 unfoldable pub entry : Device → Call → DeviceResult
-entry d call = deviceResultOf (stepOf (d .tag) (d .memory) (call .buffer) (call .code) (call .value) (call .frame))
+entry d call = deviceResultOf (stepOf (d .tag) (d .memory) call)
 
 -- each number fits its type: a frame's bytes are bytes; no other number needs it
 unfoldable pub framesFit : List Call → Bool

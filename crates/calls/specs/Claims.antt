@@ -2,12 +2,13 @@
 use mathlib.Core.Path.{_≡_}
 use mathlib.Core.List.{List, [], _∷_, _++_}
 use Rattle.model.specs.Step.{stepResult, stepOf}
-use Rattle.calls.specs.Calls.{Call, Device, Step, entry, runResult, runBy}
+use Rattle.refusals.specs.Call.{Call}
+use Rattle.calls.specs.Calls.{Device, Step, entry, runResult, runBy}
 
 -- the entry point's result has all that its contract gives: the answer, the tag and both lent buffers
 abbrev pub EntryTells : Type 0
 EntryTells = (d : Device) (call : Call) → let result = entry d call in
-    stepResult (result .says .answer) (result .device .tag) (result .device .memory) (result .says .buffer) ≡ stepOf (d .tag) (d .memory) (call .buffer) (call .code) (call .value) (call .frame)
+    stepResult (result .says .answer) (result .device .tag) (result .device .memory) (result .says .buffer) ≡ stepOf (d .tag) (d .memory) call
 
 -- each call gets the tag and memory that the last one left
 abbrev pub RunsOn : Type 0

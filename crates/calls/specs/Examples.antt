@@ -20,14 +20,15 @@ use Rattle.tag.specs.Parts.{withVcc, withI2cSession, withProgramming, withCount
 use Rattle.mailbox.specs.Parts.{withPut, withEnabled, withHostMessage, withLength}
 use Rattle.mailbox.specs.Mailbox.{emptyMailbox, putMessage}
 use Rattle.crc.specs.Crc.{closed}
-use Rattle.calls.specs.Calls.{Call, Device, device}
+use Rattle.refusals.specs.Call.{Call, handedIn}
+use Rattle.calls.specs.Calls.{Device, device}
 
 abbrev pub zeros : ℕ → List ℕ
 zeros n = replicate n 0
 
--- ---- calls, by the codes of model/specs/Signals, each with a reply buffer of 643 zeros
+-- ---- calls, by the codes of signal_table/specs/Table, each with a reply buffer of 643 zeros
 abbrev pub callOf : ℕ → ℕ → List ℕ → Call
-callOf code value f = record { buffer = zeros replyBytes; code = code; value = value; frame = f }
+callOf code value f = handedIn (zeros replyBytes) code value f
 
 -- VCC and the field, 0 or 1
 abbrev pub vccTo : ℕ → Call

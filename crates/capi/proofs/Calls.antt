@@ -5,20 +5,21 @@ use Prim.Native.Nat.{ℕ}
 use Rattle.keys.specs.Keys.{uidAt}
 use Rattle.state.specs.Layout.{tagOf}
 use Rattle.refusals.specs.declared.Judgement.the-variants.{NoRefusal}
+use Rattle.refusals.specs.Call.{Call}
 use Rattle.refusals.specs.Refusals.{judgement, unlessRefused}
 use Rattle.model.specs.Step.{StepResult, FreshResult, stepOf, freshOf}
 use Rattle.capi.specs.Interface.{answerNumber, callResult, stepCall, freshCallResult, freshCall}
 use Rattle.next_state.specs.After.{keptState}
 use Rattle.next_state.proofs.Whole.{kept-whole}
 use Rattle.library_refusals.specs.Rules.{stepRules, freshCallRules}
-use Rattle.capi.proofs.Narrow.{whole, fresh-whole}
+use Rattle.capi.proofs.Unrefused.{whole, fresh-whole}
 
-pub stepped : (s m o : List ℕ) (code value : ℕ) (f : List ℕ) (e : StepResult) (n : ℕ) (s′ : List ℕ)
-    → judgement (stepRules s m o code value) ≡ NoRefusal
-    → e ≡ stepOf (tagOf s) m o code value f → n ≡ answerNumber (e .answer) → s′ ≡ keptState s (e .answer) (e .tag)
-    → callResult n s′ (e .memory) (e .reply) ≡ stepCall s m o code value f
+pub stepped : (s m : List ℕ) (c : Call) (e : StepResult) (n : ℕ) (s′ : List ℕ)
+    → judgement (stepRules s m c) ≡ NoRefusal
+    → e ≡ stepOf (tagOf s) m c → n ≡ answerNumber (e .answer) → s′ ≡ keptState s (e .answer) (e .tag)
+    → callResult n s′ (e .memory) (e .reply) ≡ stepCall s m c
 unfolding stepCall unlessRefused
-stepped s m o code value f e n s′ none h p q = rw (p, q ∙ kept-whole s (e .answer) (e .tag) (whole s m o code value none), none, h)
+stepped s m c e n s′ none h p q = rw (p, q ∙ kept-whole s (e .answer) (e .tag) (whole s m c none), none, h)
 
 pub freshened : (u m s : List ℕ) (e : FreshResult) (n : ℕ) (s′ : List ℕ)
     → judgement (freshCallRules u m s) ≡ NoRefusal

@@ -1,4 +1,4 @@
-pub mod Narrow
+pub mod Unrefused
 pub mod Refusals
 pub mod Tags
 pub mod Calls

@@ -11,10 +11,11 @@ use Rattle.keys.specs.Keys.{uidAt}
 use Rattle.state.specs.Layout.{tagOf}
 use Rattle.reply.specs.Reply.{nothing}
 use Rattle.refusals.proofs.Laws.{judged-case}
+use Rattle.model.proofs.Acts.{signalOfCall}
 use Rattle.model.proofs.Served.{act-served}
 use Rattle.model.specs.declared.Answer.{Answer}
 use Rattle.model.specs.declared.Answer.the-variants.{Refused, Nothing, Ack, NoAck, Byte, Silence, Reply}
-use Rattle.model.specs.Signals.{signalBy}
+use Rattle.refusals.specs.Call.{Call}
 use Rattle.model.specs.Step.{StepResult, FreshResult, stepOf, freshOf, isRefused}
 use Rattle.capi.specs.Interface.{answerNumber, CallResult, callResult, stepCall, FreshCallResult, freshCallResult, freshCall}
 use Rattle.next_state.specs.After.{stateAfter}
@@ -35,10 +36,10 @@ number-refused (Reply n) h = absurd (omega arith)
 abbrev Keeps : List ℕ → List ℕ → StepResult → Type 0
 Keeps m o e = isRefused (e .answer) ≡ true → (e .memory ≡ m) × (e .reply ≡ o)
 
-step-keeps : (t : Tag) (m o : List ℕ) (code value : ℕ) (f : List ℕ) → Keeps m o (stepOf t m o code value f)
+step-keeps : (t : Tag) (m : List ℕ) (c : Call) → Keeps m (c .buffer) (stepOf t m c)
 unfolding stepOf
-step-keeps t m o code value f =
-    judged-case (Keeps m o) _ _ _ (λ _ _ _. (refl, refl)) (λ _ r. absurd (false≢true (sym (act-served (signalBy code value) t m o f) ∙ r)))
+step-keeps t m c =
+    judged-case (Keeps m (c .buffer)) _ _ _ (λ _ _ _. (refl, refl)) (λ _ r. absurd (false≢true (sym (act-served (signalOfCall c) t m (c .buffer) (c .frame)) ∙ r)))
 
 abbrev Still : List ℕ → List ℕ → List ℕ → CallResult → Type 0
 Still s m o c = c .number < 0x100 → c ≡ callResult (c .number) s m o
@@ -52,8 +53,8 @@ stepped s m o e k h =
 
 pub refused-step-keeps : RefusedStepKeeps
 unfolding stepCall
-refused-step-keeps s m o code value f =
-    judged-case (Still s m o) _ _ _ (λ _ _ _. refl) (λ _. stepped s m o (stepOf (tagOf s) m o code value f) (step-keeps (tagOf s) m o code value f))
+refused-step-keeps s m c =
+    judged-case (Still s m (c .buffer)) _ _ _ (λ _ _ _. refl) (λ _. stepped s m (c .buffer) (stepOf (tagOf s) m c) (step-keeps (tagOf s) m c))
 
 -- ---- the fresh tag
 abbrev KeepsMemory : List ℕ → FreshResult → Type 0

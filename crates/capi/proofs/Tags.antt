@@ -13,10 +13,11 @@ use Rattle.state.proofs.Again.{parted}
 use Rattle.refusals.specs.declared.Refusal.{Refusal}
 use Rattle.refusals.specs.declared.Judgement.{Judgement}
 use Rattle.refusals.specs.declared.Judgement.the-variants.{NoRefusal, RefusedBy}
-use Rattle.refusals.specs.Refusals.{rangeRule, callRules, judgement, unlessRefused}
+use Rattle.refusals.specs.Call.{Call}
+use Rattle.refusals.specs.Refusals.{callRules, laterRules, judgement, unlessRefused}
 use Rattle.refusals.proofs.Laws.{judgement-append, append-idle, NoneApplies}
-use Rattle.model.specs.Signals.{signalBy}
 use Rattle.model.specs.Step.{StepResult, isRefused, refused, actOf, stepOf}
+use Rattle.model.proofs.Acts.{signalOfCall}
 use Rattle.capi.specs.Interface.{answerNumber, CallResult, callResult, stepCall}
 use Rattle.next_state.specs.After.{stateAfter}
 use Rattle.library_refusals.specs.Rules.{stateRule, decodesRule}
@@ -37,21 +38,21 @@ unfolding unlessRefused
 twice f NoRefusal q refuses serves = refl
 twice f (RefusedBy r) q refuses serves = refl
 
-decoded : (s m o : List ℕ) (code value : ℕ) (f : List ℕ) → eqb (length s) stateBytes ≡ true → decodes s ≡ true
-    → stepCall s m o code value f ≡ calledBy s (stepOf (tagOf s) m o code value f)
+decoded : (s m : List ℕ) (c : Call) → eqb (length s) stateBytes ≡ true → decodes s ≡ true
+    → stepCall s m c ≡ calledBy s (stepOf (tagOf s) m c)
 unfolding stepCall stepOf answerNumber isRefused stateAfter pick NoneApplies
-decoded s m o code value f l d =
-    let rules = callRules m o code value in
-    let range = rangeRule (tagOf s) m ∷ [] in
-    let refuses : Refusal → StepResult = λ r. refused r (tagOf s) m o in
-    let serves = actOf (signalBy code value) (tagOf s) m o f in
-    ap (λ (k : Judgement). unlessRefused k (λ (r : Refusal). calledBy s (refuses r)) (calledBy s (stepOf (tagOf s) m o code value f)))
+decoded s m c l d =
+    let rules = callRules m c in
+    let later = laterRules (tagOf s) m c in
+    let refuses : Refusal → StepResult = λ r. refused r (tagOf s) m (c .buffer) in
+    let serves = actOf (signalOfCall c) (tagOf s) m (c .buffer) (c .frame) in
+    ap (λ (k : Judgement). unlessRefused k (λ (r : Refusal). calledBy s (refuses r)) (calledBy s (stepOf (tagOf s) m c)))
     (append-idle rules (stateRule s ∷ decodesRule s ∷ []) (ap not l, (ap not d, tt)))
     ∙ subst (λ (k : Judgement). unlessRefused (judgement rules) (λ (r : Refusal). calledBy s (refuses r)) (calledBy s (unlessRefused k refuses serves)) ≡ calledBy s (unlessRefused k refuses serves))
-    (sym (judgement-append rules range)) (twice (calledBy s) (judgement rules) (judgement range) refuses serves)
+    (sym (judgement-append rules later)) (twice (calledBy s) (judgement rules) (judgement later) refuses serves)
 
 pub steps-the-tag : StepsTheTag
-steps-the-tag t m o code value f fits =
+steps-the-tag t m c fits =
     let d = decodes-encoded t fits in
-    decoded (bytesOf t) m o code value f (decodes-length (bytesOf t) (d .0)) (d .0)
-    ∙ ap (λ (x : Tag). calledBy (bytesOf t) (stepOf x m o code value f)) (d .1)
+    decoded (bytesOf t) m c (decodes-length (bytesOf t) (d .0)) (d .0)
+    ∙ ap (λ (x : Tag). calledBy (bytesOf t) (stepOf x m c)) (d .1)

@@ -4,6 +4,7 @@ use Prim.Native.Nat.{ℕ, _+_}
 use Rattle.keys.specs.Keys.{uidAt}
 use Rattle.state.specs.Layout.{tagOf}
 use Rattle.refusals.specs.declared.Refusal.{Refusal}
+use Rattle.refusals.specs.Call.{Call}
 use Rattle.refusals.specs.Refusals.{number, judgement, unlessRefused}
 use Rattle.model.specs.declared.Answer.{Answer}
 use Rattle.model.specs.declared.Answer.the-variants.{Refused, Nothing, Ack, NoAck, Byte, Silence, Reply}
@@ -33,11 +34,11 @@ pub record CallResult : Type 0 where
 abbrev pub callResult : ℕ → List ℕ → List ℕ → List ℕ → CallResult
 callResult n s m o = record { number = n; state = s; memory = m; reply = o }
 
--- the model's step of the tag; f is the frame. After a refusal every lent byte is as before.
-unfoldable pub stepCall : List ℕ → List ℕ → List ℕ → ℕ → ℕ → List ℕ → CallResult
-stepCall s m o code value f =
-    unlessRefused (judgement (stepRules s m o code value)) (λ (refusal : Refusal). callResult (number refusal) s m o)
-    (let result = stepOf (tagOf s) m o code value f in
+-- the model's step of the tag. After a refusal every lent byte is as before.
+unfoldable pub stepCall : List ℕ → List ℕ → Call → CallResult
+stepCall s m call =
+    unlessRefused (judgement (stepRules s m call)) (λ (refusal : Refusal). callResult (number refusal) s m (call .buffer))
+    (let result = stepOf (tagOf s) m call in
     callResult (answerNumber (result .answer)) (stateAfter s (result .answer) (result .tag)) (result .memory) (result .reply))
 
 -- ---- the fresh tag

@@ -2,6 +2,7 @@
 ghost use mathlib.Core.Path.{_≡_};
 ghost use mathlib.Core.Bool.{true};
 ghost use Rattle.crc.specs.Crc.{crcOf};
+ghost use Rattle.refusals.specs.Call.{handedIn};
 ghost use Rattle.replies_fit.specs.Claims.{replyFits};
 ghost use Rattle.capi.specs.Interface.{answerNumber, callResult, stepCall, freshCallResult, freshCall};
 use keys::Uid;
@@ -35,14 +36,14 @@ pub extern "C" fn st25dv_step(
     value: u32,
     frame: &[u8],
 ) -> u32
-    ensures { λ r. ⌜ callResult r (now (s .exit)) (now (m .exit)) (now (out .exit)) ≡ stepCall (now (s .entry)) (now (m .entry)) (now (out .entry)) code value (now (frame .entry)) ⌝ }
+    ensures { λ r. ⌜ callResult r (now (s .exit)) (now (m .exit)) (now (out .exit)) ≡ stepCall (now (s .entry)) (now (m .entry)) (handedIn (now (out .entry)) code value (now (frame .entry))) ⌝ }
 {
-    let judged = library_refusals::step_refusal(s, m, out, code, value);
+    let judged = library_refusals::step_refusal(s, m, out, code, value, frame);
     match judged {
         Judgement::RefusedBy(why) => why.number() as u32,
         Judgement::NoRefusal => {
             let t = state_decode::decode(s);
-            let o = model::step(t, m, out, code as u8, value as u16, frame);
+            let o = model::step(t, m, out, code, value, frame);
             next_state::keep(o, s);
             let answer = o.answer;
             answer_number(answer)

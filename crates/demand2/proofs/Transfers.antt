@@ -2,55 +2,68 @@
 use mathlib.Core.Path.{_≡_, refl, sym, ap, _∙_}
 use mathlib.Core.Bool.{true, false, _&&_}
 use mathlib.Core.List.{List, [], _∷_}
-use lib.Dec.{leb}
-use lib.ListN.{length}
-use borrow.Author.Tests.{leb-true}
+use borrow.Author.Tests.{not-false}
 use Rattle.parts.specs.Pick.{pick}
 use Rattle.parts.proofs.Bools.{and-left, and-right}
 use Rattle.bus.specs.declared.Bus.{Bus}
 use Rattle.bus.specs.declared.Bus.the-variants.{Started}
 use Rattle.tag.specs.declared.WireSide.{WireSide}
-use Rattle.tag.specs.Layout.{replyBytes}
 use Rattle.tag.specs.Parts.{wireSide, withWire}
 use Rattle.signal.specs.Signal.{sideBus}
 use Rattle.transfer.specs.Legs.{Noted, NotedStart, NotedSend, NotedFetch, NotedStop, NotedVccOff, wireSignal}
 use Rattle.transfer.specs.Whole.{TransferResult}
 use Rattle.transfer.specs.Claim.{runOf}
 use Rattle.transfer.proofs.Transfer.{transfer-by-signals}
-use Rattle.model.specs.declared.Signal.{Signal}
-use Rattle.model.specs.declared.Signal.the-variants.{Wire}
-use Rattle.model.specs.Signals.{signalBy}
-use Rattle.refusals.specs.Signals.{topValue, signalInRange}
+use Rattle.rule_list.specs.RuleList.{firstSays}
+use Rattle.signal_table.specs.declared.Signal.the-variants.{Wire}
+use Rattle.signal_table.specs.Table.{signalTable, signalFound, signalInRange, signalIn, signalBy}
+use Rattle.signal_table.proofs.Laws.{byte-code}
+use Rattle.refusals.specs.declared.Refusal.the-variants.{SignalUnknown}
+use Rattle.refusals.specs.declared.Judgement.the-variants.{NoRefusal}
+use Rattle.refusals.specs.Refusals.{number, argumentRules, judgement}
+use Rattle.refusals.proofs.Laws.{appliesOf, not-refused}
 use Rattle.model.specs.Step.{actOf}
 use Rattle.model.specs.Claims.{Fit}
-use Rattle.model.proofs.Acts.{fit-acts}
+use Rattle.model.proofs.Acts.{signalOfCall, fit-acts}
 use Rattle.model.proofs.Kept.{wire-fit}
-use Rattle.calls.specs.Calls.{Call, Device, device, DeviceResult, deviceResultOf, RunResult, runResult, entry, runBy}
-use Rattle.demand2.specs.Demand2.{WireCall, callBy, wireCalls, signals, sendsByte, allServed, answersOf, TransferServed}
+use Rattle.refusals.specs.Call.{Call}
+use Rattle.calls.specs.Calls.{Device, device, DeviceResult, deviceResultOf, RunResult, runResult, entry, runBy}
+use Rattle.demand2.specs.Demand2.{WireCall, callBy, wireCalls, signals, isServed, allServed, answersOf, TransferServed}
+use Rattle.demand2.proofs.Frames.{served-judged}
 
 -- ---- a call that is not refused
-entry-acts : (d : Device) (c : Call) (x : Signal) → Fit (d .tag) (d .memory) → leb replyBytes (length (c .buffer)) ≡ true
-    → signalInRange (c .code) (c .value) ≡ true → signalBy (c .code) (c .value) ≡ x
-    → entry d c ≡ deviceResultOf (actOf x (d .tag) (d .memory) (c .buffer) (c .frame))
-unfolding entry
-entry-acts d c x f o r q =
-    ap deviceResultOf
-    (fit-acts (d .tag) (d .memory) (c .buffer) (c .code) (c .value) (c .frame) f (leb-true replyBytes (length (c .buffer)) o) r
-    ∙ ap (λ (x : Signal). actOf x (d .tag) (d .memory) (c .buffer) (c .frame)) q)
-
 abbrev noted : Device → Noted → WireCall → DeviceResult
 noted d n w = deviceResultOf (actOf (Wire (wireSignal n)) (d .tag) (d .memory) (w .buffer) (w .frame))
 
+-- the codes are the signals'
+known : (c : Call) → judgement (argumentRules c) ≡ NoRefusal → signalInRange (c .code) (c .value) ≡ true
+unfolding appliesOf firstSays number pick
+known c h = not-false _ (not-refused SignalUnknown (argumentRules c) h)
+
+by-code : (n : Noted) (w : WireCall) → judgement (argumentRules (callBy n w)) ≡ NoRefusal → signalOfCall (callBy n w) ≡ Wire (wireSignal n)
+unfolding callBy wireSignal signalFound signalTable firstSays signalIn signalBy pick
+by-code NotedStart w h = refl
+by-code (NotedSend x) w h = byte-code x (known (callBy (NotedSend x) w) h)
+by-code (NotedFetch true) w h = refl
+by-code (NotedFetch false) w h = refl
+by-code NotedStop w h = refl
+by-code NotedVccOff w h = refl
+
+handed-buffer : (n : Noted) (w : WireCall) → (callBy n w .buffer ≡ w .buffer) × (callBy n w .frame ≡ w .frame)
+unfolding callBy
+handed-buffer NotedStart w = (refl, refl)
+handed-buffer (NotedSend x) w = (refl, refl)
+handed-buffer (NotedFetch ack) w = (refl, refl)
+handed-buffer NotedStop w = (refl, refl)
+handed-buffer NotedVccOff w = (refl, refl)
+
 -- a noted signal's call acts as that signal
-entry-notes : (d : Device) (n : Noted) (w : WireCall) → Fit (d .tag) (d .memory) → leb replyBytes (length (w .buffer)) ≡ true
-    → sendsByte n ≡ true → entry d (callBy n w) ≡ noted d n w
-unfolding callBy sendsByte wireSignal signalInRange topValue signalBy pick
-entry-notes d NotedStart w f o h = entry-acts d (callBy NotedStart w) (Wire (wireSignal NotedStart)) f o refl refl
-entry-notes d (NotedSend x) w f o h = entry-acts d (callBy (NotedSend x) w) (Wire (wireSignal (NotedSend x))) f o h refl
-entry-notes d (NotedFetch true) w f o h = entry-acts d (callBy (NotedFetch true) w) (Wire (wireSignal (NotedFetch true))) f o refl refl
-entry-notes d (NotedFetch false) w f o h = entry-acts d (callBy (NotedFetch false) w) (Wire (wireSignal (NotedFetch false))) f o refl refl
-entry-notes d NotedStop w f o h = entry-acts d (callBy NotedStop w) (Wire (wireSignal NotedStop)) f o refl refl
-entry-notes d NotedVccOff w f o h = entry-acts d (callBy NotedVccOff w) (Wire (wireSignal NotedVccOff)) f o refl refl
+entry-notes : (d : Device) (n : Noted) (w : WireCall) → Fit (d .tag) (d .memory) → isServed (callBy n w) ≡ true → entry d (callBy n w) ≡ noted d n w
+unfolding entry
+entry-notes d n w f h =
+    let none = served-judged _ h in
+    let b = handed-buffer n w in
+    ap deviceResultOf (fit-acts (d .tag) (d .memory) (callBy n w) f none ∙ rw (by-code n w none, b .0, b .1))
 
 -- ---- a run of such calls is the run of their signals
 abbrev left : Device → TransferResult → List WireCall → RunResult
@@ -65,12 +78,12 @@ run-notes : (ws : List WireCall) (d : Device) → Fit (d .tag) (d .memory) → a
 unfolding runBy wireCalls signals allServed answersOf runOf actOf
 run-notes [] d f h = refl
 run-notes (w ∷ ws) d f h =
-    let own = and-left (leb replyBytes (length (w .buffer)) && sendsByte (w .signal)) (allServed ws) h in
-    let n = entry-notes d (w .signal) w f (and-left _ (sendsByte (w .signal)) own) (and-right (leb replyBytes (length (w .buffer))) _ own) in
+    let own = isServed (callBy (w .signal) w) in
+    let n = entry-notes d (w .signal) w f (and-left own (allServed ws) h) in
     let x = wireSignal (w .signal) in
     ap (λ (e : DeviceResult). then e (runBy entry (e .device) (wireCalls ws))) n
     ∙ ap (then (noted d (w .signal) w))
-    (run-notes ws (noted d (w .signal) w .device) (wire-fit x (d .tag) (d .memory) (w .buffer) (w .frame) f) (and-right (leb replyBytes (length (w .buffer)) && sendsByte (w .signal)) (allServed ws) h))
+    (run-notes ws (noted d (w .signal) w .device) (wire-fit x (d .tag) (d .memory) (w .buffer) (w .frame) f) (and-right own (allServed ws) h))
 
 -- ---- the claim
 started : (w : WireSide) (b : Bus) → w .host .bus ≡ b → sideBus b w ≡ w

@@ -3,7 +3,8 @@ use mathlib.Core.Path.{_≡_, refl, sym, ap, subst, _∙_}
 use mathlib.Core.Bool.{true, false, false≢true}
 use mathlib.Core.List.{List, [], _∷_, _++_, append-assoc, append-nil}
 use Rattle.model.specs.Step.{transferOpen}
-use Rattle.calls.specs.Calls.{Call, CallAnswer, Device, RunResult, entry, runBy, framesFit}
+use Rattle.refusals.specs.Call.{Call}
+use Rattle.calls.specs.Calls.{CallAnswer, Device, RunResult, entry, runBy, framesFit}
 use Rattle.waiting.specs.Waiting.{Waiting, noTransfer, inside, waitStep, waitRun}
 use Rattle.demand3.specs.Demand3.{isClosed, Agrees, EveryList, Demand3, EndsAlike}
 use Rattle.calls.proofs.Laws.{Fits, first-fits, rest-fits, fits-next}

@@ -3,21 +3,21 @@ use mathlib.Core.Path.{_≡_, refl, sym, ap, _∙_}
 use mathlib.Core.Bool.{Bool, true, false, not, _&&_, false≢true}
 use Rattle.parts.proofs.Bools.{and-left, and-right}
 use Rattle.wire_claims.proofs.Line.{registers-stay}
-use Rattle.parts.proofs.Picks.{pick-case}
-use Rattle.rule_list.specs.RuleList.{firstSays}
+use Rattle.rule_list.specs.RuleList.{anyHolds}
 use Rattle.refusals.specs.declared.Refusal.{Refusal}
-use Rattle.refusals.specs.declared.Judgement.{Judgement}
-use Rattle.refusals.specs.declared.Judgement.the-variants.{NoRefusal, RefusedBy}
-use Rattle.refusals.specs.Refusals.{judgement}
+use Rattle.refusals.specs.declared.Judgement.the-variants.{RefusedBy}
+use Rattle.refusals.specs.Refusals.{number, looksAtTag, argumentRules}
+use Rattle.refusals.proofs.Laws.{refused-by}
 use Rattle.model.proofs.Served.{act-served}
 use Rattle.model.specs.declared.Answer.{Answer}
 use Rattle.model.specs.declared.Answer.the-variants.{Refused, Nothing, Ack, NoAck, Byte, Silence, Reply as ReplyOf}
-use Rattle.model.specs.declared.Signal.{Signal}
-use Rattle.model.specs.declared.Signal.the-variants.{Wire, Field, Frame}
-use Rattle.model.specs.Signals.{signalBy}
+use Rattle.signal_table.specs.declared.Signal.{Signal}
+use Rattle.signal_table.specs.declared.Signal.the-variants.{Wire, Field, Frame}
+use Rattle.signal_table.specs.Table.{signalBy}
 use Rattle.model.specs.Step.{transferOpen, actOf, isRefused}
 use Rattle.tag.specs.Parts.{wireSide}
-use Rattle.calls.specs.Calls.{Call, Device, DeviceResult, deviceResult, entry, callReply}
+use Rattle.refusals.specs.Call.{Call}
+use Rattle.calls.specs.Calls.{Device, DeviceResult, deviceResult, entry, callReply}
 use Rattle.demand3.specs.Demand3.{refusedByState, isFrame, struck, shutReply}
 use Rattle.calls.proofs.Laws.{Fits, actedBy, found, call-case, supplied}
 use Rattle.waiting.proofs.Frames.{frame-shut}
@@ -59,16 +59,10 @@ call-stays d c f =
     (act-stays (signalBy (c .code) (c .value)) d c f)
 
 -- ---- its answer is not refusal 1 or 4
-unfoldable byState : Judgement → Bool
-byState NoRefusal = false
-byState (RefusedBy r) = refusedByState (Refused r)
-
--- the call's own arguments tell 2 and 3
+-- the call's own arguments tell none of these
 argument-judged : (c : Call) (r : Refusal) → found c ≡ RefusedBy r → refusedByState (Refused r) ≡ false
-unfolding judgement firstSays byState refusedByState
-argument-judged c r h =
-    let P : Judgement → Type 0 = λ j. byState j ≡ false in
-    ap byState (sym h) ∙ pick-case P _ _ _ (λ k. refl) (λ k. pick-case P _ _ _ (λ l. refl) (λ l. refl))
+unfolding refusedByState looksAtTag number anyHolds
+argument-judged c r h = refused-by looksAtTag (argumentRules c) r refl h
 
 served-judged : (a : Answer) → isRefused a ≡ false → refusedByState a ≡ false
 unfolding isRefused refusedByState

@@ -9,7 +9,8 @@ use Rattle.registers.specs.declared.Registers.{Registers}
 use Rattle.keys.specs.declared.Uid.{Uid}
 use Rattle.tag.specs.declared.Tag.{Tag}
 use Rattle.model.specs.Step.{transferOpen}
-use Rattle.calls.specs.Calls.{Call, CallAnswer, Device, DeviceResult, RunResult, runResult, entry, runBy, framesFit, callReply}
+use Rattle.refusals.specs.Call.{Call}
+use Rattle.calls.specs.Calls.{CallAnswer, Device, DeviceResult, RunResult, runResult, entry, runBy, framesFit, callReply}
 use Rattle.demand3.specs.Demand3.{stateRefused, struck, others, otherAnswers, Shut, startAfter, EachStruck, AllShut, RepliesShut}
 use Rattle.calls.proofs.Laws.{Fits, first-fits, rest-fits, fits-next}
 use Rattle.waiting.proofs.Frames.{shutBy}

@@ -12,25 +12,20 @@ use Rattle.errors.specs.declared.RadioError.the-variants.{ShutOut}
 use Rattle.reply.specs.Reply.{ReplyBody, nothing, fault}
 use Rattle.judge.specs.Judge.{isMute}
 use Rattle.silence.specs.Silence.{isSilent}
-use Rattle.refusals.specs.declared.Refusal.the-variants.{MemoryLength, ReplyShort, SignalUnknown, OutOfRange, StateLength, UidLength}
 use Rattle.model.specs.declared.Answer.{Answer}
 use Rattle.model.specs.declared.Answer.the-variants.{Refused, Nothing, Ack, NoAck, Byte, Silence, Reply as ReplyOf}
-use Rattle.model.specs.declared.Signal.{Signal}
-use Rattle.model.specs.declared.Signal.the-variants.{Wire, Field, Frame}
-use Rattle.model.specs.Signals.{signalBy}
+use Rattle.signal_table.specs.declared.Signal.{Signal}
+use Rattle.signal_table.specs.declared.Signal.the-variants.{Wire, Field, Frame}
+use Rattle.signal_table.specs.Table.{signalBy}
 use Rattle.model.specs.Step.{isRefused, transferOpen}
-use Rattle.refusals.specs.Refusals.{tagInRange}
-use Rattle.calls.specs.Calls.{framesFit, callReply, Call, CallAnswer, Device, Step, runResult, runBy, entry}
+use Rattle.refusals.specs.Refusals.{looksAtTag, tagInRange}
+use Rattle.refusals.specs.Call.{Call}
+use Rattle.calls.specs.Calls.{framesFit, callReply, CallAnswer, Device, Step, runResult, runBy, entry}
 use Rattle.waiting.specs.Waiting.{Waiting, noTransfer, inside, waitRun}
 
 -- ---- refusals 1 and 4 never occur
 unfoldable pub refusedByState : Answer → Bool
-refusedByState (Refused MemoryLength) = true
-refusedByState (Refused ReplyShort) = false
-refusedByState (Refused SignalUnknown) = false
-refusedByState (Refused OutOfRange) = true
-refusedByState (Refused StateLength) = false
-refusedByState (Refused UidLength) = false
+refusedByState (Refused refusal) = looksAtTag refusal
 refusedByState Nothing = false
 refusedByState Ack = false
 refusedByState NoAck = false

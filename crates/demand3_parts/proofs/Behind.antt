@@ -16,10 +16,11 @@ use Rattle.bus.specs.declared.Bus.the-variants.{Idle, Started, ReadLeg, WriteLe
 use Rattle.tag.specs.declared.Tag.{Tag}
 use Rattle.bus.specs.Bus.{isOpen, pageBytes}
 use Rattle.ranges.specs.Ranges.{airInRange, hostInRange}
-use Rattle.model.specs.Signals.{signalBy}
+use Rattle.signal_table.specs.Table.{signalBy}
 use Rattle.model.specs.Step.{transferOpen, isRefused}
 use Rattle.refusals.proofs.Ranges.{range-parts}
-use Rattle.calls.specs.Calls.{Call, CallAnswer, Device, DeviceResult, entry, runBy, framesFit, callReply}
+use Rattle.refusals.specs.Call.{Call}
+use Rattle.calls.specs.Calls.{CallAnswer, Device, DeviceResult, entry, runBy, framesFit, callReply}
 use Rattle.calls.specs.Examples.{_but_, radioSession, onBus, fieldIs}
 use Rattle.waiting.specs.Waiting.{noTransfer}
 use Rattle.demand3.specs.Demand3.{isFrame, struck, shutReply, startAfter, EachStruck, Same, EveryList, Unchanged, RepliesShut}

@@ -14,9 +14,10 @@ use Rattle.errors.specs.declared.RadioError.the-variants.{ShutOut}
 use Rattle.reply.specs.Reply.{nothing, fault, answerOf}
 use Rattle.model.specs.declared.Answer.{Answer}
 use Rattle.model.specs.declared.Answer.the-variants.{Refused, Nothing, Ack, NoAck, Byte, Silence, Reply}
-use Rattle.model.specs.Signals.{signalBy}
+use Rattle.signal_table.specs.Table.{signalBy}
 use Rattle.model.specs.Step.{fromRadio, transferOpen, isRefused}
-use Rattle.calls.specs.Calls.{Call, CallAnswer, Device, DeviceResult, deviceResult, Step, RunResult, runResult, entry, runBy, framesFit, callReply}
+use Rattle.refusals.specs.Call.{Call}
+use Rattle.calls.specs.Calls.{CallAnswer, Device, DeviceResult, deviceResult, Step, RunResult, runResult, entry, runBy, framesFit, callReply}
 use Rattle.demand3.specs.Demand3.{stateRefused, isFrame, struck, others, otherAnswers, shutReply, startAfter, EachStruck, Same, EveryList, RepliesShut}
 use Rattle.demand3_parts.specs.Follows.{JudgedFollows, StrikingFollows, AnswersShut, BytesFollow}
 use Rattle.calls.proofs.Laws.{frames-first, Fits, first-fits, rest-fits, fits-next}

@@ -1,7 +1,8 @@
 -- Demand 3 has each of its parts, so that a tag that a part tells is refuted. Assumes nothing.
 use mathlib.Core.List.{List, [], _∷_}
 use Rattle.tag.specs.declared.Tag.{Tag}
-use Rattle.calls.specs.Calls.{Call, Device, Step}
+use Rattle.refusals.specs.Call.{Call}
+use Rattle.calls.specs.Calls.{Device, Step}
 use Rattle.demand3.specs.Demand3.{Unchanged, RepliesShut, Shut, startAfter, EachStruck, AllShut}
 use Rattle.wrong_tags.specs.Told.{bySame, byJudged, byStriking, byUnchanged, byReply, partOf, WrongTag, AllTold}
 use Rattle.wrong_tags.specs.Pinned.{wrongTags}

@@ -2,7 +2,8 @@
 use mathlib.Core.Path.{_≡_}
 use mathlib.Core.List.{List}
 use Rattle.tag.specs.declared.Tag.{Tag}
-use Rattle.calls.specs.Calls.{Call, Device, Step, callReply}
+use Rattle.refusals.specs.Call.{Call}
+use Rattle.calls.specs.Calls.{Device, Step, callReply}
 use Rattle.demand3.specs.Demand3.{shutReply, RepliesShut, EachStruck, Same, Judged, Striking, EveryList}
 
 -- a tag that answers every list as the waiting tag does never gives refusal 1 or 4

@@ -1,7 +1,8 @@
 -- Of the parts that do not follow from `same` (Follows.antt beside this) each has a wrong tag that only it tells: all else holds for every list.
 use mathlib.Core.Path.{_≡_}
 use mathlib.Core.List.{List}
-use Rattle.calls.specs.Calls.{Call, Device, entry, runBy}
+use Rattle.refusals.specs.Call.{Call}
+use Rattle.calls.specs.Calls.{Device, entry, runBy}
 use Rattle.demand3.specs.Demand3.{Unchanged, RepliesShut, EachStruck, Same, EveryList}
 use Rattle.wrong_tags.specs.Pinned.{sessionPastRange, marksFrames, hidesField}
 

@@ -106,8 +106,8 @@ fn call(run: EntryRun, m: &mut [u8], out: &mut [u8], bytes: &[u8]) -> EntryLineO
         t,
         &mut m[0..memory],
         &mut out[0..reply],
-        code,
-        value,
+        code as u32,
+        value as u32,
         &bytes[3..],
     );
     let a = o.answer;

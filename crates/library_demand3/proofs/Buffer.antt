@@ -11,10 +11,11 @@ use Rattle.parts.proofs.Bools.{and-left, and-right, and-both}
 use Rattle.tag.specs.declared.Tag.{Tag}
 use Rattle.state.specs.Layout.{bytesOf, tagOf}
 use Rattle.reply.specs.Reply.{nothing, body, answerOf}
-use Rattle.model.specs.Signals.{signalBy}
+use Rattle.signal_table.specs.Table.{signalBy}
 use Rattle.model.specs.Step.{fromRadio, transferOpen, isRefused}
 use Rattle.capi.specs.Interface.{answerNumber}
-use Rattle.calls.specs.Calls.{Call, Device, device, DeviceResult, entry, runBy, framesFit, callReply}
+use Rattle.refusals.specs.Call.{Call}
+use Rattle.calls.specs.Calls.{Device, device, DeviceResult, entry, runBy, framesFit, callReply}
 use Rattle.waiting.specs.Waiting.{noTransfer, waitRun}
 use Rattle.demand3.specs.Demand3.{isClosed, isFrame, struck, shutReply, startAfter}
 use Rattle.calls.proofs.Laws.{first-fits, rest-fits, frames-first, Fits, fits-next}
@@ -93,7 +94,7 @@ module _ (step : LibraryStep) where
         let both = and-left (transferOpen (tagOf s) && frame) unrefused h in
         and-both (transferOpen (d .tag) && frame) (not (isRefused (entry d c .says .answer)))
         (and-both (transferOpen (d .tag)) frame (by-open (transferOpen (d .tag)) refl (and-left (transferOpen (tagOf s)) frame both)) (and-right (transferOpen (tagOf s)) frame both))
-        (ap not (sym (refusal-number (entry d c .says .answer))) ∙ ap (λ (a : LibraryAnswer). not (ltb (a .number) 0x100)) (sym answer-is)
+        (ap not (sym (refusal-number d c)) ∙ ap (λ (a : LibraryAnswer). not (ltb (a .number) 0x100)) (sym answer-is)
         ∙ and-right (transferOpen (tagOf s) && frame) unrefused h)
 
     shut-answer : libraryStruck step s m c ≡ true → answerBy (step s m c) ≡ inNumber (callReply (shutReply (d .tag) (d .tag .air) (c .frame)) (c .buffer))

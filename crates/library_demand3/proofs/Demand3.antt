@@ -12,7 +12,8 @@ use Rattle.state.proofs.Again.{encodes-decoded}
 use Rattle.state.proofs.Decoded.{decoded-fits}
 use Rattle.model.specs.Step.{transferOpen}
 use Rattle.refusals.specs.Refusals.{tagInRange}
-use Rattle.calls.specs.Calls.{Call, Device, device, entry, runBy, framesFit}
+use Rattle.refusals.specs.Call.{Call}
+use Rattle.calls.specs.Calls.{Device, device, entry, runBy, framesFit}
 use Rattle.waiting.specs.Waiting.{noTransfer, waitRun}
 use Rattle.demand3.specs.Demand3.{isClosed}
 use Rattle.demand3.proofs.Demand3.{demand-3, ends-alike}

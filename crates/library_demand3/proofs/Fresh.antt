@@ -2,9 +2,10 @@
 use mathlib.Core.Path.{_≡_, refl, sym, ap, subst, _∙_}
 use mathlib.Core.Bool.{true, false, not}
 use mathlib.Core.List.{List}
-use Prim.Native.Nat.{ℕ, _<_}
+use Prim.Native.Nat.{ℕ}
 use native.Mathlib.Omega.{arith}
-use lib.Dec.{eqb}
+use lib.Dec.{ltb, eqb}
+use borrow.Author.Tests.{ltb-true, not-false}
 use lib.ListN.{length, replicate}
 use Rattle.parts.specs.Pick.{pick}
 use Rattle.parts.specs.Bytes.{areBytes}
@@ -22,11 +23,12 @@ use Rattle.state.proofs.AreBytes.{encodes-bytes}
 use Rattle.state.proofs.Decoded.{eight-run}
 use Rattle.model.specs.declared.Answer.the-variants.{Nothing}
 use Rattle.model.specs.Step.{transferOpen, freshOf, isRefused}
-use Rattle.rule_list.specs.RuleList.{firstSays}
+use Rattle.rule_list.specs.RuleList.{anyHolds, firstSays}
 use Rattle.refusals.specs.declared.Refusal.{Refusal}
-use Rattle.refusals.specs.declared.Refusal.the-variants.{MemoryLength, ReplyShort, SignalUnknown, OutOfRange, StateLength, UidLength}
+use Rattle.refusals.specs.declared.Refusal.the-variants.{MemoryLength}
+use Rattle.refusals.specs.declared.Judgement.the-variants.{RefusedBy}
 use Rattle.refusals.specs.Refusals.{number, tagInRange, judgement, unlessRefused}
-use Rattle.refusals.proofs.Laws.{judged-case, none-applies, NoneApplies}
+use Rattle.refusals.proofs.Laws.{judged-case, appliesOf, not-refused, refused-by}
 use Rattle.model.proofs.Kept.{fresh-fits}
 use Rattle.capi.specs.Interface.{answerNumber, FreshCallResult, freshCallResult, freshCall}
 use Rattle.next_state.specs.After.{stateAfter}
@@ -46,21 +48,17 @@ served : (u m s : List ℕ) → not (eqb (length m) memoryBytes) ≡ false
 unfolding freshOf stateAfter isRefused judgement firstSays unlessRefused pick
 served u m s h = rw h
 
-number-small : (r : Refusal) → number r < 0x100
-unfolding number
-number-small MemoryLength = omega arith
-number-small ReplyShort = omega arith
-number-small SignalUnknown = omega arith
-number-small OutOfRange = omega arith
-number-small StateLength = omega arith
-number-small UidLength = omega arith
+-- the refusals' numbers are below those of the other answers
+number-small : (u m s : List ℕ) (r : Refusal) → judgement (freshCallRules u m s) ≡ RefusedBy r → ltb (number r) 0x100 ≡ true
+unfolding number anyHolds
+number-small u m s r h = not-false _ (refused-by (λ (r : Refusal). not (ltb (number r) 0x100)) (freshCallRules u m s) r refl h)
 
 -- one that is not refused
 fresh-is : (u m s : List ℕ) → freshCall u m s .number ≡ answerNumber Nothing → freshCall u m s ≡ freshCallResult (answerNumber Nothing) (bytesOf (fresh u)) zeros
-unfolding freshCall answerNumber NoneApplies
+unfolding freshCall answerNumber appliesOf firstSays number pick
 fresh-is u m s =
     let P : FreshCallResult → Type 0 = λ c. c .number ≡ 0x100 → c ≡ freshCallResult (answerNumber Nothing) (bytesOf (fresh u)) zeros in
-    judged-case P _ _ _ (λ r _ n. absurd (omega (arith, number-small r, n))) (λ none _. served u m s (none-applies (freshCallRules u m s) none .0))
+    judged-case P _ _ _ (λ r h n. absurd (omega (arith, ltb-true (number r) 0x100 (number-small u m s r h), n))) (λ none _. served u m s (not-refused MemoryLength (freshCallRules u m s) none))
 
 -- ---- its tag fits
 fresh-tag-fits : (u : List ℕ) → areBytes u ≡ true → Fits (fresh u)

@@ -3,26 +3,20 @@ use mathlib.Core.Path.{_≡_, subst}
 use mathlib.Core.Bool.{true}
 use mathlib.Core.List.{List}
 use Prim.Native.Nat.{ℕ, _<_}
-use native.Mathlib.Omega.{arith}
-use lib.Dec.{eqb}
-use borrow.Author.Tests.{eqb-true, ltb-true}
+use borrow.Author.Tests.{ltb-true}
 use Rattle.parts.specs.Bytes.{areBytes}
 use Rattle.parts.proofs.Below.{Below, bytes-below, are-below}
-use Rattle.parts.proofs.Picks.{pick-case}
 use Rattle.tag.specs.declared.Tag.{Tag}
 use Rattle.tag.specs.Parts.{wireSide}
 use Rattle.reply.specs.Outcome.{radioSide}
-use Rattle.model.specs.declared.Signal.{Signal}
-use Rattle.model.specs.declared.Signal.the-variants.{Wire, Field, Frame}
-use Rattle.model.specs.Signals.{signalBy}
-use Rattle.refusals.specs.Signals.{signalInRange}
+use Rattle.signal_table.specs.declared.Signal.{Signal}
+use Rattle.signal_table.specs.declared.Signal.the-variants.{Wire, Field, Frame}
+use Rattle.signal_table.proofs.Laws.{sent, sent-below}
 use Rattle.model.specs.Step.{StepResult, transferOpen, actOf, stepOf}
-use Rattle.wire_claims.specs.Claims.{sentByte}
 use Rattle.model.specs.Claims.{Fit}
 use Rattle.refusals.proofs.Laws.{judged-case}
-use Rattle.model.proofs.Acts.{size-of, signal-of, range-of, acts}
+use Rattle.model.proofs.Acts.{signalOfCall, size-of, range-of, acts}
 use Rattle.model.proofs.Kept.{keeps}
-use Rattle.model.proofs.Value.{sent-fits}
 use Rattle.state.specs.Claims.{Fits}
 use Rattle.wire_claims.proofs.Line.{keeps-counter}
 use Rattle.wire_claims.proofs.Bytes.{keeps-bytes}
@@ -30,23 +24,6 @@ use Rattle.library_demand3.specs.Kept.{KeepsFits}
 use Rattle.library_demand3.proofs.WireKept.{highByteOf, wire-sound}
 use Rattle.library_demand3.proofs.RadioKept.{radio-sound}
 use Rattle.library_demand3.proofs.InRange.{fits-in-range, high-below}
-
--- ---- the byte that a signal in range sends
-unfoldable sent : Signal → ℕ
-sent (Wire x) = sentByte x
-sent (Field on) = 0
-sent Frame = 0
-
-sent-below : (code value : ℕ) → signalInRange code value ≡ true → sent (signalBy code value) < 256
-unfolding signalBy sent sentByte
-sent-below code value h =
-    let P : Signal → Type 0 = λ x. sent x < 256 in
-    pick-case P (eqb code 1) _ _ (λ _. omega arith)
-    (λ _. pick-case P (eqb code 2) _ _ (λ _. omega arith)
-    (λ _. pick-case P (eqb code 3) _ _ (λ _. omega arith)
-    (λ _. pick-case P (eqb code 4) _ _ (λ e. sent-fits code value (eqb-true code 4 e) h)
-    (λ _. pick-case P (eqb code 5) _ _ (λ _. omega arith)
-    (λ _. pick-case P (eqb code 6) _ _ (λ _. omega arith) (λ _. pick-case P (eqb code 7) _ _ (λ _. omega arith) (λ _. omega arith)))))))
 
 -- ---- a signal that acts
 abbrev F : StepResult → Type 0
@@ -74,9 +51,9 @@ module _ (t : Tag) (m o f : List ℕ) (fits : Fits t) (h : Below m) where
 -- ---- a call
 pub keeps-fits : KeepsFits
 unfolding stepOf
-keeps-fits t m o code value f fits are frame =
+keeps-fits t m c fits are frame =
     judged-case F _ _ _ (λ r _. (fits, are))
     (λ none.
-    let fit : Fit t m = record { range = range-of t m o code value none; size = size-of t m o code value none } in
-    act-fits t m o f fits (bytes-below m are) (signalBy code value) (sent-below code value (signal-of t m o code value none)) (bytes-below f frame)
-    (subst (λ (e : StepResult). Fit (e .tag) (e .memory)) (acts t m o code value f none) (keeps t m o code value f frame fit)))
+    let fit : Fit t m = record { range = range-of t m c none; size = size-of t m c none } in
+    act-fits t m (c .buffer) (c .frame) fits (bytes-below m are) (signalOfCall c) (sent-below (c .code) (c .value)) (bytes-below (c .frame) frame)
+    (subst (λ (e : StepResult). Fit (e .tag) (e .memory)) (acts t m c none) (keeps t m c frame fit)))

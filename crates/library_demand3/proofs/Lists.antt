@@ -1,30 +1,34 @@
 -- Lists of the library's calls are lists of the entry point's. Assumes nothing.
 use mathlib.Core.Path.{_≡_, refl, sym, ap, subst, _∙_}
-use mathlib.Core.Bool.{Bool, true, not, _&&_, false≢true}
+use mathlib.Core.Bool.{Bool, true, false, not, _&&_, false≢true}
 use mathlib.Core.List.{List, [], _∷_}
 use Prim.Native.Nat.{ℕ, _+_}
 use native.Mathlib.Omega.{arith}
 use lib.Dec.{ltb}
-use borrow.Author.Tests.{le-ltb}
+use borrow.Author.Tests.{le-ltb, not-false}
 use Rattle.parts.specs.Bytes.{areBytes}
 use Rattle.parts.proofs.Picks.{pick-case}
 use Rattle.tag.specs.declared.Tag.{Tag}
 use Rattle.state.specs.Layout.{bytesOf, tagOf}
 use Rattle.state.specs.Claims.{Fits}
 use Rattle.state.proofs.There.{decodes-encoded}
-use Rattle.refusals.specs.declared.Refusal.the-variants.{MemoryLength, ReplyShort, SignalUnknown, OutOfRange, StateLength, UidLength}
+use Rattle.rule_list.specs.RuleList.{anyHolds}
+use Rattle.refusals.specs.declared.Refusal.{Refusal}
+use Rattle.refusals.specs.declared.Judgement.the-variants.{RefusedBy}
 use Rattle.model.specs.declared.Answer.{Answer}
 use Rattle.model.specs.declared.Answer.the-variants.{Refused, Nothing, Ack, NoAck, Byte, Silence, Reply}
-use Rattle.model.specs.Signals.{signalBy}
+use Rattle.signal_table.specs.Table.{signalBy}
 use Rattle.model.specs.Step.{StepResult, transferOpen, stepOf, isRefused}
-use Rattle.refusals.specs.Refusals.{number}
+use Rattle.refusals.specs.Refusals.{number, entryRules, judgement}
 use Rattle.capi.specs.Interface.{answerNumber, CallResult, callResult}
 use Rattle.next_state.specs.After.{stateAfter}
-use Rattle.refusals.proofs.Laws.{judged-case}
+use Rattle.refusals.proofs.Laws.{judged-case, refused-by}
+use Rattle.model.proofs.Acts.{signalOfCall}
 use Rattle.model.proofs.Served.{act-served}
 use Rattle.calls.proofs.Laws.{first-fits, rest-fits}
 use Rattle.capi.proofs.Tags.{steps-the-tag}
-use Rattle.calls.specs.Calls.{Call, Device, device, DeviceResult, RunResult, entry, runBy, framesFit}
+use Rattle.refusals.specs.Call.{Call}
+use Rattle.calls.specs.Calls.{Device, device, DeviceResult, RunResult, entry, runBy, framesFit}
 use Rattle.demand3.specs.Demand3.{isFrame, struck, Shut, startAfter, EachStruck, AllShut}
 use Rattle.library_demand3.specs.Calls.{exported, answerBy, LibraryRunResult, libraryRunResult, libraryRun}
 use Rattle.library_demand3.specs.Claim.{inNumber, inNumbers, libraryStruck, shutAnswer, EachLibraryStruck, LibraryShut}
@@ -35,19 +39,18 @@ abbrev T : Tag → StepResult → Type 0
 T t e = isRefused (e .answer) ≡ true → e .tag ≡ t
 
 -- "A refusal returns .. the state handed in"
-refused-tag : (t : Tag) (m o : List ℕ) (code value : ℕ) (f : List ℕ) → T t (stepOf t m o code value f)
+refused-tag : (t : Tag) (m : List ℕ) (c : Call) → T t (stepOf t m c)
 unfolding stepOf
-refused-tag t m o code value f =
-    judged-case (T t) _ _ _ (λ _ _ _. refl) (λ _ r. absurd (false≢true (sym (act-served (signalBy code value) t m o f) ∙ r)))
+refused-tag t m c =
+    judged-case (T t) _ _ _ (λ _ _ _. refl) (λ _ r. absurd (false≢true (sym (act-served (signalOfCall c) t m (c .buffer) (c .frame)) ∙ r)))
 
 -- so the state's bytes are those of the tag, refused or not
-after-is : (t : Tag) (m o : List ℕ) (code value : ℕ) (f : List ℕ)
-    → stateAfter (bytesOf t) (stepOf t m o code value f .answer) (stepOf t m o code value f .tag) ≡ bytesOf (stepOf t m o code value f .tag)
+after-is : (t : Tag) (m : List ℕ) (c : Call) → stateAfter (bytesOf t) (stepOf t m c .answer) (stepOf t m c .tag) ≡ bytesOf (stepOf t m c .tag)
 unfolding stateAfter
-after-is t m o code value f =
-    let e = stepOf t m o code value f in
+after-is t m c =
+    let e = stepOf t m c in
     pick-case (λ (x : List ℕ). x ≡ bytesOf (e .tag)) (isRefused (e .answer)) (bytesOf t) (bytesOf (e .tag))
-    (λ r. ap bytesOf (sym (refused-tag t m o code value f r))) (λ _. refl)
+    (λ r. ap bytesOf (sym (refused-tag t m c r))) (λ _. refl)
 
 -- what a call of the entry point leaves, in numbers and bytes
 abbrev pub inCalled : DeviceResult → CallResult
@@ -56,9 +59,8 @@ inCalled e = callResult (answerNumber (e .says .answer)) (bytesOf (e .device .ta
 pub step-is : (t : Tag) (m : List ℕ) (c : Call) → Fits t → exported (bytesOf t) m c ≡ inCalled (entry (device t m) c)
 unfolding exported entry
 step-is t m c f =
-    let e = stepOf t m (c .buffer) (c .code) (c .value) (c .frame) in
-    steps-the-tag t m (c .buffer) (c .code) (c .value) (c .frame) f
-    ∙ ap (λ (s : List ℕ). callResult (answerNumber (e .answer)) s (e .memory) (e .reply)) (after-is t m (c .buffer) (c .code) (c .value) (c .frame))
+    let e = stepOf t m c in
+    steps-the-tag t m c f ∙ ap (λ (s : List ℕ). callResult (answerNumber (e .answer)) s (e .memory) (e .reply)) (after-is t m c)
 
 -- ---- what goes from call to call
 pub record Good (d : Device) : Type 0 where
@@ -68,7 +70,7 @@ pub record Good (d : Device) : Type 0 where
 pub good-next : (d : Device) (c : Call) → areBytes (c .frame) ≡ true → Good d → Good (entry d c .device)
 unfolding entry
 good-next d c b g =
-    let k = keeps-fits (d .tag) (d .memory) (c .buffer) (c .code) (c .value) (c .frame) (g .fits) (g .bytes) b in
+    let k = keeps-fits (d .tag) (d .memory) c (g .fits) (g .bytes) b in
     record { fits = k .0; bytes = k .1 }
 
 -- ---- the answers, and the bytes at the end
@@ -93,20 +95,28 @@ run-good (c ∷ cs) d b g = run-good cs (entry d c .device) (rest-fits c cs b) (
 
 -- ---- struck frames
 -- a refusal's number is below 0x100, and no other's
-pub refusal-number : (a : Answer) → ltb (answerNumber a) 0x100 ≡ isRefused a
-unfolding answerNumber number isRefused
-refusal-number (Refused MemoryLength) = refl
-refusal-number (Refused ReplyShort) = refl
-refusal-number (Refused SignalUnknown) = refl
-refusal-number (Refused OutOfRange) = refl
-refusal-number (Refused StateLength) = refl
-refusal-number (Refused UidLength) = refl
-refusal-number Nothing = refl
-refusal-number Ack = refl
-refusal-number NoAck = refl
-refusal-number (Byte x) = le-ltb (0x200 + x) 0x100 (omega arith)
-refusal-number Silence = refl
-refusal-number (Reply n) = le-ltb (0x1000 + n) 0x100 (omega arith)
+abbrev Numbered : Answer → Type 0
+Numbered a = ltb (answerNumber a) 0x100 ≡ isRefused a
+
+refused-number : (t : Tag) (m : List ℕ) (c : Call) (r : Refusal) → judgement (entryRules t m c) ≡ RefusedBy r → Numbered (Refused r)
+unfolding answerNumber isRefused number anyHolds
+refused-number t m c r h = not-false _ (refused-by (λ (r : Refusal). not (ltb (number r) 0x100)) (entryRules t m c) r refl h)
+
+served-number : (a : Answer) → isRefused a ≡ false → Numbered a
+unfolding answerNumber isRefused
+served-number (Refused r) h = absurd (false≢true (sym h))
+served-number Nothing h = refl
+served-number Ack h = refl
+served-number NoAck h = refl
+served-number (Byte x) h = le-ltb (0x200 + x) 0x100 (omega arith)
+served-number Silence h = refl
+served-number (Reply n) h = le-ltb (0x1000 + n) 0x100 (omega arith)
+
+pub refusal-number : (d : Device) (c : Call) → Numbered (entry d c .says .answer)
+unfolding entry stepOf
+refusal-number d c =
+    judged-case (λ (e : StepResult). Numbered (e .answer)) _ _ _ (refused-number (d .tag) (d .memory) c)
+    (λ _. served-number _ (act-served (signalOfCall c) (d .tag) (d .memory) (c .buffer) (c .frame)))
 
 pub decoded : (t : Tag) → Fits t → tagOf (bytesOf t) ≡ t
 decoded t f = decodes-encoded t f .1
@@ -117,7 +127,7 @@ struck-is d c g =
     let frame = isFrame (signalBy (c .code) (c .value)) in
     ap (λ (t : Tag). transferOpen t && frame && not (ltb (exported (bytesOf (d .tag)) (d .memory) c .number) 0x100)) (decoded (d .tag) (g .fits))
     ∙ ap (λ (e : CallResult). transferOpen (d .tag) && frame && not (ltb (e .number) 0x100)) (step-is (d .tag) (d .memory) c (g .fits))
-    ∙ ap (λ (b : Bool). transferOpen (d .tag) && frame && not b) (refusal-number (entry d c .says .answer))
+    ∙ ap (λ (b : Bool). transferOpen (d .tag) && frame && not b) (refusal-number d c)
 
 shut-answer-is : (start : Tag) (d : Device) (c : Call) → Good d → Shut entry start d c
     → answerBy (exported (bytesOf (d .tag)) (d .memory) c) ≡ shutAnswer start (tagOf (bytesOf (d .tag)) .air) c

@@ -5,7 +5,7 @@ use mathlib.Core.List.{List, [], _∷_}
 use Prim.Native.Nat.{ℕ}
 use Rattle.parts.specs.Pick.{pick}
 use Rattle.state.specs.Layout.{tagOf}
-use Rattle.calls.specs.Calls.{Call}
+use Rattle.refusals.specs.Call.{Call}
 use Rattle.demand3.specs.Demand3.{startAfter}
 use Rattle.library_demand3.specs.Calls.{LibraryStep, LibraryAnswer, answerBy, LibraryRunResult, libraryRunResult, libraryRun}
 use Rattle.library_demand3.specs.Claim.{libraryStruck, libraryOthers, libraryOtherAnswers, EachLibraryStruck}

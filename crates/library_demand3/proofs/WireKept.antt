@@ -24,14 +24,14 @@ use Rattle.effect.specs.Effect.{LegResult}
 use Rattle.leg.specs.Leg.{Due, nothingDue, clears, writes, started, stopped, settle, legWritten}
 use Rattle.user_leg.specs.UserLeg.{userWritten}
 use Rattle.system_leg.specs.SystemLeg.{systemWritten, passwordWritten}
-use Rattle.signal.specs.declared.WireSignal.{WireSignal}
-use Rattle.signal.specs.declared.WireSignal.the-variants.{Start, Send, Fetch, Stop, Vcc, ProgrammingEnd}
+use Rattle.signal_table.specs.declared.WireSignal.{WireSignal}
 use Rattle.signal.specs.Signal.{WireResult, sideBus, dueOf, startAt, startOf, stopAt}
 use Rattle.state.specs.Claims.{PasswordsFit}
 use Rattle.state.proofs.Decoded.{eight-run}
 use Rattle.send.specs.Send.{selectBy, dataOf, sendAt}
 use Rattle.wire.specs.Wire.{fetchAt, signalOf}
-use Rattle.wire_claims.specs.Claims.{sentByte}
+use Rattle.signal_table.specs.Table.{sentByte}
+use Rattle.wire_claims.proofs.Cases.{signal-case}
 
 -- the high address byte that a write leg holds, or 0
 unfoldable pub highByteOf : Bus → ℕ
@@ -136,12 +136,14 @@ module _ (w : WireSide) (m : List ℕ) (f : Sound w) where
       (λ t. pick-case Sound (w .host .vcc) _ _ (λ v. record { high = omega arith; passwords = f .passwords }) (λ v. f))
 
 pub wire-sound : (w : WireSide) (u : Uid) (m : List ℕ) (s : WireSignal) → sentByte s < 256 → Below m → Sound w → Sound (signalOf w u m s .side)
-unfolding signalOf startOf startAt stopAt sentByte highByteOf
-wire-sound w u m Start p h f =
-    pick-case E (w .host .vcc) _ _
-    (λ v. start-sound (sideBus (Started (isOpen (w .host .bus))) w) m (on-bus w m f (Started (isOpen (w .host .bus))) (omega arith)) (dueOf (w .host .bus) (w .host .counter) m)) (λ v. f)
-wire-sound w u m (Send x) p h f = send-sound w m f (w .host .bus) x p
-wire-sound w u m (Fetch ack) p h f = fetch-sound w m f (w .host .bus) u ack
-wire-sound w u m Stop p h f = stop-sound (sideBus Idle w) m (on-bus w m f Idle (omega arith)) (w .host .bus) (w .host .counter) h
-wire-sound w u m (Vcc on) p h f = vcc-sound w m f on
-wire-sound w u m ProgrammingEnd p h f = record { high = f .high; passwords = f .passwords }
+unfolding startOf startAt stopAt sentByte highByteOf
+wire-sound w u m s p h f =
+    signal-case (λ (s : WireSignal) (e : WireResult). sentByte s < 256 → E e) w u m
+    (λ _. pick-case E (w .host .vcc) _ _
+    (λ v. start-sound (sideBus (Started (isOpen (w .host .bus))) w) m (on-bus w m f (Started (isOpen (w .host .bus))) (omega arith)) (dueOf (w .host .bus) (w .host .counter) m)) (λ v. f))
+    (send-sound w m f (w .host .bus))
+    (λ ack _. fetch-sound w m f (w .host .bus) u ack)
+    (λ _. stop-sound (sideBus Idle w) m (on-bus w m f Idle (omega arith)) (w .host .bus) (w .host .counter) h)
+    (λ on _. vcc-sound w m f on)
+    (λ _ on _. record { high = f .high; passwords = f .passwords })
+    s p

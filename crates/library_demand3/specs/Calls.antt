@@ -3,7 +3,7 @@
 use mathlib.Core.List.{List, [], _∷_}
 use Prim.Native.Nat.{ℕ}
 use Rattle.capi.specs.Interface.{CallResult, stepCall}
-use Rattle.calls.specs.Calls.{Call}
+use Rattle.refusals.specs.Call.{Call}
 
 -- of the state's bytes, the memory and a call: the number, the state's bytes, the memory and the reply buffer at the return
 abbrev pub LibraryStep : Type 0
@@ -11,7 +11,7 @@ LibraryStep = List ℕ → List ℕ → Call → CallResult
 
 -- the exported function, as the contract of its code has it; s is the state, m the memory
 unfoldable pub exported : List ℕ → List ℕ → Call → CallResult
-exported s m call = stepCall s m (call .buffer) (call .code) (call .value) (call .frame)
+exported s m call = stepCall s m call
 
 -- the answer to a call: its number, with the whole reply buffer as the call leaves it
 pub record LibraryAnswer : Type 0 where

@@ -12,11 +12,12 @@ use Rattle.tag.specs.declared.Tag.{Tag}
 use Rattle.tag.specs.Layout.{memoryBytes}
 use Rattle.state.specs.Layout.{bytesOf, decodes, tagOf}
 use Rattle.model.specs.declared.Answer.the-variants.{Nothing}
-use Rattle.model.specs.Signals.{signalBy}
+use Rattle.signal_table.specs.Table.{signalBy}
 use Rattle.model.specs.Step.{transferOpen}
 use Rattle.refusals.specs.Refusals.{tagInRange}
 use Rattle.capi.specs.Interface.{answerNumber, freshCall}
-use Rattle.calls.specs.Calls.{Call, CallAnswer, device, framesFit, callReply}
+use Rattle.refusals.specs.Call.{Call}
+use Rattle.calls.specs.Calls.{CallAnswer, device, framesFit, callReply}
 use Rattle.waiting.specs.Waiting.{Waiting, noTransfer, inside, waitRun}
 use Rattle.demand3.specs.Demand3.{isFrame, shutReply, startAfter, isClosed}
 use Rattle.library_demand3.specs.Calls.{LibraryStep, exported, LibraryAnswer, libraryAnswer, answerBy, LibraryRunResult, libraryRunResult, libraryRun}

@@ -4,7 +4,7 @@ use mathlib.Core.List.{List}
 use Prim.Native.Nat.{ℕ}
 use Rattle.tag.specs.declared.Tag.{Tag}
 use Rattle.state.specs.Layout.{tagOf}
-use Rattle.calls.specs.Calls.{Call}
+use Rattle.refusals.specs.Call.{Call}
 use Rattle.library_demand3.specs.Calls.{LibraryStep, answerBy}
 use Rattle.library_demand3.specs.Claim.{shutAnswer, EachLibraryStruck, LibraryShut, LibrarySame, LibraryStriking, EveryLibraryList}
 

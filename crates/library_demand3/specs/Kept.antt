@@ -6,9 +6,10 @@ use Prim.Native.Nat.{ℕ}
 use Rattle.parts.specs.Bytes.{areBytes}
 use Rattle.tag.specs.declared.Tag.{Tag}
 use Rattle.state.specs.Claims.{Fits}
+use Rattle.refusals.specs.Call.{Call}
 use Rattle.model.specs.Step.{stepOf}
 
--- every call keeps it that each number of the tag fits its type and the memory's bytes are bytes; f is the frame
+-- every call keeps it that each number of the tag fits its type and the memory's bytes are bytes
 abbrev pub KeepsFits : Type 0
-KeepsFits = (t : Tag) (m o : List ℕ) (code value : ℕ) (f : List ℕ) → Fits t → areBytes m ≡ true → areBytes f ≡ true
-    → (Fits (stepOf t m o code value f .tag)) × (areBytes (stepOf t m o code value f .memory) ≡ true)
+KeepsFits = (t : Tag) (m : List ℕ) (call : Call) → Fits t → areBytes m ≡ true → areBytes (call .frame) ≡ true
+    → (Fits (stepOf t m call .tag)) × (areBytes (stepOf t m call .memory) ≡ true)

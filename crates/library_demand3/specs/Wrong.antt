@@ -13,7 +13,7 @@ use Rattle.tag.specs.Parts.{withVcc, withTagAir, withTagHost}
 use Rattle.state.specs.Layout.{hostPartPlace, bytesOf, tagOf}
 use Rattle.model.specs.Step.{transferOpen}
 use Rattle.capi.specs.Interface.{CallResult, callResult}
-use Rattle.calls.specs.Calls.{Call}
+use Rattle.refusals.specs.Call.{Call}
 use Rattle.library_demand3.specs.Calls.{LibraryStep, exported}
 use Rattle.library_demand3.specs.Claim.{libraryStruck, LibraryDemand3}
 

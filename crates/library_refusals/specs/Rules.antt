@@ -6,6 +6,7 @@ use lib.Dec.{eqb}
 use lib.ListN.{length}
 use Rattle.state.specs.Layout.{stateBytes, decodes}
 use Rattle.refusals.specs.declared.Refusal.the-variants.{OutOfRange, StateLength, UidLength}
+use Rattle.refusals.specs.Call.{Call}
 use Rattle.refusals.specs.Refusals.{RefusalRule, refusalRule, freshRules, callRules}
 
 -- the state buffer has not a state's length
@@ -22,8 +23,8 @@ uidRule uid = refusalRule (not (eqb (length uid) 8)) UidLength
 
 -- 1, 2 and 3 are judged without a state: each is given exactly when document 01 says. 13 comes right before the first refusal that reads the state,
 -- which is 4: bytes that decode to no state, or (by the model) a tag that breaks a range.
-abbrev pub stepRules : List ℕ → List ℕ → List ℕ → ℕ → ℕ → List RefusalRule
-stepRules s m o code value = callRules m o code value ++ stateRule s ∷ decodesRule s ∷ []
+abbrev pub stepRules : List ℕ → List ℕ → Call → List RefusalRule
+stepRules s m call = callRules m call ++ stateRule s ∷ decodesRule s ∷ []
 
 -- 1 without a state, as above; then 13, then 14
 abbrev pub freshCallRules : List ℕ → List ℕ → List ℕ → List RefusalRule

@@ -1,15 +1,23 @@
 // The refusals of the library's calls, over numbers and lent bytes.
 ghost use mathlib.Core.Path.{_≡_};
+ghost use Rattle.refusals.specs.Call.{handedIn};
 ghost use Rattle.refusals.specs.Refusals.{judgement};
 ghost use Rattle.library_refusals.specs.Rules.{stepRules, freshCallRules};
 use refusals::Judgement;
 use refusals::Refusal;
 
 // Of a call: 1, 2, 3, 13, 4.
-pub fn step_refusal(s: &[u8], m: &[u8], out: &[u8], code: u32, value: u32) -> Judgement
-    ensures { λ r. ⌜ r ≡ judgement (stepRules (now (s .entry)) (now (m .entry)) (now (out .entry)) code value) ⌝ }
+pub fn step_refusal(
+    s: &[u8],
+    m: &[u8],
+    out: &[u8],
+    code: u32,
+    value: u32,
+    frame: &[u8],
+) -> Judgement
+    ensures { λ r. ⌜ r ≡ judgement (stepRules (now (s .entry)) (now (m .entry)) (handedIn (now (out .entry)) code value (now (frame .entry)))) ⌝ }
 {
-    let first = refusals::call_refusal(m, out, code, value);
+    let first = refusals::call_refusal(m, out, code, value, frame);
     match first {
         Judgement::RefusedBy(why) => Judgement::RefusedBy(why),
         Judgement::NoRefusal => {

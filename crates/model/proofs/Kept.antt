@@ -25,18 +25,18 @@ use Rattle.ranges.proofs.Fresh.{fresh-in-range}
 use Rattle.page.specs.PageRange.{busInRange}
 use Rattle.refusals.proofs.Laws.{judged-case}
 use Rattle.refusals.proofs.Ranges.{RangeParts, range-parts}
-use Rattle.signal.specs.declared.WireSignal.{WireSignal}
+use Rattle.signal_table.specs.declared.WireSignal.{WireSignal}
 use Rattle.wire_claims.proofs.Kept.{keeps as wire-keeps}
 use Rattle.reply.specs.Outcome.{CommandResult, radioSide, withRadio}
 use Rattle.radio.specs.Radio.{radioOf}
 use Rattle.radio.proofs.Kept.{keeps as radio-keeps}
 use Rattle.radio.proofs.ShutOut.{shut-out}
-use Rattle.model.specs.declared.Signal.{Signal}
-use Rattle.model.specs.declared.Signal.the-variants.{Wire, Field, Frame}
-use Rattle.model.specs.Signals.{signalBy}
+use Rattle.signal_table.specs.declared.Signal.{Signal}
+use Rattle.signal_table.specs.declared.Signal.the-variants.{Wire, Field, Frame}
 use Rattle.model.specs.Step.{StepResult, transferOpen, actOf, stepOf}
 use Rattle.refusals.specs.Refusals.{tagInRange}
 use Rattle.model.specs.Claims.{Fit, StepKeepsFit, FreshFits}
+use Rattle.model.proofs.Acts.{signalOfCall}
 
 -- ---- the test of supply: v is VCC, e MB_EN, s session, p programming, a bus activity
 supplied-first : (v e s p a : Bool) → (v || not (e || s || p || a)) ≡ true → (v || not e) ≡ true
@@ -141,7 +141,7 @@ act-kept Frame t m o s b f = fit _ _ (frame-kept t m s f (bytes-below s b))
 
 pub keeps : StepKeepsFit
 unfolding stepOf
-keeps t m o code value s b f = judged-case F _ _ _ (λ r h. f) (λ h. act-kept (signalBy code value) t m o s b (fits t m f))
+keeps t m c b f = judged-case F _ _ _ (λ r h. f) (λ h. act-kept (signalOfCall c) t m (c .buffer) (c .frame) b (fits t m f))
 
 -- ---- the fresh tag
 pub fresh-fits : FreshFits

@@ -1,5 +1,4 @@
 pub mod Acts
 pub mod Kept
 pub mod Served
-pub mod Value
 pub mod Clear

@@ -9,8 +9,8 @@ use Rattle.signal.specs.declared.WireAnswer.the-variants.{Nothing as WireNothin
 use Rattle.wire.specs.Wire.{signalOf}
 use Rattle.reply.specs.Reply.{ReplyBody, nothing, body, answerOf}
 use Rattle.radio.specs.Radio.{radioOf}
-use Rattle.model.specs.declared.Signal.{Signal}
-use Rattle.model.specs.declared.Signal.the-variants.{Wire, Field, Frame}
+use Rattle.signal_table.specs.declared.Signal.{Signal}
+use Rattle.signal_table.specs.declared.Signal.the-variants.{Wire, Field, Frame}
 use Rattle.model.specs.Step.{isRefused, fromWire, fromRadio, transferOpen, actOf}
 use Rattle.reply.specs.Outcome.{radioSide}
 use Rattle.tag.specs.Parts.{wireSide}

@@ -9,6 +9,7 @@ use Rattle.keys.specs.declared.Uid.{Uid}
 use Rattle.tag.specs.declared.Tag.{Tag}
 use Rattle.tag.specs.Layout.{memoryBytes}
 use Rattle.tag.specs.Supply.{freshTag}
+use Rattle.refusals.specs.Call.{Call}
 use Rattle.refusals.specs.Refusals.{tagInRange}
 use Rattle.model.specs.Step.{stepOf}
 
@@ -19,8 +20,8 @@ pub record Fit (t : Tag) (m : List ℕ) : Type 0 where
 
 -- every call keeps that
 abbrev pub StepKeepsFit : Type 0
-StepKeepsFit = (t : Tag) (m o : List ℕ) (code value : ℕ) (f : List ℕ) → areBytes f ≡ true → Fit t m
-    → Fit (stepOf t m o code value f .tag) (stepOf t m o code value f .memory)
+StepKeepsFit = (t : Tag) (m : List ℕ) (call : Call) → areBytes (call .frame) ≡ true → Fit t m
+    → Fit (stepOf t m call .tag) (stepOf t m call .memory)
 
 -- the fresh tag has it
 abbrev pub FreshFits : Type 0

@@ -1,3 +1,2 @@
-pub mod Signals
 pub mod Step
 pub mod Claims

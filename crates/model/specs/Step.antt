@@ -10,6 +10,9 @@ use Rattle.tag.specs.Parts.{withTagAir, wireSide, withWire}
 use Rattle.bus.specs.Bus.{isOpen}
 use Rattle.air.specs.Radio.{fieldAt}
 use Rattle.tag.specs.Supply.{freshTag}
+use Rattle.signal_table.specs.declared.Signal.{Signal}
+use Rattle.signal_table.specs.declared.Signal.the-variants.{Wire, Field, Frame}
+use Rattle.signal_table.specs.Table.{signalBy}
 use Rattle.signal.specs.declared.WireAnswer.{WireAnswer}
 use Rattle.signal.specs.declared.WireAnswer.the-variants.{Nothing as WireNothing, Ack as WireAck, NoAck as WireNoAck, Byte as WireByte}
 use Rattle.wire.specs.Wire.{signalOf}
@@ -19,13 +22,11 @@ use Rattle.reply.specs.declared.RadioAnswer.the-variants.{Silence as RadioSilen
 use Rattle.reply.specs.Outcome.{radioSide, withRadio}
 use Rattle.radio.specs.Radio.{radioOf}
 use Rattle.refusals.specs.declared.Refusal.{Refusal}
+use Rattle.refusals.specs.Call.{Call}
 use Rattle.refusals.specs.Refusals.{entryRules, freshRules, judgement, unlessRefused}
 use Rattle.model.specs.declared.Answer.{Answer}
 use Rattle.model.specs.declared.Answer.the-variants.{Refused, Nothing, Ack, NoAck, Byte, Silence, Reply}
 use Rattle.model.specs.declared.Outcome.{Outcome}
-use Rattle.model.specs.declared.Signal.{Signal}
-use Rattle.model.specs.declared.Signal.the-variants.{Wire, Field, Frame}
-use Rattle.model.specs.Signals.{signalBy}
 
 -- the answer, the tag and both lent buffers after a call
 pub record StepResult : Type 0 where
@@ -84,10 +85,10 @@ actOf Frame t m o f =
 
 -- ---- the two entry points
 -- one call: the refusals "in this order", then the signal
-unfoldable pub stepOf : Tag → List ℕ → List ℕ → ℕ → ℕ → List ℕ → StepResult
-stepOf t m o code value f =
-    unlessRefused (judgement (entryRules t m o code value)) (λ (refusal : Refusal). refused refusal t m o)
-    (actOf (signalBy code value) t m o f)
+unfoldable pub stepOf : Tag → List ℕ → Call → StepResult
+stepOf t m call =
+    unlessRefused (judgement (entryRules t m call)) (λ (refusal : Refusal). refused refusal t m (call .buffer))
+    (actOf (signalBy (call .code) (call .value)) t m (call .buffer) (call .frame))
 
 -- without a reply buffer
 pub record FreshResult : Type 0 where

@@ -1,28 +1,20 @@
 // The tag's two entry points: the fresh tag, and one call. Nothing here relies on a check by the caller.
 ghost use mathlib.Core.Path.{_≡_};
-ghost use mathlib.Core.Bool.{true};
 ghost use Rattle.air.specs.Radio.{fieldAt};
+ghost use Rattle.signal_table.specs.declared.Signal.the-variants.{Frame};
 ghost use Rattle.tag.specs.Parts.{wireSide, withWire, withTagAir};
 ghost use Rattle.wire.specs.Wire.{signalOf};
-ghost use Rattle.model.specs.declared.Signal.the-variants.{Field, Frame};
 ghost use Rattle.model.specs.declared.Answer.the-variants.{Refused, Nothing};
-ghost use Rattle.model.specs.Signals.{signalBy};
-ghost use Rattle.refusals.specs.Signals.{signalInRange};
+ghost use Rattle.refusals.specs.Call.{handedIn};
 ghost use Rattle.model.specs.Step.{stepResultOf, freshResult, fromWire, fromRadio, actOf, stepOf, freshOf};
 use keys::Uid;
 use refusals::Judgement;
 use refusals::Refusal;
 use reply::RadioSide;
+use signal_table::Signal;
+use signal_table::WireSignal;
 use tag::Tag;
 use tag::WireSide;
-
-// What the signal of a call is.
-pub enum Signal {
-    Wire(signal::WireSignal),
-    // The field at a level.
-    Field(bool),
-    Frame,
-}
 
 pub enum Answer {
     Refused(Refusal),
@@ -38,23 +30,6 @@ pub enum Answer {
 pub struct Outcome {
     pub answer: Answer,
     pub tag: Tag,
-}
-
-// ---- the signal of a code and a value
-fn signal_by(code: u8, value: u16) -> Signal
-    requires { ⌜ signalInRange code value ≡ true ⌝ }
-    ensures { λ r. ⌜ r ≡ signalBy code value ⌝ }
-{
-    match code {
-        1 => Signal::Wire(signal::WireSignal::Vcc(value == 1)),
-        2 => Signal::Field(value == 1),
-        3 => Signal::Wire(signal::WireSignal::Start),
-        4 => Signal::Wire(signal::WireSignal::Send(value as u8)),
-        5 => Signal::Wire(signal::WireSignal::Fetch(value == 1)),
-        6 => Signal::Wire(signal::WireSignal::Stop),
-        7 => Signal::Wire(signal::WireSignal::ProgrammingEnd),
-        _ => Signal::Frame,
-    }
 }
 
 // ---- the answers
@@ -79,7 +54,7 @@ fn from_radio(answer: reply::RadioAnswer) -> Answer
 }
 
 // ---- a signal that is not refused
-fn by_wire(t: Tag, m: &mut [u8], signal: signal::WireSignal) -> Outcome
+fn by_wire(t: Tag, m: &mut [u8], signal: WireSignal) -> Outcome
     ensures { λ r. ⌜ freshResult (r .answer) (r .tag) (now (m .exit)) ≡ (let result = signalOf (wireSide t) (t .uid) (now (m .entry)) signal in freshResult (fromWire (result .answer)) (withWire (result .side) t) (result .memory)) ⌝ }
 {
     let host = t.host;
@@ -161,13 +136,13 @@ fn refused(why: Refusal, t: Tag) -> Outcome
 }
 
 // One call: a signal's code and value, and a frame.
-pub fn step(t: Tag, m: &mut [u8], out: &mut [u8], code: u8, value: u16, frame: &[u8]) -> Outcome
-    ensures { λ r. ⌜ stepResultOf r (now (m .exit)) (now (out .exit)) ≡ stepOf t (now (m .entry)) (now (out .entry)) code value (now (frame .entry)) ⌝ }
+pub fn step(t: Tag, m: &mut [u8], out: &mut [u8], code: u32, value: u32, frame: &[u8]) -> Outcome
+    ensures { λ r. ⌜ stepResultOf r (now (m .exit)) (now (out .exit)) ≡ stepOf t (now (m .entry)) (handedIn (now (out .entry)) code value (now (frame .entry))) ⌝ }
 {
-    let judged = refusals::entry_refusal(t, m, out, code as u32, value as u32);
+    let judged = refusals::entry_refusal(t, m, out, code, value, frame);
     match judged {
         Judgement::RefusedBy(why) => refused(why, t),
-        Judgement::NoRefusal => act(signal_by(code, value), t, m, out, frame),
+        Judgement::NoRefusal => act(signal_table::signal_by(code, value), t, m, out, frame),
     }
 }
 

@@ -8,7 +8,8 @@ use borrow.Author.Tests.{eqb-true}
 use Rattle.parts.proofs.Bools.{and-left, and-right}
 use Rattle.tag.specs.declared.Tag.{Tag}
 use Rattle.model.proofs.Kept.{fresh-fits}
-use Rattle.calls.specs.Calls.{Call, Device, device, DeviceResult, RunResult, runResult, entry, runBy, framesFit}
+use Rattle.refusals.specs.Call.{Call}
+use Rattle.calls.specs.Calls.{Device, device, DeviceResult, RunResult, runResult, entry, runBy, framesFit}
 use Rattle.calls.specs.Examples.{uid}
 use Rattle.refusals.specs.declared.Refusal.{Refusal}
 use Rattle.refusals.specs.Refusals.{unlessRefused}

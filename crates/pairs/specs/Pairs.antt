@@ -13,7 +13,8 @@ use Rattle.crc.specs.Crc.{crcOf, closed}
 use Rattle.model.specs.declared.Answer.{Answer}
 use Rattle.refusals.specs.declared.Refusal.{Refusal}
 use Rattle.model.specs.declared.Answer.the-variants.{Refused, Nothing, Ack, NoAck, Byte, Silence, Reply}
-use Rattle.calls.specs.Calls.{Call, CallAnswer, Device, device, RunResult, entry, runBy}
+use Rattle.refusals.specs.Call.{Call}
+use Rattle.calls.specs.Calls.{CallAnswer, Device, device, RunResult, entry, runBy}
 use Rattle.calls.specs.Examples.{zeros, vccTo, fieldTo, start, send, sends, fetch, fetchLast, stop, programmingEnd, frame, uid, powered, _but_, radioState, radioSession, i2cSession, beingProgrammed, counterAt, onBus, areaEnds, areaRights, mailboxMode, hostMessage, bytes}
 
 -- ---- answers by value: a reply is its bytes, CRC included

@@ -17,10 +17,12 @@ use Rattle.radio.specs.Radio.{radioOf}
 use Rattle.radio.proofs.EveryCommand.{Shape, silent, served, failed}
 use Rattle.refusals.specs.declared.Refusal.{Refusal}
 use Rattle.refusals.proofs.Laws.{judged-case}
-use Rattle.model.proofs.Acts.{room-of, frame-code}
+use Rattle.refusals.specs.Call.{handedIn}
+use Rattle.model.proofs.Acts.{room-of}
 use Rattle.model.specs.declared.Answer.{Answer}
 use Rattle.model.specs.declared.Answer.the-variants.{Refused, Nothing, Ack, NoAck, Byte, Silence, Reply}
-use Rattle.model.specs.declared.Signal.{Signal}
+use Rattle.signal_table.specs.declared.Signal.{Signal}
+use Rattle.signal_table.proofs.Laws.{frame-code}
 use Rattle.model.specs.Step.{StepResult, fromRadio, transferOpen, actOf, stepOf}
 use Rattle.radio_claims.specs.Claims.{errorLeaves, ErrorCallsLeave}
 use Rattle.radio_claims.proofs.Errors.{frame-leaves}
@@ -65,7 +67,7 @@ error-calls-leave t m o s n =
     let P : StepResult → Type 0 = λ (x : StepResult). x .answer ≡ Reply n → getD (x .reply) 0 0 ≡ 0x01 → (x .tag ≡ withRadio after t) × (x .memory ≡ m) in
     judged-case P _ _ _ (λ r h a b. absurd (refused-not r n a))
     (λ none.
-    let room : 643 ≤ length o = room-of t m o 8 0 none in
+    let room : 643 ≤ length o = room-of t m (handedIn o 8 0 s) none in
     subst (λ (x : Signal). P (actOf x t m o s)) (sym frame-code)
     (told-leaves t m o after (radioOf (radioSide t) (t .uid) (t .host .vcc) (transferOpen t) (t .host .programming) m s) n (omega arith)
     (frame-leaves (radioSide t) (t .uid) (t .host .vcc) (transferOpen t) (t .host .programming) m s)))

@@ -21,6 +21,7 @@ use Rattle.judge.specs.declared.Verdict.the-variants.{Silence, Error, Request}
 use Rattle.frame.specs.Fields.{command, optionFlag, paramPlace, param}
 use Rattle.judge.specs.Judge.{judge}
 use Rattle.radio.specs.Radio.{radioOf}
+use Rattle.refusals.specs.Call.{handedIn}
 use Rattle.model.specs.declared.Answer.the-variants.{Reply}
 use Rattle.model.specs.Step.{transferOpen, stepOf}
 
@@ -62,9 +63,10 @@ ErrorsLeave = (v : RadioSide) (u : Uid) (vcc transfer programming : Bool) (m f r
 -- the same at the entry: a frame's call that is answered by a reply whose first byte is 01h
 abbrev pub ErrorCallsLeave : Type 0
 ErrorCallsLeave = (t : Tag) (m o f : List ℕ) (n : ℕ)
-    → stepOf t m o 8 0 f .answer ≡ Reply n → getD (stepOf t m o 8 0 f .reply) 0 0 ≡ 0x01
-    → (stepOf t m o 8 0 f .tag ≡ withRadio (errorLeaves (radioSide t) (t .uid) (transferOpen t || t .host .programming) f) t)
-    × (stepOf t m o 8 0 f .memory ≡ m)
+    → let result = stepOf t m (handedIn o 8 0 f) in
+    result .answer ≡ Reply n → getD (result .reply) 0 0 ≡ 0x01
+    → (result .tag ≡ withRadio (errorLeaves (radioSide t) (t .uid) (transferOpen t || t .host .programming) f) t)
+    × (result .memory ≡ m)
 
 -- ---- "1 exactly when 21 would give 12h"
 -- the frame f asks for the command of a code, and is served

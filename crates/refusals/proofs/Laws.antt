@@ -2,12 +2,15 @@
 use mathlib.Core.Path.{_≡_, refl, sym, ap, _∙_}
 use mathlib.Core.Bool.{Bool, true, false, false≢true}
 use mathlib.Core.List.{List, [], _∷_, _++_}
+use lib.Dec.{eqb}
 use Rattle.parts.specs.Pick.{pick}
-use Rattle.rule_list.specs.RuleList.{firstSays}
+use Rattle.parts.proofs.Picks.{pick-case}
+use Rattle.rule_list.specs.RuleList.{anyHolds, firstSays}
+use Rattle.rule_list.proofs.Laws.{says-passes}
 use Rattle.refusals.specs.declared.Refusal.{Refusal}
 use Rattle.refusals.specs.declared.Judgement.{Judgement}
 use Rattle.refusals.specs.declared.Judgement.the-variants.{NoRefusal, RefusedBy}
-use Rattle.refusals.specs.Refusals.{RefusalRule, judgement, unlessRefused}
+use Rattle.refusals.specs.Refusals.{number, RefusalRule, judgement, unlessRefused}
 
 -- ---- what a call gives, from what it gives refused and not
 pub judged-case : {A : Type 0} (P : A → Type 0) (j : Judgement) (refuses : Refusal → A) (serves : A)
@@ -76,3 +79,23 @@ idle (RefusedBy r) = refl
 pub append-idle : (rs qs : List RefusalRule) → NoneApplies qs → judgement (rs ++ qs) ≡ judgement rs
 append-idle rs qs h =
     judgement-append rs qs ∙ ap (unlessRefused (judgement rs) RefusedBy) (no-refusal qs h) ∙ idle (judgement rs)
+
+-- ---- the rule of a refusal, wherever it stands in a list
+unfoldable pub appliesOf : Refusal → List RefusalRule → Bool
+appliesOf r rules = firstSays (λ (rule : RefusalRule). eqb (number (rule .refusal)) (number r)) (λ (rule : RefusalRule). rule .applies) false rules
+
+pub not-refused : (r : Refusal) (rs : List RefusalRule) → judgement rs ≡ NoRefusal → appliesOf r rs ≡ false
+unfolding judgement firstSays appliesOf
+not-refused r [] h = refl
+not-refused r (q ∷ rs) h =
+    let p = passed (q .applies) (q .refusal) (judgement rs) h in
+    pick-case (λ (b : Bool). b ≡ false) (eqb (number (q .refusal)) (number r)) _ _ (λ _. p .0) (λ _. not-refused r rs (p .1))
+
+-- ---- a refusal that some list gives has what all its rules' refusals have
+pub refused-by : (bad : Refusal → Bool) (rs : List RefusalRule) (r : Refusal) → anyHolds (λ (rule : RefusalRule). bad (rule .refusal)) rs ≡ false
+    → judgement rs ≡ RefusedBy r → bad r ≡ false
+unfolding judgement unlessRefused
+refused-by bad rs r h e =
+    let P : Judgement → Type 0 = λ j. unlessRefused j bad false ≡ false in
+    ap (λ (j : Judgement). unlessRefused j bad false) (sym e)
+    ∙ says-passes (λ (rule : RefusalRule). rule .applies) (λ (rule : RefusalRule). bad (rule .refusal)) (λ (rule : RefusalRule). RefusedBy (rule .refusal)) NoRefusal P rs h (λ _ _ k. k) refl

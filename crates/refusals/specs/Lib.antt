@@ -1,2 +1,2 @@
-pub mod Signals
+pub mod Call
 pub mod Refusals

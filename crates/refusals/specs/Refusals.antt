@@ -1,5 +1,5 @@
 -- 01's table of refusals, "given exactly when, in this order": the rules, the order in which a caller judges them, and the first that applies.
-use mathlib.Core.Bool.{Bool, not, _&&_}
+use mathlib.Core.Bool.{Bool, not, _&&_, _||_}
 use mathlib.Core.List.{List, [], _∷_, _++_}
 use Prim.Native.Nat.{ℕ}
 use lib.Dec.{ltb, eqb}
@@ -9,11 +9,12 @@ use Rattle.tag.specs.Layout.{memoryBytes, replyBytes}
 use Rattle.ranges.specs.Ranges.{inRange}
 use Rattle.page.specs.PageRange.{busInRange}
 use Rattle.rule_list.specs.RuleList.{firstSays}
+use Rattle.signal_table.specs.Table.{signalInRange}
+use Rattle.refusals.specs.Call.{Call}
 use Rattle.refusals.specs.declared.Refusal.{Refusal}
 use Rattle.refusals.specs.declared.Refusal.the-variants.{MemoryLength, ReplyShort, SignalUnknown, OutOfRange, StateLength, UidLength}
 use Rattle.refusals.specs.declared.Judgement.{Judgement}
 use Rattle.refusals.specs.declared.Judgement.the-variants.{NoRefusal, RefusedBy}
-use Rattle.refusals.specs.Signals.{signalInRange}
 
 -- ---- the numbers
 unfoldable pub number : Refusal → ℕ
@@ -25,7 +26,11 @@ number OutOfRange = 4
 number StateLength = 13
 number UidLength = 14
 
--- ---- the rules, each a condition with its refusal; m is the memory, o the reply buffer
+-- those that look at the tag or its memory; the others look at what the call hands in
+unfoldable pub looksAtTag : Refusal → Bool
+looksAtTag refusal = eqb (number refusal) 1 || eqb (number refusal) 4
+
+-- ---- the rules, each a condition with its refusal; m is the memory
 pub record RefusalRule : Type 0 where
   pub applies : Bool
   pub refusal : Refusal
@@ -38,12 +43,12 @@ abbrev pub memoryRule : List ℕ → RefusalRule
 memoryRule m = refusalRule (not (eqb (length m) memoryBytes)) MemoryLength
 
 -- "reply buffer is shorter than 643"
-abbrev pub replyRule : List ℕ → RefusalRule
-replyRule o = refusalRule (ltb (length o) replyBytes) ReplyShort
+abbrev pub replyRule : Call → RefusalRule
+replyRule call = refusalRule (ltb (length (call .buffer)) replyBytes) ReplyShort
 
 -- "signal code unknown, or its value out of range"
-abbrev pub signalRule : ℕ → ℕ → RefusalRule
-signalRule code value = refusalRule (not (signalInRange code value)) SignalUnknown
+abbrev pub signalRule : Call → RefusalRule
+signalRule call = refusalRule (not (signalInRange (call .code) (call .value))) SignalUnknown
 
 -- 01's sentence "Ranges", whole
 unfoldable pub tagInRange : Tag → List ℕ → Bool
@@ -53,16 +58,21 @@ tagInRange t m = inRange t && busInRange (t .host .bus) (t .host .counter) (t .c
 abbrev pub rangeRule : Tag → List ℕ → RefusalRule
 rangeRule t m = refusalRule (not (tagInRange t m)) OutOfRange
 
--- ---- the order: of what a call's own arguments tell, of a call without its state, of a call; and of a fresh tag
-abbrev pub argumentRules : List ℕ → ℕ → ℕ → List RefusalRule
-argumentRules o code value = replyRule o ∷ signalRule code value ∷ []
+-- ---- the order: of a call, first what is judged without its state, then the rest
+abbrev pub callRules : List ℕ → Call → List RefusalRule
+callRules m call = memoryRule m ∷ replyRule call ∷ signalRule call ∷ []
 
-abbrev pub callRules : List ℕ → List ℕ → ℕ → ℕ → List RefusalRule
-callRules m o code value = memoryRule m ∷ argumentRules o code value
+abbrev pub laterRules : Tag → List ℕ → Call → List RefusalRule
+laterRules t m call = rangeRule t m ∷ []
 
-abbrev pub entryRules : Tag → List ℕ → List ℕ → ℕ → ℕ → List RefusalRule
-entryRules t m o code value = callRules m o code value ++ rangeRule t m ∷ []
+abbrev pub entryRules : Tag → List ℕ → Call → List RefusalRule
+entryRules t m call = callRules m call ++ laterRules t m call
 
+-- those of them that look at what the call hands in alone
+abbrev pub argumentRules : Call → List RefusalRule
+argumentRules call = replyRule call ∷ signalRule call ∷ []
+
+-- of a fresh tag
 abbrev pub freshRules : List ℕ → List RefusalRule
 freshRules m = memoryRule m ∷ []
 

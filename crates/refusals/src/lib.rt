@@ -1,7 +1,7 @@
 // Which refusal, if any, a call gets.
 ghost use mathlib.Core.Path.{_≡_};
-ghost use Rattle.refusals.specs.Signals.{topValue, signalInRange};
-ghost use Rattle.refusals.specs.Refusals.{number, tagInRange, freshRules, callRules, entryRules, judgement};
+ghost use Rattle.refusals.specs.Call.{handedIn};
+ghost use Rattle.refusals.specs.Refusals.{number, tagInRange, freshRules, callRules, laterRules, entryRules, judgement};
 use tag::Tag;
 
 // Document 01's table of refusals, and two of the library for C.
@@ -39,25 +39,6 @@ pub enum Judgement {
 }
 
 // ---- the tests
-// The highest value of a signal's code.
-fn top_value(code: u32) -> u32
-    ensures { λ r. ⌜ r ≡ topValue code ⌝ }
-{
-    if code == 4 {
-        return 255;
-    }
-    if (code == 1) | (code == 2) | (code == 5) {
-        return 1;
-    }
-    0
-}
-
-pub fn signal_in_range(code: u32, value: u32) -> bool
-    ensures { λ r. ⌜ r ≡ signalInRange code value ⌝ }
-{
-    (1 <= code) & (code <= 8) & (value <= top_value(code))
-}
-
 // Whether a tag and its memory are within the ranges.
 pub fn in_range(t: Tag, m: &[u8]) -> bool
     ensures { λ r. ⌜ r ≡ tagInRange t (now (m .entry)) ⌝ }
@@ -79,8 +60,8 @@ pub fn fresh_refusal(m: &[u8]) -> Judgement
 }
 
 // Of a call, without its state: 1, 2, 3.
-pub fn call_refusal(m: &[u8], out: &[u8], code: u32, value: u32) -> Judgement
-    ensures { λ r. ⌜ r ≡ judgement (callRules (now (m .entry)) (now (out .entry)) code value) ⌝ }
+pub fn call_refusal(m: &[u8], out: &[u8], code: u32, value: u32, frame: &[u8]) -> Judgement
+    ensures { λ r. ⌜ r ≡ judgement (callRules (now (m .entry)) (handedIn (now (out .entry)) code value (now (frame .entry)))) ⌝ }
 {
     if m.len() != tag::MEMORY_BYTES {
         return Judgement::RefusedBy(Refusal::MemoryLength);
@@ -88,24 +69,29 @@ pub fn call_refusal(m: &[u8], out: &[u8], code: u32, value: u32) -> Judgement
     if out.len() < tag::REPLY_BYTES {
         return Judgement::RefusedBy(Refusal::ReplyShort);
     }
-    if !signal_in_range(code, value) {
+    if !signal_table::signal_in_range(code, value) {
         return Judgement::RefusedBy(Refusal::SignalUnknown);
     }
     Judgement::NoRefusal
 }
 
-// Of a call: 1 to 4.
-pub fn entry_refusal(t: Tag, m: &[u8], out: &[u8], code: u32, value: u32) -> Judgement
-    ensures { λ r. ⌜ r ≡ judgement (entryRules t (now (m .entry)) (now (out .entry)) code value) ⌝ }
+// The rest: 4.
+fn later_refusal(t: Tag, m: &[u8], out: &[u8], code: u32, value: u32, frame: &[u8]) -> Judgement
+    ensures { λ r. ⌜ r ≡ judgement (laterRules t (now (m .entry)) (handedIn (now (out .entry)) code value (now (frame .entry)))) ⌝ }
 {
-    let first = call_refusal(m, out, code, value);
+    if !in_range(t, m) {
+        return Judgement::RefusedBy(Refusal::OutOfRange);
+    }
+    Judgement::NoRefusal
+}
+
+// Of a call: all of them.
+pub fn entry_refusal(t: Tag, m: &[u8], out: &[u8], code: u32, value: u32, frame: &[u8]) -> Judgement
+    ensures { λ r. ⌜ r ≡ judgement (entryRules t (now (m .entry)) (handedIn (now (out .entry)) code value (now (frame .entry)))) ⌝ }
+{
+    let first = call_refusal(m, out, code, value, frame);
     match first {
         Judgement::RefusedBy(why) => Judgement::RefusedBy(why),
-        Judgement::NoRefusal => {
-            if !in_range(t, m) {
-                return Judgement::RefusedBy(Refusal::OutOfRange);
-            }
-            Judgement::NoRefusal
-        }
+        Judgement::NoRefusal => later_refusal(t, m, out, code, value, frame),
     }
 }

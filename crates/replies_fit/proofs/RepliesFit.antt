@@ -20,14 +20,13 @@ use Rattle.radio.specs.Radio.{radioOf}
 use Rattle.radio.proofs.Room.{replies-fit}
 use Rattle.model.specs.declared.Answer.{Answer}
 use Rattle.model.specs.declared.Answer.the-variants.{Reply}
-use Rattle.model.specs.declared.Signal.{Signal}
-use Rattle.model.specs.declared.Signal.the-variants.{Wire, Field, Frame}
-use Rattle.model.specs.Signals.{signalBy}
+use Rattle.signal_table.specs.declared.Signal.{Signal}
+use Rattle.signal_table.specs.declared.Signal.the-variants.{Wire, Field, Frame}
 use Rattle.model.specs.Step.{StepResult, fromWire, fromRadio, transferOpen, actOf, stepOf, FreshResult, freshOf}
 use Rattle.replies_fit.specs.Claims.{replyFits, StepRepliesFit}
 use Rattle.reply.specs.Outcome.{radioSide}
 use Rattle.tag.specs.Parts.{wireSide}
-use Rattle.model.proofs.Acts.{range-of}
+use Rattle.model.proofs.Acts.{signalOfCall, range-of}
 
 mailbox-fits : (t : Tag) (m : List ℕ) → tagInRange t m ≡ true → mailboxInRange (t .core .mailbox) ≡ true
 unfolding coreInRange
@@ -55,9 +54,9 @@ act-fits Frame t m o f h =
 
 pub steps-fit : StepRepliesFit
 unfolding stepOf replyFits
-steps-fit t m o code value f =
+steps-fit t m c =
     judged-case (λ (e : StepResult). replyFits (e .answer) ≡ true) _ _ _ (λ r h. refl)
-    (λ h. act-fits (signalBy code value) t m o f (range-of t m o code value h))
+    (λ h. act-fits (signalOfCall c) t m (c .buffer) (c .frame) (range-of t m c h))
 
 pub fresh-reply-fits : (u : Uid) (m : List ℕ) → replyFits (freshOf u m .answer) ≡ true
 unfolding freshOf replyFits

@@ -6,6 +6,7 @@ use Prim.Native.Nat.{ℕ}
 use lib.Dec.{leb}
 use Rattle.tag.specs.declared.Tag.{Tag}
 use Rattle.tag.specs.Layout.{replyBytes}
+use Rattle.refusals.specs.Call.{Call}
 use Rattle.model.specs.declared.Answer.{Answer}
 use Rattle.model.specs.declared.Answer.the-variants.{Refused, Nothing, Ack, NoAck, Byte, Silence, Reply}
 use Rattle.model.specs.Step.{stepOf}
@@ -22,4 +23,4 @@ replyFits (Reply n) = leb n replyBytes
 
 -- every answer's reply fits the 643 bytes
 abbrev pub StepRepliesFit : Type 0
-StepRepliesFit = (t : Tag) (m o : List ℕ) (code value : ℕ) (f : List ℕ) → replyFits (stepOf t m o code value f .answer) ≡ true
+StepRepliesFit = (t : Tag) (m : List ℕ) (call : Call) → replyFits (stepOf t m call .answer) ≡ true

@@ -9,6 +9,7 @@ use lib.ListN.{length, take, length-take}
 use Rattle.reply.specs.Reply.{nothing}
 use Rattle.model.specs.declared.Answer.{Answer}
 use Rattle.model.specs.declared.Answer.the-variants.{Refused, Nothing, Ack, NoAck, Byte, Silence, Reply}
+use Rattle.refusals.specs.Call.{handedIn}
 use Rattle.model.specs.Step.{stepOf}
 use Rattle.replies_fit.specs.Claims.{replyFits}
 use Rattle.replies_fit.proofs.RepliesFit.{steps-fit}
@@ -39,8 +40,9 @@ line-fits n a h = omega (arith, length-line n a, digits-most 20 n)
 
 calls-fit : (b : Bench) (m o : List ℕ) (code value : ℕ) (s : List ℕ) → length (benchCall b m o code value s .text) ≤ longestText
 calls-fit b m o code value s =
-    let e = stepOf (b .tag) m o code value s in
-    line-fits (nextLine b) (answerText (e .answer) (e .reply)) (answer-fits (e .answer) (e .reply) (steps-fit (b .tag) m o code value s))
+    let c = handedIn o code value s in
+    let e = stepOf (b .tag) m c in
+    line-fits (nextLine b) (answerText (e .answer) (e .reply)) (answer-fits (e .answer) (e .reply) (steps-fit (b .tag) m c))
 
 said-fits : (x : ScriptLine) (b : Bench) (m o : List ℕ) → length (lineResult x b m o .text) ≤ longestText
 unfolding lineResult

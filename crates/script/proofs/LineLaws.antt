@@ -7,7 +7,10 @@ use native.Mathlib.Omega.{arith}
 use lib.ListN.{length, take, drop, length-append}
 use lib.Seq.{sets, sets-eq, take-at}
 use Rattle.crc.specs.Crc.{closed}
-use Rattle.refusals.specs.Signals.{signalInRange, topValue}
+use Rattle.parts.specs.Pick.{pick}
+use Rattle.rule_list.specs.RuleList.{firstSays}
+use Rattle.signal_table.specs.Table.{signalTable, signalFound, isFound, signalInRange}
+use Rattle.refusals.specs.Call.{handedIn}
 use Rattle.refusals.proofs.Laws.{judged-case}
 use Rattle.model.specs.Step.{StepResult, stepOf}
 use Rattle.model.proofs.Acts.{signal-of}
@@ -30,5 +33,5 @@ abbrev Unmoved : Bench → List ℕ → List ℕ → StepResult → Type 0
 Unmoved b m o e = prints b (e .tag) (e .memory) (e .reply) (answerText (e .answer) (e .reply)) ≡ prints b (b .tag) m o badText
 
 pub bad-call : (b : Bench) (m o : List ℕ) (value : ℕ) (f : List ℕ) → benchCall b m o 0 value f ≡ prints b (b .tag) m o badText
-unfolding stepOf signalInRange topValue answerText
-bad-call b m o value f = judged-case (Unmoved b m o) _ _ _ (λ r h. refl) (λ h. never (signal-of (b .tag) m o 0 value h))
+unfolding stepOf signalTable signalFound isFound signalInRange firstSays pick answerText
+bad-call b m o value f = judged-case (Unmoved b m o) _ _ _ (λ r h. refl) (λ h. never (signal-of (b .tag) m (handedIn o 0 value f) h))

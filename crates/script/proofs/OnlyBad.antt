@@ -1,6 +1,6 @@
 -- From the start on every line keeps the tag in range, and only a bad line prints ?. Assumes nothing.
 use mathlib.Core.Path.{_≡_, refl, sym, ap, subst, _∙_}
-use mathlib.Core.Bool.{Bool, true, _&&_, _||_}
+use mathlib.Core.Bool.{Bool, true, not, _&&_, _||_}
 use mathlib.Core.Logic.{⊎-elim}
 use mathlib.Core.List.{List, [], _∷_, _++_}
 use Prim.Native.Nat.{ℕ, _+_, _-_, _/_, _%_, _<_}
@@ -9,7 +9,7 @@ use lib.Dec.{T, leb, ltb, eqb}
 use lib.Pow.{areBytes as areAll}
 use lib.ListN.{length, take, drop, getD, replicate}
 use lib.Seq.{sets, length-sets}
-use borrow.Author.Tests.{eq-eqb, eqb-true, le-leb, lt-ltb}
+use borrow.Author.Tests.{eq-eqb, eqb-true, le-leb, le-ltb, lt-ltb}
 use Rattle.parts.specs.Pick.{pick}
 use Rattle.parts.specs.Bytes.{areBytes}
 use Rattle.parts.proofs.Bools.{and-left, and-right, and-both, or-cases}
@@ -17,21 +17,24 @@ use Rattle.parts.proofs.Picks.{pick-case}
 use Rattle.crc.specs.Crc.{crcOf, crcBytes, closed, closedAt}
 use Rattle.crc.proofs.Below.{crc-below}
 use Rattle.tag.specs.declared.Tag.{Tag}
+use Rattle.tag.specs.Layout.{replyBytes}
 use Rattle.tag.specs.Supply.{freshTag}
 use Rattle.reply.specs.Reply.{ReplyBody, nothing, body, bufferOf}
 use Rattle.reply.specs.Outcome.{radioSide}
 use Rattle.radio.specs.Radio.{radioOf}
 use Rattle.model.specs.declared.Answer.the-variants.{Nothing}
-use Rattle.model.specs.declared.Signal.{Signal}
-use Rattle.model.specs.declared.Signal.the-variants.{Wire, Field, Frame}
-use Rattle.model.specs.Signals.{signalBy}
-use Rattle.refusals.specs.Signals.{topValue, signalInRange}
+use Rattle.signal_table.specs.declared.Signal.{Signal}
+use Rattle.signal_table.specs.declared.Signal.the-variants.{Wire, Field, Frame}
+use Rattle.signal_table.specs.Table.{signalTable, signalFound, isFound, signalInRange}
+use Rattle.signal_table.proofs.Laws.{byte-known, frame-known}
+use Rattle.refusals.specs.declared.Judgement.the-variants.{NoRefusal}
+use Rattle.refusals.specs.Call.{Call, handedIn}
 use Rattle.model.specs.Step.{StepResult, FreshResult, freshResult, transferOpen, actOf, stepOf, freshOf, isRefused}
-use Rattle.refusals.specs.Refusals.{judgement, unlessRefused}
+use Rattle.refusals.specs.Refusals.{argumentRules, judgement, unlessRefused}
 use Rattle.keys.specs.declared.Uid.{Uid}
 use Rattle.rule_list.specs.RuleList.{firstSays}
-use Rattle.refusals.proofs.Laws.{judged-case}
-use Rattle.model.proofs.Acts.{fit-acts}
+use Rattle.refusals.proofs.Laws.{judged-case, NoneApplies, no-refusal}
+use Rattle.model.proofs.Acts.{signalOfCall, fit-acts}
 use Rattle.model.proofs.Served.{act-served}
 use Rattle.model.specs.Claims.{Fit}
 use Rattle.model.proofs.Kept.{keeps, fresh-fits}
@@ -55,7 +58,7 @@ abbrev Sane : ScriptLine → Type 0
 Sane x = sane x ≡ true
 
 alone-sane : (x : ℕ) → Sane (alone x)
-unfolding alone sane signalInRange topValue pick
+unfolding alone sane signalInRange isFound signalFound signalTable firstSays pick
 alone-sane x =
     pick-case Sane (eqb x 0x53) _ _ (λ _. refl)
     (λ _. pick-case Sane (eqb x 0x50) _ _ (λ _. refl)
@@ -77,10 +80,10 @@ byte-below : (x y : ℕ) → hexByte x y < 256
 byte-below x y = omega (arith, value-small x, value-small y)
 
 byte-sane : (s : List ℕ) → Sane (byteSent s)
-unfolding byteSent sane signalInRange topValue pick
+unfolding byteSent sane
 byte-sane s =
     pick-case Sane (eqb (length s) 2 && allHex s) (signalLine 4 (hexByte (getD s 0 0) (getD s 1 0))) badLine
-    (λ h. le-leb (hexByte (getD s 0 0) (getD s 1 0)) 255 (omega (arith, byte-below (getD s 0 0) (getD s 1 0))))
+    (λ h. byte-known _ (le-leb (hexByte (getD s 0 0) (getD s 1 0)) 255 (omega (arith, byte-below (getD s 0 0) (getD s 1 0)))))
     (λ _. refl)
 
 bytes-read : (s : List ℕ) → areBytes (hexBytes s) ≡ true
@@ -97,7 +100,7 @@ frame-sane s =
     (λ _. refl)
 
 tabbed-sane : (x : ℕ) (s : List ℕ) → Sane (tabbed x s)
-unfolding tabbed sane signalInRange topValue pick
+unfolding tabbed sane signalInRange isFound signalFound signalTable firstSays pick
 tabbed-sane x s =
     pick-case Sane (eqb x 0x56) _ _ (λ _. level-sane 1 s refl refl)
     (λ _. pick-case Sane (eqb x 0x46) _ _ (λ _. level-sane 2 s refl refl)
@@ -149,34 +152,39 @@ act-room (Wire x) t m o s = refl
 act-room (Field on) t m o s = refl
 act-room Frame t m o s = buffer-room (radioOf (radioSide t) (t .uid) (t .host .vcc) (transferOpen t) (t .host .programming) m s .reply) o
 
-step-room : (t : Tag) (m o : List ℕ) (code value : ℕ) (s : List ℕ) → length (stepOf t m o code value s .reply) ≡ length o
+step-room : (t : Tag) (m : List ℕ) (c : Call) → length (stepOf t m c .reply) ≡ length (c .buffer)
 unfolding stepOf
-step-room t m o code value s =
-    let P : StepResult → Type 0 = λ e. length (e .reply) ≡ length o in
-    judged-case P _ _ _ (λ r h. refl) (λ h. act-room (signalBy code value) t m o s)
+step-room t m c =
+    let P : StepResult → Type 0 = λ e. length (e .reply) ≡ length (c .buffer) in
+    judged-case P _ _ _ (λ r h. refl) (λ h. act-room (signalOfCall c) t m (c .buffer) (c .frame))
 
 -- ---- a call from a bench that fits
 module _ (c : BenchState) (f : BenchFit c) where
+  none-refuses : (code value : ℕ) (s : List ℕ) → signalInRange code value ≡ true → judgement (argumentRules (handedIn (c .reply) code value s)) ≡ NoRefusal
+  unfolding NoneApplies
+  none-refuses code value s h = no-refusal (argumentRules (handedIn (c .reply) code value s)) (le-ltb (length (c .reply)) replyBytes (f .room), (ap not h, tt))
+
   call-answers : (code value : ℕ) (s : List ℕ) → signalInRange code value ≡ true
       → benchCall (c .bench) (c .memory) (c .reply) code value s .text ≡ lineText (nextLine (c .bench)) badText → ⊥
   call-answers code value s h e =
       let t = c .bench .tag in
-      let r = stepOf t (c .memory) (c .reply) code value s in
+      let call = handedIn (c .reply) code value s in
+      let r = stepOf t (c .memory) call in
       marked (r .answer) (r .reply)
-      (ap (λ (x : StepResult). isRefused (x .answer)) (fit-acts t (c .memory) (c .reply) code value s (f .tag) (f .room) h)
-      ∙ act-served (signalBy code value) t (c .memory) (c .reply) s)
+      (ap (λ (x : StepResult). isRefused (x .answer)) (fit-acts t (c .memory) call (f .tag) (none-refuses code value s h))
+      ∙ act-served (signalOfCall call) t (c .memory) (c .reply) s)
       (same-answer (nextLine (c .bench)) (answerText (r .answer) (r .reply)) badText e)
 
   said-answers : (x : ScriptLine) → Sane x → lineResult x (c .bench) (c .memory) (c .reply) .text ≡ lineText (nextLine (c .bench)) badText → x ≡ badLine
-  unfolding lineResult sane signalInRange topValue pick
+  unfolding lineResult sane
   said-answers badLine h e = refl
   said-answers (signalLine code value) h e = absurd (call-answers code value [] h e)
-  said-answers (frameLine s) h e = absurd (call-answers 8 0 (closed s) refl e)
+  said-answers (frameLine s) h e = absurd (call-answers 8 0 (closed s) frame-known e)
 
   call-fits : (code value : ℕ) (s : List ℕ) → areBytes s ≡ true → BenchFit (benchAfter (benchCall (c .bench) (c .memory) (c .reply) code value s))
   call-fits code value s h = record {
-    tag = keeps (c .bench .tag) (c .memory) (c .reply) code value s h (f .tag);
-    room = omega (arith, f .room, step-room (c .bench .tag) (c .memory) (c .reply) code value s);
+    tag = keeps (c .bench .tag) (c .memory) (handedIn (c .reply) code value s) h (f .tag);
+    room = omega (arith, f .room, step-room (c .bench .tag) (c .memory) (handedIn (c .reply) code value s));
   }
 
   said-fits : (x : ScriptLine) → Sane x → BenchFit (benchAfter (lineResult x (c .bench) (c .memory) (c .reply)))

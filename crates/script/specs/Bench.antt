@@ -5,6 +5,7 @@ use lib.ListN.{length as size}
 use lib.Seq.{sets}
 use Rattle.tag.specs.declared.Tag.{Tag}
 use Rattle.crc.specs.Crc.{closed}
+use Rattle.refusals.specs.Call.{handedIn}
 use Rattle.model.specs.Step.{stepOf}
 use Rattle.bench_start.specs.declared.Bench.{Bench}
 use Rattle.reading.specs.Line.{ScriptLine, badLine, signalLine, frameLine, lineOf}
@@ -28,7 +29,7 @@ prints bench t m o answer = record { bench = record { tag = t; number = nextLine
 -- a call with the reply buffer o
 abbrev pub benchCall : Bench → List ℕ → List ℕ → ℕ → ℕ → List ℕ → LineResult
 benchCall bench m o code value f =
-    let result = stepOf (bench .tag) m o code value f in
+    let result = stepOf (bench .tag) m (handedIn o code value f) in
     prints bench (result .tag) (result .memory) (result .reply) (answerText (result .answer) (result .reply))
 
 -- the program adds a frame's CRC

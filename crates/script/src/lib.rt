@@ -34,7 +34,7 @@ fn call(
     ensures { λ r. ⌜ lineBuffers (r .bench) (r .length) (now (m .exit)) (now (reply .exit)) (now (text .exit)) ≡ putLine (benchCall bench (now (m .entry)) (now (reply .entry)) code value (now (frame .entry))) (now (text .entry)) ⌝ }
 {
     let t = bench.tag;
-    let o = model::step(t, m, reply, code, value, frame);
+    let o = model::step(t, m, reply, code as u32, value as u32, frame);
     let answer = o.answer;
     let tag = o.tag;
     let number = bench_start::next_line(bench);

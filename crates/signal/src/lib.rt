@@ -1,4 +1,4 @@
-// A bus signal and its answer, and the end of a leg: a Start and a Stop.
+// A wire signal's answer, and the end of a leg: a Start and a Stop.
 ghost use mathlib.Core.Path.{_≡_};
 ghost use Rattle.parts.specs.Pick.{pick};
 ghost use Rattle.bus.specs.declared.Bus.the-variants.{Started, DataLeg};
@@ -10,18 +10,6 @@ ghost use Rattle.signal.specs.Signal.{wireResult, sideBus, sideLine, due
 use bus::Bus;
 use bus::Space;
 use tag::WireSide;
-
-pub enum WireSignal {
-    Start,
-    // A byte sent.
-    Send(u8),
-    // A byte fetched, with the host's Ack or not.
-    Fetch(bool),
-    Stop,
-    // VCC at a level.
-    Vcc(bool),
-    ProgrammingEnd,
-}
 
 pub enum WireAnswer {
     Nothing,

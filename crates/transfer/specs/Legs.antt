@@ -6,8 +6,8 @@ use Rattle.parts.specs.Pick.{pick}
 use Rattle.select.specs.declared.Choice.{Choice}
 use Rattle.select.specs.declared.Choice.the-variants.{NotAcked, Reading, Writing}
 use Rattle.select.specs.Select.{selectOf}
-use Rattle.signal.specs.declared.WireSignal.{WireSignal}
-use Rattle.signal.specs.declared.WireSignal.the-variants.{Start as SignalStart, Send, Fetch, Stop as SignalStop, Vcc}
+use Rattle.signal_table.specs.declared.WireSignal.{WireSignal}
+use Rattle.signal_table.specs.declared.WireSignal.the-variants.{Start as SignalStart, Send, Fetch, Stop as SignalStop, Vcc}
 
 -- "That select and each later Start, byte, fetch, Stop and VCC off are noted"
 pub data Noted : Type 0 where

@@ -1,12 +1,12 @@
 -- The waiting tag follows the tag by signals, call by call. Assumes nothing.
 use mathlib.Core.Path.{_≡_, refl, sym, ap, subst, _∙_}
-use mathlib.Core.Bool.{Bool, true, false, not}
+use mathlib.Core.Bool.{Bool, true, false, not, false≢true}
 use mathlib.Core.List.{List, [], _∷_, _++_, append-assoc}
 use Prim.Native.Nat.{ℕ}
 use native.Mathlib.Omega.{arith}
 use lib.ListN.{length, length-append}
 use Rattle.parts.specs.Pick.{pick}
-use Rattle.parts.proofs.Picks.{pick-true, pick-case}
+use Rattle.parts.proofs.Picks.{pick-case}
 use Rattle.registers.specs.declared.Registers.{Registers}
 use Rattle.air.specs.declared.Air.{Air}
 use Rattle.bus.specs.declared.Bus.{Bus}
@@ -15,12 +15,12 @@ use Rattle.tag.specs.declared.Host.{Host}
 use Rattle.tag.specs.declared.WireSide.{WireSide}
 use Rattle.bus.specs.Bus.{isOpen}
 use Rattle.air.specs.Radio.{fieldAt}
-use Rattle.tag.specs.Supply.{vccAt}
-use Rattle.tag.specs.Parts.{withProgramming, withHost, wireSide, withWire, withTagAir}
-use Rattle.signal.specs.declared.WireSignal.{WireSignal}
-use Rattle.signal.specs.declared.WireSignal.the-variants.{Start, Send, Fetch, Stop, Vcc, ProgrammingEnd}
-use Rattle.signal.specs.Signal.{WireResult, sideBus}
-use Rattle.wire.specs.Wire.{programmed, signalOf}
+use Rattle.tag.specs.Parts.{wireSide, withWire, withTagAir}
+use Rattle.signal_table.specs.declared.WireSignal.{WireSignal}
+use Rattle.signal_table.specs.declared.WireSignal.the-variants.{Send}
+use Rattle.signal.specs.declared.WireAnswer.the-variants.{Nothing as WireNothing}
+use Rattle.signal.specs.Signal.{WireResult, wireResult, sideBus}
+use Rattle.wire.specs.Wire.{signalOf}
 use Rattle.wire_claims.proofs.Line.{registers-stay}
 use Rattle.transfer.specs.Legs.{Noted, NotedStart, NotedSend, NotedFetch, NotedStop, NotedVccOff, wireSignal, ends, finished}
 use Rattle.transfer.specs.Whole.{TransferResult, transferResult, transferOf}
@@ -31,13 +31,14 @@ use Rattle.refusals.specs.declared.Refusal.{Refusal}
 use Rattle.refusals.specs.declared.Judgement.{Judgement}
 use Rattle.refusals.specs.declared.Judgement.the-variants.{NoRefusal, RefusedBy}
 use Rattle.refusals.specs.Refusals.{unlessRefused}
-use Rattle.model.specs.declared.Signal.{Signal}
-use Rattle.model.specs.declared.Signal.the-variants.{Wire, Field, Frame}
-use Rattle.model.specs.Signals.{signalBy}
+use Rattle.signal_table.specs.declared.Signal.{Signal}
+use Rattle.signal_table.specs.declared.Signal.the-variants.{Wire, Field, Frame}
+use Rattle.signal_table.specs.Table.{signalBy}
 use Rattle.model.specs.Step.{fromWire, transferOpen, actOf}
-use Rattle.calls.specs.Calls.{Call, CallAnswer, callAnswer, Device, device, DeviceResult, deviceResult, entry, callReply}
-use Rattle.waiting.specs.Waiting.{Slot, given, waits, fill, Waiting, noTransfer, inside, answered, isStarted, ackedSelect, atOnce, acts, whenClosed, note, frameAnswer, notes, whenOpen, waitAct, waitStep}
-use Rattle.waiting.proofs.OpenStep.{Open, Going, going, opens, stays-shut, Selects, selects, first-goes}
+use Rattle.refusals.specs.Call.{Call}
+use Rattle.calls.specs.Calls.{CallAnswer, callAnswer, Device, device, DeviceResult, deviceResult, entry, callReply}
+use Rattle.waiting.specs.Waiting.{Slot, given, waits, fill, Waiting, noTransfer, inside, answered, notesOf, isStarted, opens, atOnce, acts, whenClosed, note, frameAnswer, notes, whenOpen, waitAct, waitStep}
+use Rattle.waiting.proofs.OpenStep.{Open, Going, going, stays-shut, NotedAs, isNoted, isIdle, noted-as, Selects, selects, first-goes}
 use Rattle.waiting.proofs.Lists.{run-snoc, run-length, On, here, more, on-snoc, on-finished, waiting, waiting-waits, waiting-given, fill-waits, fill-given}
 use Rattle.calls.proofs.Laws.{found, Fits, call-is, actedBy, supplied}
 use Rattle.waiting.proofs.Frames.{shutBy, frame-shut, frame-waits}
@@ -90,7 +91,7 @@ at-once : (out : List CallAnswer) (k : Device) (e : DeviceResult) → transferOp
 unfolding now answers
 at-once out k e h = record { good = h; device = refl; answers = refl }
 
-acts-shut : (x : WireSignal) (out : List CallAnswer) (k : Device) (c : Call) → transferOpen (k .tag) ≡ false → opens (k .tag .host) x ≡ false
+acts-shut : (x : WireSignal) (out : List CallAnswer) (k : Device) (c : Call) → transferOpen (k .tag) ≡ false → opens (k .tag .host) (notesOf x) ≡ false
     → Stepped (noTransfer out k) (acts out k (Wire x) c) (actedBy (Wire x) k c)
 unfolding actOf
 acts-shut x out k c h q = at-once out k (actedBy (Wire x) k c) (stays-shut (wireSide (k .tag)) (k .tag .uid) (k .memory) x h q)
@@ -116,13 +117,31 @@ from-select : (out : List CallAnswer) (k : Device) (c : Call) (x : ℕ) → Fits
 unfolding now answers actOf runOf wireSignal fill
 from-select out k c x f s = record { good = first-inside k (c .buffer) x f s; device = refl; answers = refl }
 
-from-send : (out : List CallAnswer) (k : Device) (c : Call) (x : ℕ) → Fits k → transferOpen (k .tag) ≡ false
-    → Stepped (noTransfer out k) (pick (ackedSelect (k .tag .host) x) (inside out k (NotedSend x ∷ []) (waits (c .buffer) ∷ [])) (acts out k (Wire (Send x)) c))
-    (actedBy (Wire (Send x)) k c)
+-- the noted signal is one
+by-note : (out : List CallAnswer) (k : Device) (c : Call) (n : Noted) → Fits k → opens (k .tag .host) (n ∷ []) ≡ true
+    → Stepped (noTransfer out k) (inside out k (n ∷ []) (waits (c .buffer) ∷ [])) (actedBy (Wire (wireSignal n)) k c)
+unfolding opens wireSignal
+by-note out k c NotedStart f t = absurd (false≢true t)
+by-note out k c (NotedSend x) f t = from-select out k c x f (selects (k .tag .host) x t)
+by-note out k c (NotedFetch ack) f t = absurd (false≢true t)
+by-note out k c NotedStop f t = absurd (false≢true t)
+by-note out k c NotedVccOff f t = absurd (false≢true t)
+
+opening : (out : List CallAnswer) (k : Device) (c : Call) (x : WireSignal) → Fits k → NotedAs x → opens (k .tag .host) (notesOf x) ≡ true
+    → Stepped (noTransfer out k) (inside out k (notesOf x) (waits (c .buffer) ∷ [])) (actedBy (Wire x) k c)
 unfolding opens
-from-send out k c x f h =
-    pick-case (λ (w : Waiting). Stepped (noTransfer out k) w (actedBy (Wire (Send x)) k c)) (ackedSelect (k .tag .host) x) _ _
-    (λ t. from-select out k c x f (selects (k .tag .host) x t)) (λ t. acts-shut (Send x) out k c h t)
+opening out k c x f (isIdle e i) t = absurd (false≢true (sym (ap (opens (k .tag .host)) e) ∙ t))
+opening out k c x f (isNoted n e q) t =
+    subst (λ (l : List Noted). Stepped (noTransfer out k) (inside out k l (waits (c .buffer) ∷ [])) (actedBy (Wire x) k c)) (sym e)
+    (subst (λ (x : WireSignal). Stepped (noTransfer out k) (inside out k (n ∷ []) (waits (c .buffer) ∷ [])) (actedBy (Wire x) k c)) q
+    (by-note out k c n f (ap (opens (k .tag .host)) (sym e) ∙ t)))
+
+by-wire : (out : List CallAnswer) (k : Device) (c : Call) (x : WireSignal) → Fits k → transferOpen (k .tag) ≡ false
+    → Stepped (noTransfer out k) (whenClosed out k (Wire x) c) (actedBy (Wire x) k c)
+unfolding whenClosed
+by-wire out k c x f h =
+    pick-case (λ (w : Waiting). Stepped (noTransfer out k) w (actedBy (Wire x) k c)) (opens (k .tag .host) (notesOf x)) _ _
+    (opening out k c x f (noted-as x)) (acts-shut x out k c h)
 
 by-air : (out : List CallAnswer) (k : Device) (c : Call) (on : Bool) → transferOpen (k .tag) ≡ false
     → Stepped (noTransfer out k) (acts out k (Field on) c) (actedBy (Field on) k c)
@@ -135,26 +154,12 @@ by-frame out k c h = at-once out k (actedBy Frame k c) h
 
 from-closed : (out : List CallAnswer) (k : Device) (x : Signal) (c : Call) → Fits k → transferOpen (k .tag) ≡ false
     → Stepped (noTransfer out k) (whenClosed out k x c) (actedBy x k c)
-unfolding whenClosed opens
-from-closed out k (Wire (Send x)) c f h = from-send out k c x f h
-from-closed out k (Wire Start) c f h = acts-shut Start out k c h refl
-from-closed out k (Wire (Fetch ack)) c f h = acts-shut (Fetch ack) out k c h refl
-from-closed out k (Wire Stop) c f h = acts-shut Stop out k c h refl
-from-closed out k (Wire (Vcc on)) c f h = acts-shut (Vcc on) out k c h refl
-from-closed out k (Wire ProgrammingEnd) c f h = acts-shut ProgrammingEnd out k c h refl
+unfolding whenClosed
+from-closed out k (Wire x) c f h = by-wire out k c x f h
 from-closed out k (Field on) c f h = by-air out k c on h
 from-closed out k Frame c f h = by-frame out k c h
 
 -- ---- a transfer open
--- VCC on again, and a programming end with nothing under way
-vcc-again : (w : WireSide) → w .host .vcc ≡ true → vccAt true w ≡ w
-unfolding vccAt
-vcc-again w v = sym (pick-true _ _ _ true refl (pick-true _ _ _ (w .host .vcc) v refl))
-
-programmed-again : (w : WireSide) → w .host .programming ≡ false → programmed w ≡ w
-programmed-again w p =
-    ap (λ (b : Bool). withHost (withProgramming b (w .host)) w) (sym p)
-
 module _ (out : List CallAnswer) (k : Device) (n : List Noted) (sl : List Slot) (g : Inside k n sl) where
   -- the signal s after those of the list
   abbrev next : Noted → WireResult
@@ -219,8 +224,8 @@ module _ (out : List CallAnswer) (k : Device) (n : List Noted) (sl : List Slot) 
   goes-on s c f q = record { good = went s (c .buffer) f q; device = ap (after k) (snoc s); answers = grown s (c .buffer) _ refl }
 
   noted : (s : Noted) (c : Call) → Fits (now (inside out k n sl))
-      → Stepped (inside out k n sl) (notes out k n sl s c) (actedBy (Wire (wireSignal s)) (now (inside out k n sl)) c)
-  unfolding note
+      → Stepped (inside out k n sl) (notes out k n sl (s ∷ []) c) (actedBy (Wire (wireSignal s)) (now (inside out k n sl)) c)
+  unfolding notes note
   noted s c f =
       pick-case (λ (w : Waiting). Stepped (inside out k n sl) w (actedBy (Wire (wireSignal s)) (now (inside out k n sl)) c)) (finished true (n ++ s ∷ [])) _ _
       (λ t. ended s c t) (λ t. goes-on s c f t)
@@ -246,16 +251,22 @@ module _ (out : List CallAnswer) (k : Device) (n : List Noted) (sl : List Slot) 
   unfolding whenOpen answered now actOf
   field on c = given-at-once (fieldAt on (k .tag .air)) (callAnswer Nothing (c .buffer))
 
-  vcc : (c : Call) → actedBy (Wire (Vcc true)) (now (inside out k n sl)) c ≡ deviceResult (callAnswer Nothing (c .buffer)) (now (inside out k n sl))
-  unfolding now actOf signalOf fromWire
-  vcc c =
-      ap (λ (w : WireSide). deviceResult (callAnswer Nothing (c .buffer)) (device (withWire w (k .tag)) (running k n .memory))) (vcc-again (running k n .side) (g .state .vcc))
+  idle : (x : WireSignal) (c : Call)
+      → signalOf (running k n .side) (k .tag .uid) (running k n .memory) x ≡ wireResult WireNothing (running k n .side) (running k n .memory)
+      → actedBy (Wire x) (now (inside out k n sl)) c ≡ deviceResult (callAnswer Nothing (c .buffer)) (now (inside out k n sl))
+  unfolding now actOf fromWire
+  idle x c h =
+      ap (λ (r : WireResult). deviceResult (callAnswer (fromWire (r .answer)) (c .buffer)) (device (withWire (r .side) (k .tag)) (r .memory))) h
 
-  programming-end : (c : Call)
-      → actedBy (Wire ProgrammingEnd) (now (inside out k n sl)) c ≡ deviceResult (callAnswer Nothing (c .buffer)) (now (inside out k n sl))
-  unfolding now actOf signalOf fromWire
-  programming-end c =
-      ap (λ (w : WireSide). deviceResult (callAnswer Nothing (c .buffer)) (device (withWire w (k .tag)) (running k n .memory))) (programmed-again (running k n .side) (g .state .still))
+  wire : (x : WireSignal) (c : Call) → NotedAs x → Fits (now (inside out k n sl))
+      → Stepped (inside out k n sl) (notes out k n sl (notesOf x) c) (actedBy (Wire x) (now (inside out k n sl)) c)
+  unfolding notes
+  wire x c (isNoted s e q) f =
+      subst (λ (l : List Noted). Stepped (inside out k n sl) (notes out k n sl l c) (actedBy (Wire x) (now (inside out k n sl)) c)) (sym e)
+      (subst (λ (x : WireSignal). Stepped (inside out k n sl) (notes out k n sl (s ∷ []) c) (actedBy (Wire x) (now (inside out k n sl)) c)) q (noted s c f))
+  wire x c (isIdle e i) f =
+      subst (λ (l : List Noted). Stepped (inside out k n sl) (notes out k n sl l c) (actedBy (Wire x) (now (inside out k n sl)) c)) (sym e)
+      (given-as (callAnswer Nothing (c .buffer)) _ (idle x c (i (running k n .side) (k .tag .uid) (running k n .memory) (g .state))))
 
   -- RF_MNGT_Dyn is the kept tag's
   frame : (c : Call) → actedBy Frame (now (inside out k n sl)) c ≡ deviceResult (frameAnswer k c) (now (inside out k n sl))
@@ -267,14 +278,8 @@ module _ (out : List CallAnswer) (k : Device) (n : List Noted) (sl : List Slot) 
 
   from-inside : (x : Signal) (c : Call) → Fits (now (inside out k n sl))
       → Stepped (inside out k n sl) (whenOpen out k n sl x c) (actedBy x (now (inside out k n sl)) c)
-  unfolding whenOpen wireSignal
-  from-inside (Wire Start) c f = noted NotedStart c f
-  from-inside (Wire (Send x)) c f = noted (NotedSend x) c f
-  from-inside (Wire (Fetch ack)) c f = noted (NotedFetch ack) c f
-  from-inside (Wire Stop) c f = noted NotedStop c f
-  from-inside (Wire (Vcc false)) c f = noted NotedVccOff c f
-  from-inside (Wire (Vcc true)) c f = given-as (callAnswer Nothing (c .buffer)) _ (vcc c)
-  from-inside (Wire ProgrammingEnd) c f = given-as (callAnswer Nothing (c .buffer)) _ (programming-end c)
+  unfolding whenOpen
+  from-inside (Wire x) c f = wire x c (noted-as x) f
   from-inside (Field on) c f = field on c
   from-inside Frame c f = given-as (frameAnswer k c) _ (frame c)
 

@@ -20,9 +20,10 @@ use Rattle.judge.specs.Judge.{isMute, errorOf, shutOut}
 use Rattle.silence.specs.Silence.{isSilent}
 use Rattle.judge.proofs.ShutOut.{shut-out-decides}
 use Rattle.radio.specs.Radio.{verdictResult, radioOf}
-use Rattle.model.specs.declared.Signal.the-variants.{Frame}
+use Rattle.signal_table.specs.declared.Signal.the-variants.{Frame}
 use Rattle.model.specs.Step.{transferOpen, actOf}
-use Rattle.calls.specs.Calls.{Call, Device, device, deviceResult, callReply}
+use Rattle.refusals.specs.Call.{Call}
+use Rattle.calls.specs.Calls.{Device, device, deviceResult, callReply}
 use Rattle.waiting.specs.Waiting.{frameAnswer}
 use Rattle.calls.proofs.Laws.{actedBy}
 

@@ -1,11 +1,11 @@
 -- What one noted signal does to an open transfer, and that only an Acked select opens one. Assumes nothing.
 use mathlib.Core.Path.{_≡_, refl, sym, ap, subst, _∙_}
 use mathlib.Core.Bool.{Bool, true, false, not, _&&_, false≢true}
-use mathlib.Core.List.{List}
+use mathlib.Core.List.{List, [], _∷_}
 use Prim.Native.Nat.{ℕ}
 use borrow.Author.Tests.{not-true}
 use Rattle.parts.specs.Pick.{pick}
-use Rattle.parts.proofs.Picks.{pick-false, pick-case}
+use Rattle.parts.proofs.Picks.{pick-true, pick-false, pick-case}
 use Rattle.bus.specs.declared.Space.{Space}
 use Rattle.bus.specs.declared.Bus.{Bus}
 use Rattle.bus.specs.declared.Bus.the-variants.{Idle, Started, ReadLeg, WriteLeg, LowAddress, DataLeg}
@@ -14,18 +14,21 @@ use Rattle.tag.specs.declared.WireSide.{WireSide}
 use Rattle.keys.specs.declared.Uid.{Uid}
 use Rattle.bus.specs.Bus.{isOpen}
 use Rattle.tag.specs.Supply.{vccAt}
+use Rattle.tag.specs.Parts.{withProgramming, withHost}
 use Rattle.select.specs.declared.Choice.{Choice}
 use Rattle.select.specs.declared.Choice.the-variants.{NotAcked, Reading, Writing}
 use Rattle.select.specs.Select.{selectOf, choose}
 use Rattle.leg.specs.Leg.{started}
-use Rattle.signal.specs.declared.WireSignal.{WireSignal}
-use Rattle.signal.specs.declared.WireSignal.the-variants.{Start as SignalStart, Send, Fetch, Stop as SignalStop, Vcc, ProgrammingEnd}
-use Rattle.signal.specs.Signal.{WireResult, sideBus, dueOf, startAt, startOf}
+use Rattle.signal_table.specs.declared.WireSignal.{WireSignal}
+use Rattle.signal_table.specs.declared.WireSignal.the-variants.{Start as SignalStart, Send, Fetch, Stop as SignalStop, Vcc, ProgrammingEnd}
+use Rattle.signal.specs.declared.WireAnswer.the-variants.{Nothing}
+use Rattle.signal.specs.Signal.{WireResult, wireResult, sideBus, dueOf, startAt, startOf}
 use Rattle.signal.proofs.Ended.{start-host, stop-shut}
 use Rattle.send.specs.Send.{selectBy, dataOf, sendAt}
-use Rattle.wire.specs.Wire.{fetchAt, signalOf}
+use Rattle.wire.specs.Wire.{fetchAt, programmed, signalOf}
+use Rattle.wire_claims.proofs.Cases.{signal-case}
 use Rattle.transfer.specs.Legs.{Noted, NotedStart, NotedSend, NotedFetch, NotedStop, NotedVccOff, wireSignal, selectRefused, ends, fresher}
-use Rattle.waiting.specs.Waiting.{isStarted, ackedSelect}
+use Rattle.waiting.specs.Waiting.{notesOf, isStarted, ackedSelect, opens}
 
 -- a transfer is open: VCC is on and nothing is being programmed
 pub record Open (h : Host) : Type 0 where
@@ -129,15 +132,6 @@ going w u m NotedStop o = over-at _ NotedStop _ refl (stop-shut w m)
 going w u m NotedVccOff o = over-at _ NotedVccOff _ refl (off-shut w (o .vcc))
 
 -- ---- no transfer open
--- the signal is an Acked select
-unfoldable pub opens : Host → WireSignal → Bool
-opens h SignalStart = false
-opens h (Send x) = ackedSelect h x
-opens h (Fetch ack) = false
-opens h SignalStop = false
-opens h (Vcc on) = false
-opens h ProgrammingEnd = false
-
 shut-start : (w : WireSide) (m : List ℕ) → isOpen (w .host .bus) ≡ false → isOpen (startOf w m .side .host .bus) ≡ false
 unfolding startOf isOpen
 shut-start w m h =
@@ -178,15 +172,53 @@ shut-vcc on w h =
     pick-case P on _ _ (λ t. pick-case P (w .host .vcc) _ _ (λ v. h) (λ v. h)) (λ t. pick-case P (w .host .vcc) _ _ (λ v. refl) (λ v. h))
 
 -- nothing else opens one
-pub stays-shut : (w : WireSide) (u : Uid) (m : List ℕ) (s : WireSignal) → isOpen (w .host .bus) ≡ false → opens (w .host) s ≡ false
+pub stays-shut : (w : WireSide) (u : Uid) (m : List ℕ) (s : WireSignal) → isOpen (w .host .bus) ≡ false → opens (w .host) (notesOf s) ≡ false
     → isOpen (signalOf w u m s .side .host .bus) ≡ false
-unfolding signalOf opens ackedSelect
-stays-shut w u m SignalStart h q = shut-start w m h
-stays-shut w u m (Send x) h q = shut-send (w .host .bus) w m x refl h q
-stays-shut w u m (Fetch ack) h q = shut-fetch (w .host .bus) w u m ack refl h
-stays-shut w u m SignalStop h q = stop-shut w m
-stays-shut w u m (Vcc on) h q = shut-vcc on w h
-stays-shut w u m ProgrammingEnd h q = h
+unfolding notesOf opens ackedSelect
+stays-shut w u m s h =
+    signal-case (λ (s : WireSignal) (r : WireResult). opens (w .host) (notesOf s) ≡ false → isOpen (r .side .host .bus) ≡ false) w u m
+    (λ _. shut-start w m h)
+    (λ x q. shut-send (w .host .bus) w m x refl h q)
+    (λ ack _. shut-fetch (w .host .bus) w u m ack refl h)
+    (λ _. stop-shut w m)
+    (λ on _. shut-vcc on w h)
+    (λ _ on _. h)
+    s
+
+-- ---- a signal of which nothing is noted does nothing in an open transfer
+vcc-again : (w : WireSide) → w .host .vcc ≡ true → vccAt true w ≡ w
+unfolding vccAt
+vcc-again w v = sym (pick-true _ _ _ true refl (pick-true _ _ _ (w .host .vcc) v refl))
+
+programmed-again : (w : WireSide) → w .host .programming ≡ false → programmed w ≡ w
+programmed-again w p =
+    ap (λ (b : Bool). withHost (withProgramming b (w .host)) w) (sym p)
+
+abbrev Idles : WireSignal → Type 0
+Idles s = (w : WireSide) (u : Uid) (m : List ℕ) → Open (w .host) → signalOf w u m s ≡ wireResult Nothing w m
+
+vcc-idles : Idles (Vcc true)
+unfolding signalOf
+vcc-idles w u m o = ap (λ (x : WireSide). wireResult Nothing x m) (vcc-again w (o .vcc))
+
+programming-idles : Idles ProgrammingEnd
+unfolding signalOf
+programming-idles w u m o = ap (λ (x : WireSide). wireResult Nothing x m) (programmed-again w (o .still))
+
+-- of each signal: what is noted, or that nothing is
+pub data NotedAs (s : WireSignal) : Type 0 where
+  isNoted : (n : Noted) → notesOf s ≡ n ∷ [] → wireSignal n ≡ s → NotedAs s
+  isIdle : notesOf s ≡ [] → Idles s → NotedAs s
+
+pub noted-as : (s : WireSignal) → NotedAs s
+unfolding notesOf wireSignal
+noted-as SignalStart = isNoted NotedStart refl refl
+noted-as (Send x) = isNoted (NotedSend x) refl refl
+noted-as (Fetch ack) = isNoted (NotedFetch ack) refl refl
+noted-as SignalStop = isNoted NotedStop refl refl
+noted-as (Vcc false) = isNoted NotedVccOff refl refl
+noted-as (Vcc true) = isIdle refl vcc-idles
+noted-as ProgrammingEnd = isIdle refl programming-idles
 
 -- an Acked select finds the bus started, VCC on and nothing being programmed
 pub record Selects (h : Host) (x : ℕ) : Type 0 where

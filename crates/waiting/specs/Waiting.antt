@@ -11,19 +11,21 @@ use Rattle.air.specs.Radio.{fieldAt}
 use Rattle.tag.specs.Parts.{wireSide, withWire, withTagAir}
 use Rattle.select.specs.Select.{choose}
 use Rattle.signal.specs.declared.WireAnswer.{WireAnswer}
-use Rattle.signal.specs.declared.WireSignal.the-variants.{Start as SignalStart, Send, Fetch, Stop as SignalStop, Vcc, ProgrammingEnd}
+use Rattle.signal_table.specs.declared.WireSignal.{WireSignal}
+use Rattle.signal_table.specs.declared.WireSignal.the-variants.{Start as SignalStart, Send, Fetch, Stop as SignalStop, Vcc, ProgrammingEnd}
 use Rattle.transfer.specs.Legs.{Noted, NotedStart, NotedSend, NotedFetch, NotedStop, NotedVccOff, selectRefused, finished}
 use Rattle.transfer.specs.Whole.{transferOf}
 use Rattle.radio.specs.Radio.{radioOf}
 use Rattle.model.specs.declared.Answer.the-variants.{Refused, Nothing}
 use Rattle.refusals.specs.declared.Refusal.{Refusal}
 use Rattle.refusals.specs.Refusals.{argumentRules, judgement, unlessRefused}
-use Rattle.model.specs.declared.Signal.{Signal}
-use Rattle.model.specs.declared.Signal.the-variants.{Wire, Field, Frame}
-use Rattle.model.specs.Signals.{signalBy}
+use Rattle.signal_table.specs.declared.Signal.{Signal}
+use Rattle.signal_table.specs.declared.Signal.the-variants.{Wire, Field, Frame}
+use Rattle.signal_table.specs.Table.{signalBy}
 use Rattle.model.specs.Step.{fromWire, actOf}
 use Rattle.reply.specs.Outcome.{radioSide}
-use Rattle.calls.specs.Calls.{Call, callReply, CallAnswer, callAnswer, Device, device, DeviceResult, deviceResultOf}
+use Rattle.refusals.specs.Call.{Call}
+use Rattle.calls.specs.Calls.{callReply, CallAnswer, callAnswer, Device, device, DeviceResult, deviceResultOf}
 
 -- the place of an answer: given, or waiting for the transfer's end with the reply buffer of its call
 pub data Slot : Type 0 where
@@ -48,6 +50,16 @@ unfoldable pub answered : Waiting → CallAnswer → Waiting
 answered (noTransfer out d) answer = noTransfer (out ++ answer ∷ []) d
 answered (inside out d noted slots) answer = inside out d noted (slots ++ given answer ∷ [])
 
+-- ---- what is noted of a wire signal: "That select and each later Start, byte, fetch, Stop and VCC off are noted"
+unfoldable pub notesOf : WireSignal → List Noted
+notesOf SignalStart = NotedStart ∷ []
+notesOf (Send x) = NotedSend x ∷ []
+notesOf (Fetch ack) = NotedFetch ack ∷ []
+notesOf SignalStop = NotedStop ∷ []
+notesOf (Vcc false) = NotedVccOff ∷ []
+notesOf (Vcc true) = []
+notesOf ProgrammingEnd = []
+
 -- ---- no transfer open
 unfoldable pub isStarted : Bus → Bool
 isStarted Idle = false
@@ -61,6 +73,15 @@ isStarted (DataLeg space count spoiled) = false
 unfoldable pub ackedSelect : Host → ℕ → Bool
 ackedSelect h x = isStarted (h .bus) && not (selectRefused (choose (h .vcc) (h .programming) x))
 
+-- what is noted is one
+unfoldable pub opens : Host → List Noted → Bool
+opens h [] = false
+opens h (NotedStart ∷ rest) = false
+opens h (NotedSend x ∷ rest) = ackedSelect h x
+opens h (NotedFetch ack ∷ rest) = false
+opens h (NotedStop ∷ rest) = false
+opens h (NotedVccOff ∷ rest) = false
+
 -- "With no transfer open, any call but an Acked select acts as 01 says."
 abbrev pub atOnce : List CallAnswer → DeviceResult → Waiting
 atOnce out result = noTransfer (out ++ result .says ∷ []) (result .device)
@@ -69,14 +90,9 @@ abbrev pub acts : List CallAnswer → Device → Signal → Call → Waiting
 acts out d signal call = atOnce out (deviceResultOf (actOf signal (d .tag) (d .memory) (call .buffer) (call .frame)))
 
 unfoldable pub whenClosed : List CallAnswer → Device → Signal → Call → Waiting
-whenClosed out d (Wire (Send x)) call =
-    pick (ackedSelect (d .tag .host) x) (inside out d (NotedSend x ∷ []) (waits (call .buffer) ∷ []))
-    (acts out d (Wire (Send x)) call)
-whenClosed out d (Wire SignalStart) call = acts out d (Wire SignalStart) call
-whenClosed out d (Wire (Fetch ack)) call = acts out d (Wire (Fetch ack)) call
-whenClosed out d (Wire SignalStop) call = acts out d (Wire SignalStop) call
-whenClosed out d (Wire (Vcc on)) call = acts out d (Wire (Vcc on)) call
-whenClosed out d (Wire ProgrammingEnd) call = acts out d (Wire ProgrammingEnd) call
+whenClosed out d (Wire signal) call =
+    pick (opens (d .tag .host) (notesOf signal)) (inside out d (notesOf signal) (waits (call .buffer) ∷ []))
+    (acts out d (Wire signal) call)
 whenClosed out d (Field on) call = acts out d (Field on) call
 whenClosed out d Frame call = acts out d Frame call
 
@@ -94,19 +110,14 @@ frameAnswer d call =
     let result = radioOf (radioSide (d .tag)) (d .tag .uid) (d .tag .host .vcc) true (d .tag .host .programming) (d .memory) (call .frame) in
     callReply (result .reply) (call .buffer)
 
--- one more signal noted
-abbrev pub notes : List CallAnswer → Device → List Noted → List Slot → Noted → Call → Waiting
-notes out d noted slots next call = note out d (noted ++ next ∷ []) (slots ++ waits (call .buffer) ∷ [])
+-- one more signal noted, or answered as one that does nothing
+unfoldable pub notes : List CallAnswer → Device → List Noted → List Slot → List Noted → Call → Waiting
+notes out d noted slots [] call = answered (inside out d noted slots) (callAnswer Nothing (call .buffer))
+notes out d noted slots (next ∷ rest) call = note out d (noted ++ next ∷ []) (slots ++ waits (call .buffer) ∷ [])
 
--- "each later Start, byte, fetch, Stop and VCC off are noted"; "Until then field changes act at once and nothing else acts"
+-- "Until then field changes act at once and nothing else acts"
 unfoldable pub whenOpen : List CallAnswer → Device → List Noted → List Slot → Signal → Call → Waiting
-whenOpen out d noted slots (Wire SignalStart) call = notes out d noted slots NotedStart call
-whenOpen out d noted slots (Wire (Send x)) call = notes out d noted slots (NotedSend x) call
-whenOpen out d noted slots (Wire (Fetch ack)) call = notes out d noted slots (NotedFetch ack) call
-whenOpen out d noted slots (Wire SignalStop) call = notes out d noted slots NotedStop call
-whenOpen out d noted slots (Wire (Vcc false)) call = notes out d noted slots NotedVccOff call
-whenOpen out d noted slots (Wire (Vcc true)) call = answered (inside out d noted slots) (callAnswer Nothing (call .buffer))
-whenOpen out d noted slots (Wire ProgrammingEnd) call = answered (inside out d noted slots) (callAnswer Nothing (call .buffer))
+whenOpen out d noted slots (Wire signal) call = notes out d noted slots (notesOf signal) call
 whenOpen out d noted slots (Field on) call =
     answered (inside out (device (withTagAir (fieldAt on (d .tag .air)) (d .tag)) (d .memory)) noted slots) (callAnswer Nothing (call .buffer))
 whenOpen out d noted slots Frame call = answered (inside out d noted slots) (frameAnswer d call)
@@ -116,10 +127,10 @@ unfoldable pub waitAct : Waiting → Signal → Call → Waiting
 waitAct (noTransfer out d) signal call = whenClosed out d signal call
 waitAct (inside out d noted slots) signal call = whenOpen out d noted slots signal call
 
--- it judges refusals 2 and 3, which the call's own arguments tell
+-- it judges the refusals that the call's own arguments tell
 unfoldable pub waitStep : Waiting → Call → Waiting
 waitStep waiting call =
-    unlessRefused (judgement (argumentRules (call .buffer) (call .code) (call .value))) (λ (refusal : Refusal). answered waiting (callAnswer (Refused refusal) (call .buffer)))
+    unlessRefused (judgement (argumentRules call)) (λ (refusal : Refusal). answered waiting (callAnswer (Refused refusal) (call .buffer)))
     (waitAct waiting (signalBy (call .code) (call .value)) call)
 
 unfoldable pub waitRun : Waiting → List Call → Waiting

@@ -12,8 +12,8 @@ use Rattle.bus.specs.Bus.{nextAddress}
 use Rattle.tag.specs.Supply.{vccAt}
 use Rattle.fetch.specs.Fetch.{fetched, isLast}
 use Rattle.signal.specs.declared.WireAnswer.the-variants.{Nothing, Byte}
-use Rattle.signal.specs.declared.WireSignal.{WireSignal}
-use Rattle.signal.specs.declared.WireSignal.the-variants.{Start, Send, Fetch, Stop, Vcc, ProgrammingEnd}
+use Rattle.signal_table.specs.declared.WireSignal.{WireSignal}
+use Rattle.signal_table.specs.declared.WireSignal.the-variants.{Start, Send, Fetch, Stop, Vcc, ProgrammingEnd}
 use Rattle.signal.specs.Signal.{WireResult, wireResult, sideLine, startOf, stopAt}
 use Rattle.send.specs.Send.{sendAt}
 

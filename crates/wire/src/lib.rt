@@ -9,7 +9,7 @@ use bus::Space;
 use keys::Uid;
 use signal::WireAnswer;
 use signal::WireOutcome;
-use signal::WireSignal;
+use signal_table::WireSignal;
 use tag::WireSide;
 
 fn no_byte(w: WireSide) -> WireOutcome

@@ -21,11 +21,13 @@ use Rattle.effect.specs.Effect.{LegResult}
 use Rattle.leg.specs.Leg.{Due, nothingDue, clears, writes, started, stopped, settle, legWritten}
 use Rattle.user_leg.specs.UserLeg.{userWritten}
 use Rattle.system_leg.specs.SystemLeg.{systemWritten, passwordWritten}
-use Rattle.signal.specs.declared.WireSignal.the-variants.{Start, Send, Fetch, Stop, Vcc, ProgrammingEnd}
+use Rattle.signal_table.specs.declared.WireSignal.{WireSignal}
 use Rattle.signal.specs.Signal.{WireResult, sideBus, dueOf, startAt, startOf, stopAt}
 use Rattle.send.specs.Send.{selectBy, dataOf, sendAt}
 use Rattle.wire.specs.Wire.{fetchAt, signalOf}
-use Rattle.wire_claims.specs.Claims.{sentByte, KeepsBytes}
+use Rattle.signal_table.specs.Table.{sentByte}
+use Rattle.wire_claims.specs.Claims.{KeepsBytes}
+use Rattle.wire_claims.proofs.Cases.{signal-case}
 
 -- ---- the end of a leg
 abbrev S : LegResult → Type 0
@@ -99,11 +101,13 @@ module _ (w : WireSide) (m : List ℕ) (h : Below m) where
   fetch-small (DataLeg s n spoiled) u ack = h
 
 pub keeps-bytes : KeepsBytes
-unfolding signalOf startOf startAt stopAt sentByte
-keeps-bytes w u m Start p h =
-    pick-case E (w .host .vcc) _ _ (λ v. start-small (sideBus (Started (isOpen (w .host .bus))) w) m h (dueOf (w .host .bus) (w .host .counter) m)) (λ v. h)
-keeps-bytes w u m (Send x) p h = send-small w m h (w .host .bus) x p
-keeps-bytes w u m (Fetch ack) p h = fetch-small w m h (w .host .bus) u ack
-keeps-bytes w u m Stop p h = due-small (sideBus Idle w) m h (w .host .bus) (w .host .counter)
-keeps-bytes w u m (Vcc on) p h = h
-keeps-bytes w u m ProgrammingEnd p h = h
+unfolding startOf startAt stopAt sentByte
+keeps-bytes w u m s p h =
+    signal-case (λ (s : WireSignal) (e : WireResult). sentByte s < 256 → E e) w u m
+    (λ _. pick-case E (w .host .vcc) _ _ (λ v. start-small (sideBus (Started (isOpen (w .host .bus))) w) m h (dueOf (w .host .bus) (w .host .counter) m)) (λ v. h))
+    (send-small w m h (w .host .bus))
+    (λ ack _. fetch-small w m h (w .host .bus) u ack)
+    (λ _. due-small (sideBus Idle w) m h (w .host .bus) (w .host .counter))
+    (λ on _. h)
+    (λ _ on _. h)
+    s p

@@ -45,12 +45,12 @@ use Rattle.effect.specs.Effect.{LegResult, legResult, sideSession, programming}
 use Rattle.leg.specs.Leg.{Due, nothingDue, clears, writes, started, stopped, settle, legWritten}
 use Rattle.user_leg.specs.UserLeg.{userWritten}
 use Rattle.system_leg.specs.SystemLeg.{systemWritten, passwordWritten}
-use Rattle.signal.specs.declared.WireSignal.{WireSignal}
-use Rattle.signal.specs.declared.WireSignal.the-variants.{Start, Send, Fetch, Stop, Vcc, ProgrammingEnd}
+use Rattle.signal_table.specs.declared.WireSignal.{WireSignal}
 use Rattle.signal.specs.Signal.{WireResult, sideBus, sideLine, dueOf, startAt, startOf, stopAt}
 use Rattle.send.specs.Send.{selectBy, dataOf, sendAt}
 use Rattle.wire.specs.Wire.{fetchAt, programmed, signalOf}
 use Rattle.wire_claims.specs.Claims.{SignalKeepsRange}
+use Rattle.wire_claims.proofs.Cases.{undisturbed, signal-case}
 use Rattle.wire_claims.proofs.Page.{page-more, of-mailbox, free, registers-kept}
 
 -- ---- the tests of supply: v is VCC
@@ -382,14 +382,21 @@ module _ (w : WireSide) (m : List ℕ) (k : Kept w m) where
         size = k .size;
       }
 
+  undisturbed-kept : (on : Bool) → Kept (undisturbed on w) m
+  undisturbed-kept true = k
+  undisturbed-kept false = programmed-kept
+
   signal-kept : (u : Uid) (s : WireSignal) → K (signalOf w u m s)
-  unfolding signalOf startOf startAt stopAt
-  signal-kept u Start = pick-case K (w .host .vcc) _ _ (λ v. start-kept v (dueOf (w .host .bus) (w .host .counter) m)) (λ v. k)
-  signal-kept u (Send x) = send-kept (w .host .bus) x refl
-  signal-kept u (Fetch ack) = fetch-kept (w .host .bus) u ack refl
-  signal-kept u Stop = due-kept (w .host .bus) refl
-  signal-kept u (Vcc on) = vcc-kept on
-  signal-kept u ProgrammingEnd = programmed-kept
+  unfolding startOf startAt stopAt
+  signal-kept u s =
+      signal-case (λ (_ : WireSignal). K) w u m
+      (pick-case K (w .host .vcc) _ _ (λ v. start-kept v (dueOf (w .host .bus) (w .host .counter) m)) (λ v. k))
+      (λ x. send-kept (w .host .bus) x refl)
+      (λ ack. fetch-kept (w .host .bus) u ack refl)
+      (due-kept (w .host .bus) refl)
+      vcc-kept
+      (λ _ on. undisturbed-kept on)
+      s
 
 pub keeps : SignalKeepsRange
 keeps w u m s r =

@@ -1,4 +1,5 @@
 pub mod Page
+pub mod Cases
 pub mod Kept
 pub mod Line
 pub mod Bytes

@@ -16,12 +16,13 @@ use Rattle.tag.specs.Supply.{vccAt}
 use Rattle.ranges.specs.Ranges.{suppliedInRange}
 use Rattle.select.specs.declared.Choice.{Choice}
 use Rattle.select.specs.declared.Choice.the-variants.{NotAcked, Reading, Writing}
-use Rattle.signal.specs.declared.WireSignal.the-variants.{Start, Send, Fetch, Stop, Vcc, ProgrammingEnd}
+use Rattle.signal_table.specs.declared.WireSignal.{WireSignal}
 use Rattle.signal.specs.Signal.{WireResult, sideBus, dueOf, startAt, startOf, stopAt}
 use Rattle.signal.proofs.Ended.{start-host, start-registers, stop-line, stop-shut}
 use Rattle.send.specs.Send.{selectBy, dataOf, sendAt}
 use Rattle.wire.specs.Wire.{fetchAt, signalOf}
 use Rattle.wire_claims.specs.Claims.{KeepsCounter, RegistersStay}
+use Rattle.wire_claims.proofs.Cases.{signal-case}
 use Rattle.wire_claims.proofs.Kept.{inactive}
 
 -- ---- the counter
@@ -75,13 +76,16 @@ module _ (w : WireSide) (m : List ℕ) (h : w .host .counter < 65536) where
   stop-counter = subst (λ (n : ℕ). n < 65536) (sym (stop-line (sideBus Idle w) m (dueOf (w .host .bus) (w .host .counter) m) .1)) h
 
 pub keeps-counter : KeepsCounter
-unfolding signalOf startOf
-keeps-counter w u m Start h = pick-case C (w .host .vcc) _ _ (λ v. start-counter w m h) (λ v. h)
-keeps-counter w u m (Send x) h = send-counter w m h (w .host .bus) x
-keeps-counter w u m (Fetch ack) h = fetch-counter w m h (w .host .bus) u ack
-keeps-counter w u m Stop h = stop-counter w m h
-keeps-counter w u m (Vcc on) h = vcc-counter w m h on
-keeps-counter w u m ProgrammingEnd h = h
+unfolding startOf
+keeps-counter w u m s h =
+    signal-case (λ (_ : WireSignal). C) w u m
+    (pick-case C (w .host .vcc) _ _ (λ v. start-counter w m h) (λ v. h))
+    (send-counter w m h (w .host .bus))
+    (fetch-counter w m h (w .host .bus) u)
+    (stop-counter w m h)
+    (vcc-counter w m h)
+    (λ _ on. h)
+    s
 
 -- ---- the registers
 module _ (w : WireSide) (m : List ℕ) where
@@ -145,10 +149,13 @@ module _ (w : WireSide) (m : List ℕ) where
       (λ t. pick-case Open (w .host .vcc) _ _ (λ v o. absurd (false≢true o)) (λ v o. refl))
 
 pub registers-stay : RegistersStay
-unfolding signalOf startOf
-registers-stay w u m Start s o = pick-case (R w m) (w .host .vcc) _ _ (λ v. start-stays w m) (λ v. refl)
-registers-stay w u m (Send x) s o = send-registers w m (w .host .bus) x
-registers-stay w u m (Fetch ack) s o = fetch-registers w m (w .host .bus) u ack
-registers-stay w u m Stop s o = absurd (false≢true (sym (stop-shut w m) ∙ o))
-registers-stay w u m (Vcc on) s o = vcc-stays w m on s o
-registers-stay w u m ProgrammingEnd s o = refl
+unfolding startOf
+registers-stay w u m x s =
+    signal-case (λ (_ : WireSignal) (e : WireResult). Open w m (e .side)) w u m
+    (λ _. pick-case (R w m) (w .host .vcc) _ _ (λ v. start-stays w m) (λ v. refl))
+    (λ x _. send-registers w m (w .host .bus) x)
+    (λ ack _. fetch-registers w m (w .host .bus) u ack)
+    (λ o. absurd (false≢true (sym (stop-shut w m) ∙ o)))
+    (λ on. vcc-stays w m on s)
+    (λ _ on o. refl)
+    x

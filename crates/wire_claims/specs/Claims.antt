@@ -10,8 +10,8 @@ use Rattle.tag.specs.Layout.{memoryBytes}
 use Rattle.bus.specs.Bus.{isOpen}
 use Rattle.ranges.specs.Ranges.{suppliedInRange, wireInRange}
 use Rattle.page.specs.PageRange.{busInRange}
-use Rattle.signal.specs.declared.WireSignal.{WireSignal}
-use Rattle.signal.specs.declared.WireSignal.the-variants.{Start, Send, Fetch, Stop, Vcc, ProgrammingEnd}
+use Rattle.signal_table.specs.declared.WireSignal.{WireSignal}
+use Rattle.signal_table.specs.Table.{sentByte}
 use Rattle.wire.specs.Wire.{signalOf}
 
 -- 01's ranges of the wire side, its page bytes and the lent memory
@@ -28,15 +28,6 @@ SignalKeepsRange = (w : WireSide) (u : Uid) (m : List ℕ) (signal : WireSignal)
 -- every signal keeps the counter below 65536
 abbrev pub KeepsCounter : Type 0
 KeepsCounter = (w : WireSide) (u : Uid) (m : List ℕ) (signal : WireSignal) → w .host .counter < 65536 → signalOf w u m signal .side .host .counter < 65536
-
--- the byte that a signal sends, or 0
-unfoldable pub sentByte : WireSignal → ℕ
-sentByte Start = 0
-sentByte (Send x) = x
-sentByte (Fetch ack) = 0
-sentByte Stop = 0
-sentByte (Vcc on) = 0
-sentByte ProgrammingEnd = 0
 
 -- every signal keeps the memory's bytes below 256
 abbrev pub KeepsBytes : Type 0

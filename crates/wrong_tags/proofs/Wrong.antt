@@ -12,7 +12,8 @@ use Rattle.air.specs.Radio.{isSelected}
 use Rattle.model.specs.declared.Answer.{Answer}
 use Rattle.model.specs.declared.Answer.the-variants.{Refused, Nothing, Ack, NoAck, Byte, Silence, Reply}
 use Rattle.refusals.specs.Refusals.{number}
-use Rattle.calls.specs.Calls.{Call, CallAnswer, callAnswer, Device, RunResult}
+use Rattle.refusals.specs.Call.{Call}
+use Rattle.calls.specs.Calls.{CallAnswer, callAnswer, Device, RunResult}
 use Rattle.calls.specs.Examples.{vccTo, start, send, stop, programmingEnd, frame, zeros, powered, _but_, radioState, radioSession, fieldIs, vccIs, i2cSession, beingProgrammed, counterAt, onBus, mailboxMode, hostMessage, bytes}
 use Rattle.waiting.specs.Waiting.{Waiting, noTransfer, inside}
 use Rattle.wrong_tags.specs.Told.{bySame, byJudged, byStriking, byUnchanged, byReply, WrongTag, Told, AllTold}

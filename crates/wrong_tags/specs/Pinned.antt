@@ -16,7 +16,8 @@ use Rattle.refusals.specs.declared.Refusal.the-variants.{SignalUnknown, OutOfRa
 use Rattle.model.specs.declared.Answer.{Answer}
 use Rattle.model.specs.declared.Answer.the-variants.{Refused, Nothing, Ack, NoAck, Byte, Silence, Reply}
 use Rattle.model.specs.Step.{transferOpen, isRefused}
-use Rattle.calls.specs.Calls.{Call, CallAnswer, callAnswer, Device, device, DeviceResult, deviceResult, Step, entry}
+use Rattle.refusals.specs.Call.{Call}
+use Rattle.calls.specs.Calls.{CallAnswer, callAnswer, Device, device, DeviceResult, deviceResult, Step, entry}
 use Rattle.calls.specs.Examples.{zeros, onBus, fieldIs, radioSession, _but_}
 use Rattle.waiting.specs.Waiting.{isStarted}
 use Rattle.demand3.specs.Demand3.{struck}

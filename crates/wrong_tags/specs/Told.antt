@@ -1,6 +1,7 @@
 -- What a wrong tag is refuted by.
 use mathlib.Core.List.{List, [], _∷_}
-use Rattle.calls.specs.Calls.{Call, Device, Step}
+use Rattle.refusals.specs.Call.{Call}
+use Rattle.calls.specs.Calls.{Device, Step}
 use Rattle.demand3.specs.Demand3.{Unchanged, RepliesShut, EachStruck, Same, Judged, Striking, EveryList}
 
 -- the parts of demand 3, a struck frame's two apart

@@ -15,9 +15,10 @@ use Rattle.commands.specs.Table.{selectCode}
 use Rattle.frame.specs.Fields.{command, ownUid}
 use Rattle.silence.specs.Silence.{isSilent}
 use Rattle.model.specs.declared.Answer.the-variants.{NoAck}
-use Rattle.model.specs.declared.Signal.the-variants.{Frame}
+use Rattle.signal_table.specs.declared.Signal.the-variants.{Frame}
 use Rattle.model.specs.Step.{actOf}
-use Rattle.calls.specs.Calls.{Call, callAnswer, Device, device, DeviceResult, deviceResult, deviceResultOf, entry}
+use Rattle.refusals.specs.Call.{Call}
+use Rattle.calls.specs.Calls.{callAnswer, Device, device, DeviceResult, deviceResult, deviceResultOf, entry}
 use Rattle.calls.specs.Examples.{onCore, onBus}
 use Rattle.demand3.specs.Demand3.{struck}
 

@@ -1,11 +1,10 @@
 use mathlib.Core.Path.{sym, ap, _∙_}
-use native.Mathlib.Omega.{arith}
+use Rattle.refusals.specs.Call.{handedIn}
 use Rattle.refusals.specs.Refusals.{unlessRefused}
 use Rattle.model.specs.Step.{StepResult, stepResultOf}
 use Rattle.replies_fit.specs.Claims.{replyFits}
 use Rattle.replies_fit.proofs.RepliesFit.{steps-fit}
 use Rattle.capi.specs.Interface.{stepCall}
-use Rattle.capi.proofs.Narrow.{code-small, value-small, known}
 use Rattle.capi.proofs.Calls.{stepped}
 use borrow.Author.Needs.{needs}
 use Rattle.capi.proofs.st25dv_step.Statement.{statement}
@@ -29,16 +28,6 @@ enum-told c = search needs
 decode-requires : tie.Need-decode-requires
 decode-requires c κs = search needs
 
-cast-step : tie.Need-cast-step
-cast-step c =
-    let a = c .before .before .before .before .before .before .before .before .before .before .before .before .before .before .args in
-    omega (arith, code-small (a .code) (a .value) (known (a .s .now) (a .m .now) (a .out .now) (a .code) (a .value) (sym (c .before .before .before .before .before .before .step-refusal .ensures) ∙ c .before .before .before .before .enum-told .given .1)))
-
-cast-step-2 : tie.Need-cast-step-2
-cast-step-2 c =
-    let a = c .before .before .before .before .before .before .before .before .before .before .before .before .before .before .args in
-    omega (arith, value-small (a .code) (a .value) (known (a .s .now) (a .m .now) (a .out .now) (a .code) (a .value) (sym (c .before .before .before .before .before .before .step-refusal .ensures) ∙ c .before .before .before .before .enum-told .given .1)))
-
 step-requires : tie.Need-step-requires
 step-requires c κs = search needs
 
@@ -46,7 +35,7 @@ keep-requires : tie.Need-keep-requires
 keep-requires c κs = search needs
 
 answer-number-requires : tie.Need-answer-number-requires
-answer-number-requires c κs = ap (λ (e : StepResult). replyFits (e .answer)) (c .before .before .before .before .before .before .before .before .step .ensures) ∙ steps-fit _ _ _ _ _ _
+answer-number-requires c κs = ap (λ (e : StepResult). replyFits (e .answer)) (c .before .before .before .before .before .before .before .before .step .ensures) ∙ steps-fit _ _ _
 
 same-length : tie.Need-same-length
 same-length c = search needs
@@ -74,7 +63,7 @@ returns-2 : tie.Need-returns-2
 returns-2 c =
     let a = c .before .before .before .before .before .before .before .before .before .before .before .before .before .before .before .before .before .before .before .before .before .before .before .before .args in
     let o = c .before .before .before .before .before .before .before .before .before .step in
-    stepped (a .s .now) (a .m .now) (a .out .now) (a .code) (a .value) (a .frame .now) (stepResultOf (o .result) (o .last .1 .0) (o .last .1 .1 .0)) (c .answer-number .result) (c .before .before .before .keep .last .1 .0)
+    stepped (a .s .now) (a .m .now) (handedIn (a .out .now) (a .code) (a .value) (a .frame .now)) (stepResultOf (o .result) (o .last .1 .0) (o .last .1 .1 .0)) (c .answer-number .result) (c .before .before .before .keep .last .1 .0)
     (sym (c .before .before .before .before .before .before .before .before .before .before .before .before .before .before .before .before .step-refusal .ensures) ∙ c .before .before .before .before .before .before .before .before .before .before .before .before .before .before .enum-told .given .1)
     (o .ensures ∙ rw (c .before .before .before .before .before .before .before .before .before .before .before .before .decode .ensures)) (c .answer-number .ensures) (c .before .before .before .keep .ensures)
 
@@ -88,8 +77,6 @@ st25dv-step-spec =
     cast-result
     enum-told
     decode-requires
-    cast-step
-    cast-step-2
     step-requires
     keep-requires
     answer-number-requires

@@ -2,6 +2,7 @@ use mathlib.Core.Path.{sym, _∙_}
 use mathlib.Core.List.{[], _∷_}
 use Rattle.parts.proofs.Picks.{picks}
 use Rattle.rule_list.specs.RuleList.{firstSays}
+use Rattle.refusals.specs.Call.{handedIn}
 use Rattle.refusals.specs.Refusals.{callRules, judgement}
 use Rattle.refusals.proofs.Laws.{append-none, append-refused}
 use Rattle.library_refusals.specs.Rules.{stateRule, decodesRule}
@@ -21,8 +22,8 @@ enum-told c = search needs
 returns : tie.Need-returns
 unfolding judgement firstSays
 returns c =
-    let a = c .before .before .before .before .before .before .before .args in
-    let first = callRules (a .m .now) (a .out .now) (a .code) (a .value) in
+    let a = c .before .before .before .before .before .before .before .before .args in
+    let first = callRules (a .m .now) (handedIn (a .out .now) (a .code) (a .value) (a .frame .now)) in
     let rest = stateRule (a .s .now) ∷ decodesRule (a .s .now) ∷ [] in
     rw (append-none first rest (sym (c .before .before .before .call-refusal .ensures) ∙ c .before .enum-told .given .1)) (search picks depth 20)
 
@@ -32,23 +33,23 @@ decodes-requires c κs = search needs
 returns-2 : tie.Need-returns-2
 unfolding judgement firstSays
 returns-2 c =
-    let a = c .before .before .before .before .before .before .before .before .before .args in
-    let first = callRules (a .m .now) (a .out .now) (a .code) (a .value) in
+    let a = c .before .before .before .before .before .before .before .before .before .before .args in
+    let first = callRules (a .m .now) (handedIn (a .out .now) (a .code) (a .value) (a .frame .now)) in
     let rest = stateRule (a .s .now) ∷ decodesRule (a .s .now) ∷ [] in
     rw (append-none first rest (sym (c .before .before .before .before .before .call-refusal .ensures) ∙ c .before .before .before .enum-told .given .1), ← c .before .decodes .ensures) (search picks depth 20)
 
 returns-3 : tie.Need-returns-3
 returns-3 c =
-    let a = c .before .before .before .before .before .before .before .args in
-    let first = callRules (a .m .now) (a .out .now) (a .code) (a .value) in
+    let a = c .before .before .before .before .before .before .before .before .args in
+    let first = callRules (a .m .now) (handedIn (a .out .now) (a .code) (a .value) (a .frame .now)) in
     let rest = stateRule (a .s .now) ∷ decodesRule (a .s .now) ∷ [] in
     sym (append-refused first rest _ (sym (c .before .before .before .call-refusal .ensures) ∙ c .before .first .given .1))
 
 returns-4 : tie.Need-returns-4
 unfolding judgement firstSays
 returns-4 c =
-    let a = c .before .before .before .before .before .before .before .before .before .args in
-    let first = callRules (a .m .now) (a .out .now) (a .code) (a .value) in
+    let a = c .before .before .before .before .before .before .before .before .before .before .args in
+    let first = callRules (a .m .now) (handedIn (a .out .now) (a .code) (a .value) (a .frame .now)) in
     let rest = stateRule (a .s .now) ∷ decodesRule (a .s .now) ∷ [] in
     rw (append-none first rest (sym (c .before .before .before .before .before .call-refusal .ensures) ∙ c .before .before .before .enum-told .given .1), ← c .before .decodes .ensures) (search picks depth 20)
 

@@ -1,7 +1,6 @@
 use mathlib.Core.Path.{sym, _∙_}
 use Rattle.refusals.specs.Refusals.{unlessRefused}
 use Rattle.model.specs.Step.{stepOf}
-use Rattle.model.proofs.Acts.{signal-of}
 use borrow.Author.Needs.{needs}
 use Rattle.model.proofs.step.Statement.{statement}
 use Rattle.model.proofs.step.Tie as tie
@@ -19,9 +18,7 @@ enum-told : tie.Need-enum-told
 enum-told c = search needs
 
 signal-by-requires : tie.Need-signal-by-requires
-signal-by-requires c κs =
-    let a = c .before .before .before .before .before .before .before .before .args in
-    signal-of (a .t) (a .m .now) (a .out .now) (a .code) (a .value) (sym (c .before .before .entry-refusal .ensures) ∙ c .enum-told .given .1)
+signal-by-requires c κs = search needs
 
 act-requires : tie.Need-act-requires
 act-requires c κs = search needs

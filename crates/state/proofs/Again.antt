@@ -11,7 +11,11 @@ use Rattle.parts.specs.Pick.{pick}
 use Rattle.parts.specs.Bytes.{bytesAt, areBytes}
 use Rattle.parts.proofs.Below.{bytes-below}
 use Rattle.parts.proofs.Bools.{and-left, and-right}
-use Rattle.state.specs.Layout.{stateBytes, isFlag, flagOf, wordOf, spaceOf, usedOr0, airBytes, airDecodes, airAt, busBytes, isBus, busOf, busDecodes, busAt, hostBytes, hostDecodes, hostAt, registerBytes, registersAt, mailboxBytes, mailboxDecodes, mailboxAt, passwordBytes, passwordsAt, bytesOf, decodes, tagOf}
+use Rattle.parts.proofs.Lists.{length-bytesAt}
+use Rattle.register_table.specs.Table.{registerCount}
+use Rattle.registers.specs.Map.{registerBytes}
+use Rattle.registers.proofs.Bytes.{bytes-of}
+use Rattle.state.specs.Layout.{stateBytes, isFlag, flagOf, wordOf, spaceOf, usedOr0, airBytes, airDecodes, airAt, busBytes, isBus, busOf, busDecodes, busAt, hostBytes, hostDecodes, hostAt, registersAt, mailboxBytes, mailboxDecodes, mailboxAt, passwordBytes, passwordsAt, bytesOf, decodes, tagOf}
 use Rattle.state.specs.Claims.{EncodesDecoded}
 use Rattle.state.proofs.Places.{bytesAt-whole, bytesAt-join}
 use Rattle.state.proofs.Numbers.{flag-again, radio-again, space-again, low-again, high-again}
@@ -105,9 +109,9 @@ module _ (s : List ℕ) where
   air-again d =
       rw (flag-again (getD s 0 0) (and-left (isFlag (getD s 0 0)) (leb (getD s 1 0) 2) d), radio-again (getD s 1 0) (and-right (isFlag (getD s 0 0)) (leb (getD s 1 0) 2) d))
 
-  registers-again : registerBytes (registersAt s 15) ≡ bytesAt s 15 13
-  unfolding registerBytes registersAt bytesAt
-  registers-again = refl
+  registers-again : registerBytes (registersAt s 15) ≡ bytesAt s 15 registerCount
+  unfolding registersAt
+  registers-again = bytes-of (bytesAt s 15 registerCount) (length-bytesAt s 15 registerCount)
 
   passwords-again : passwordBytes (passwordsAt s 35) ≡ bytesAt s 35 40
   unfolding passwordBytes passwordsAt

@@ -21,7 +21,8 @@ use Rattle.keys.specs.declared.Passwords.{Passwords}
 use Rattle.bus.specs.declared.Bus.{Bus}
 use Rattle.bus.specs.declared.Bus.the-variants.{Idle, Started, ReadLeg, WriteLeg, LowAddress, DataLeg}
 use Rattle.tag.specs.declared.Host.{Host}
-use Rattle.state.specs.Layout.{flagByte, lowByte, highByte, radioNumber, spaceNumber, airBytes, busBytes, hostBytes, registerBytes, mailboxBytes, passwordBytes, bytesOf}
+use Rattle.registers.specs.Map.{registerBytes}
+use Rattle.state.specs.Layout.{flagByte, lowByte, highByte, radioNumber, spaceNumber, airBytes, busBytes, hostBytes, mailboxBytes, passwordBytes, bytesOf}
 use Rattle.state.specs.Claims.{isByte, isWord, areEight, busFits, PasswordsFit, EncodesBytes}
 
 flag-byte : (b : Bool) → isByte (flagByte b) ≡ true

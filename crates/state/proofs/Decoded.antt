@@ -13,7 +13,10 @@ use Rattle.parts.proofs.Bools.{and-both}
 use Rattle.parts.proofs.Lists.{length-bytesAt}
 use Rattle.parts.proofs.Picks.{pick-case}
 use Rattle.bus.specs.declared.Bus.{Bus}
-use Rattle.state.specs.Layout.{wordOf, airAt, busOf, busAt, hostAt, registerBytes, registersAt, mailboxAt, passwordsAt, tagOf}
+use Rattle.register_table.specs.Table.{registerCount}
+use Rattle.registers.specs.Map.{registerBytes}
+use Rattle.registers.proofs.Bytes.{bytes-of}
+use Rattle.state.specs.Layout.{wordOf, airAt, busOf, busAt, hostAt, registersAt, mailboxAt, passwordsAt, tagOf}
 use Rattle.state.specs.Claims.{isByte, isWord, areEight, busFits, DecodedFits}
 
 -- eight bytes of a list are a password or a UID
@@ -39,8 +42,8 @@ module _ (s : List ℕ) (h : Below s) where
       (λ _. pick-case P _ _ _ (λ _. byte 12) (λ _. pick-case P _ _ _ (λ _. word 13 14) (λ _. refl)))))
 
   registers : areBytes (registerBytes (registersAt s 15)) ≡ true
-  unfolding areBytes registerBytes registersAt
-  registers = rw (byte 15, byte 16, byte 17, byte 18, byte 19, byte 20, byte 21, byte 22, byte 23, byte 24, byte 25, byte 26, byte 27)
+  unfolding registersAt
+  registers = rw (bytes-of (bytesAt s 15 registerCount) (length-bytesAt s 15 registerCount)) (are-run s 15 registerCount h)
 
 pub decoded-fits : DecodedFits
 unfolding tagOf airAt hostAt mailboxAt passwordsAt

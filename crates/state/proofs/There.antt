@@ -1,5 +1,5 @@
 -- A tag's bytes decode, and to that tag. Assumes nothing.
-use mathlib.Core.Path.{_≡_, refl, ap, _∙_}
+use mathlib.Core.Path.{_≡_, refl, sym, ap, _∙_}
 use mathlib.Core.Bool.{true}
 use mathlib.Core.List.{List, _++_}
 use Prim.Native.Nat.{ℕ, _+_}
@@ -9,6 +9,7 @@ use lib.ListN.{length, length-append}
 use borrow.Author.Tests.{eqb-true}
 use Rattle.parts.specs.Bytes.{bytesAt, areBytes}
 use Rattle.parts.proofs.Bools.{and-left}
+use Rattle.parts.proofs.Lists.{length-bytesAt}
 use Rattle.registers.specs.declared.Registers.{Registers}
 use Rattle.air.specs.declared.Air.{Air}
 use Rattle.mailbox.specs.declared.Mailbox.{Mailbox}
@@ -17,7 +18,10 @@ use Rattle.bus.specs.declared.Bus.{Bus}
 use Rattle.bus.specs.declared.Bus.the-variants.{Idle, Started, ReadLeg, WriteLeg, LowAddress, DataLeg}
 use Rattle.tag.specs.declared.Host.{Host}
 use Rattle.tag.specs.declared.Tag.{Tag}
-use Rattle.state.specs.Layout.{airBytes, airDecodes, airAt, busBytes, isBus, busOf, busDecodes, busAt, hostBytes, hostDecodes, hostAt, registerBytes, registersAt, mailboxBytes, mailboxDecodes, mailboxAt, passwordBytes, passwordsAt, bytesOf, decodes, tagOf}
+use Rattle.register_table.specs.Table.{registerCount}
+use Rattle.registers.specs.Map.{registerBytes, registersOf}
+use Rattle.registers.proofs.Bytes.{bytes-count, of-bytes}
+use Rattle.state.specs.Layout.{airBytes, airDecodes, airAt, busBytes, isBus, busOf, busDecodes, busAt, hostBytes, hostDecodes, hostAt, registersAt, mailboxBytes, mailboxDecodes, mailboxAt, passwordBytes, passwordsAt, bytesOf, decodes, tagOf}
 use Rattle.state.specs.Claims.{areEight, PasswordsFit, Fits, DecodesEncoded}
 use Rattle.parts.specs.Pick.{pick}
 use Rattle.state.proofs.Places.{bytesAt-skip, bytesAt-head, bytesAt-whole, bytesAt-within}
@@ -76,8 +80,8 @@ unfolding hostAt hostBytes
 host-back h = rw (flag-back (h .vcc), flag-back (h .session), flag-back (h .programming), word-back (h .counter), host-bus h)
 
 registers-back : (r : Registers) → registersAt (registerBytes r) 0 ≡ r
-unfolding registersAt registerBytes
-registers-back r = refl
+unfolding registersAt
+registers-back r = ap registersOf (bytesAt-whole (registerBytes r) registerCount (bytes-count r)) ∙ of-bytes r
 
 mailbox-decodes : (m : Mailbox) → mailboxDecodes (mailboxBytes m) 0 ≡ true
 unfolding mailboxDecodes mailboxBytes
@@ -161,9 +165,9 @@ host-own : (s : List ℕ) → (hostDecodes s 3 ≡ hostDecodes (bytesAt s 3 12) 
 unfolding hostDecodes hostAt busDecodes busAt bytesAt
 host-own s = (refl, refl)
 
-registers-own : (s : List ℕ) → registersAt s 15 ≡ registersAt (bytesAt s 15 13) 0
-unfolding registersAt bytesAt
-registers-own s = refl
+registers-own : (s : List ℕ) → registersAt s 15 ≡ registersAt (bytesAt s 15 registerCount) 0
+unfolding registersAt
+registers-own s = ap registersOf (sym (bytesAt-whole (bytesAt s 15 registerCount) registerCount (length-bytesAt s 15 registerCount)))
 
 mailbox-own : (s : List ℕ) → (mailboxDecodes s 28 ≡ mailboxDecodes (bytesAt s 28 7) 0) × (mailboxAt s 28 ≡ mailboxAt (bytesAt s 28 7) 0)
 unfolding mailboxDecodes mailboxAt bytesAt
@@ -199,9 +203,8 @@ module _ (t : Tag) where
       ∙ bytesAt-skip (airBytes (t .air)) _ 3 (12 + at) n refl
       ∙ bytesAt-skip (hostBytes (t .host)) _ 12 at n (host-length (t .host))
 
-  registers-there : bytesAt (bytesOf t) 15 13 ≡ registerBytes (t .core .registers)
-  unfolding registerBytes
-  registers-there = past-host 0 13 ∙ bytesAt-head (registerBytes (t .core .registers)) _ 13 refl
+  registers-there : bytesAt (bytesOf t) 15 registerCount ≡ registerBytes (t .core .registers)
+  registers-there = past-host 0 registerCount ∙ bytesAt-head (registerBytes (t .core .registers)) _ registerCount (bytes-count (t .core .registers))
 
   mailbox-there : bytesAt (bytesOf t) 28 7 ≡ mailboxBytes (t .core .mailbox)
   unfolding registerBytes mailboxBytes

@@ -11,16 +11,7 @@ use keys::Passwords;
 use keys::Uid;
 use mailbox::Mailbox;
 use mailbox::Message;
-use register_types::EndA;
-use register_types::I2cSs;
-use register_types::LockCcFile;
-use register_types::LockCfg;
-use register_types::MbMode;
-use register_types::RfMngt;
-use register_types::RfaSs;
-use registers::Ends;
 use registers::Registers;
-use registers::Security;
 use tag::Core;
 use tag::Host;
 use tag::Tag;
@@ -124,66 +115,12 @@ fn host_at(s: &[u8]) -> Host
     }
 }
 
-fn security_at(s: &[u8]) -> Security
-    ensures { λ r. ⌜ r ≡ registersAt (now (s .entry)) 15 .security ⌝ }
-{
-    Security {
-        area1: RfaSs {
-            bits: parts::byte_at(s, 17),
-        },
-        area2: RfaSs {
-            bits: parts::byte_at(s, 19),
-        },
-        area3: RfaSs {
-            bits: parts::byte_at(s, 21),
-        },
-        area4: RfaSs {
-            bits: parts::byte_at(s, 23),
-        },
-    }
-}
-
-fn ends_at(s: &[u8]) -> Ends
-    ensures { λ r. ⌜ r ≡ registersAt (now (s .entry)) 15 .ends ⌝ }
-{
-    Ends {
-        end1: EndA {
-            bits: parts::byte_at(s, 18),
-        },
-        end2: EndA {
-            bits: parts::byte_at(s, 20),
-        },
-        end3: EndA {
-            bits: parts::byte_at(s, 22),
-        },
-    }
-}
-
 fn registers_at(s: &[u8]) -> Registers
     ensures { λ r. ⌜ r ≡ registersAt (now (s .entry)) 15 ⌝ }
 {
-    Registers {
-        mngt: RfMngt {
-            bits: parts::byte_at(s, 15),
-        },
-        dynamic: RfMngt {
-            bits: parts::byte_at(s, 16),
-        },
-        security: security_at(s),
-        ends: ends_at(s),
-        i2css: I2cSs {
-            bits: parts::byte_at(s, 24),
-        },
-        ccfile: LockCcFile {
-            bits: parts::byte_at(s, 25),
-        },
-        mode: MbMode {
-            bits: parts::byte_at(s, 26),
-        },
-        config: LockCfg {
-            bits: parts::byte_at(s, 27),
-        },
-    }
+    let mut b = [0u8; register_table::REGISTER_BYTES];
+    parts::put_bytes(&mut b, 0, s, 15, register_table::REGISTER_BYTES);
+    Registers::from_bytes(b)
 }
 
 fn mailbox_at(s: &[u8]) -> Mailbox

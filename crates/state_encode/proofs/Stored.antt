@@ -8,7 +8,8 @@ use Rattle.parts.specs.Bytes.{bytesAt}
 use Rattle.keys.specs.declared.Passwords.{Passwords}
 use Rattle.tag.specs.declared.Host.{Host}
 use Rattle.tag.specs.declared.Tag.{Tag}
-use Rattle.state.specs.Layout.{flagByte, lowByte, highByte, airBytes, busBytes, hostBytes, registerBytes, mailboxBytes, passwordBytes, bytesOf}
+use Rattle.registers.specs.Map.{registerBytes}
+use Rattle.state.specs.Layout.{flagByte, lowByte, highByte, airBytes, busBytes, hostBytes, mailboxBytes, passwordBytes, bytesOf}
 use Rattle.state.proofs.Places.{bytesAt-whole, sets-then}
 use Rattle.state.proofs.There.{bus-length, host-length, Eights}
 

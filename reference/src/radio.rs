@@ -333,11 +333,12 @@ impl Service<'_> {
         Ok(())
     }
 
-    /// 01, Config: "pointers 03-0A, 0D, 0F, else 10h".
+    /// 01, Config: "pointers .., else 10h".
     fn config_address(pointer: u8) -> Result<u16, u8> {
-        match pointer {
-            0x03..=0x0A | 0x0D | 0x0F => Ok(u16::from(pointer)),
-            _ => Err(NO_BLOCK),
+        if is_pointer(pointer) {
+            Ok(u16::from(pointer))
+        } else {
+            Err(NO_BLOCK)
         }
     }
 

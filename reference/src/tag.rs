@@ -157,6 +157,11 @@ pub fn defined_bits(address: u16) -> u8 {
     }
 }
 
+/// 01, Config: "pointers 03-0A, 0D, 0F".
+pub fn is_pointer(pointer: u8) -> bool {
+    matches!(pointer, 0x03..=0x0A | 0x0D | 0x0F)
+}
+
 /// Which of ENDA1 to ENDA3 (0 to 2) lies at this address.
 pub fn end_index(address: u16) -> Option<usize> {
     match address {

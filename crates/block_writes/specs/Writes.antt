@@ -8,7 +8,7 @@ use Rattle.parts.specs.Pick.{pick}
 use Rattle.parts.specs.Bits.{keepBits}
 use Rattle.parts.specs.Bytes.{bytesAt}
 use Rattle.registers.specs.declared.Registers.{Registers}
-use Rattle.register_table.specs.declared.Register.the-variants.{Ccfile}
+use Rattle.register_table.specs.Table.{ccfilePlace}
 use Rattle.register_types.specs.Types.{lockCcFileBits}
 use Rattle.registers.specs.Map.{writtenTo}
 use Rattle.rights.specs.declared.Side.the-variants.{Radio}
@@ -40,4 +40,4 @@ unfoldable pub lockOf : RadioSide → List ℕ → ℕ → CommandResult
 lockOf v m block =
     pick (ltb 1 block) (fails NotLockable v m)
     (pick (isLocked (v .core .registers .ccfile) block) (fails AlreadyLocked v m)
-    (commandResult (good []) (sideRegisters (writtenTo Ccfile (keepBits lockCcFileBits (v .core .registers .ccfile .bits) + (block + 1)) (v .core .registers)) v) m))
+    (commandResult (good []) (sideRegisters (writtenTo ccfilePlace (keepBits lockCcFileBits (v .core .registers .ccfile .bits) + (block + 1)) (v .core .registers)) v) m))

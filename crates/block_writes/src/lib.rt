@@ -4,7 +4,6 @@ ghost use Prim.Native.Nat.{_≤_};
 ghost use Rattle.reply.specs.Outcome.{radioResult, finish};
 ghost use Rattle.block_writes.specs.Writes.{mayWriteAll, writeOf, lockOf};
 use errors::RadioError;
-use register_table::Register;
 use register_types::LockCcFile;
 use registers::Registers;
 use reply::RadioOutcome;
@@ -75,7 +74,7 @@ pub fn lock(v: RadioSide, m: &[u8], out: &mut [u8], block: u8) -> RadioOutcome
         return RadioOutcome { answer, side: v };
     }
     let bits = LockCcFile::keep(r.ccfile.bits) + (block + 1);
-    let next = v.with_registers(r.write_to(Register::Ccfile, bits));
+    let next = v.with_registers(r.write_to(register_table::CCFILE_PLACE, bits));
     let answer = reply::done(out);
     RadioOutcome { answer, side: next }
 }

@@ -4,8 +4,7 @@ use mathlib.Core.List.{List, [], _∷_, _++_}
 use Prim.Native.Nat.{ℕ, _-_}
 use lib.ListN.{length, replicate}
 use Rattle.registers.specs.declared.Registers.{Registers}
-use Rattle.register_types.specs.Types.{rfaSs, endA, mbMode}
-use Rattle.registers.specs.Map.{withSecurity, withEnds, withMode}
+use Rattle.registers.specs.Map.{written}
 use Rattle.air.specs.declared.RadioState.{RadioState}
 use Rattle.air.specs.declared.RadioState.the-variants.{Ready}
 use Rattle.air.specs.declared.Air.{Air}
@@ -119,17 +118,17 @@ counterAt n d = onHost (withCounter n) d
 abbrev pub onBus : Bus → Device → Device
 onBus b d = onHost (withBus b) d
 
--- ---- registers
+-- ---- registers, by their addresses
 -- ENDA1 to ENDA3
 abbrev pub areaEnds : ℕ → ℕ → ℕ → Device → Device
-areaEnds end1 end2 end3 d = onRegisters (withEnds (record { end1 = endA end1; end2 = endA end2; end3 = endA end3 })) d
+areaEnds end1 end2 end3 d = onRegisters (λ (r : Registers). written (written (written r 0x05 end1) 0x07 end2) 0x09 end3) d
 
 -- RFA1SS to RFA4SS
 abbrev pub areaRights : ℕ → ℕ → ℕ → ℕ → Device → Device
-areaRights area1 area2 area3 area4 d = onRegisters (withSecurity (record { area1 = rfaSs area1; area2 = rfaSs area2; area3 = rfaSs area3; area4 = rfaSs area4 })) d
+areaRights area1 area2 area3 area4 d = onRegisters (λ (r : Registers). written (written (written (written r 0x04 area1) 0x06 area2) 0x08 area3) 0x0A area4) d
 
 abbrev pub mailboxMode : ℕ → Device → Device
-mailboxMode n d = onRegisters (withMode (mbMode n)) d
+mailboxMode n d = onRegisters (λ (r : Registers). written r 0x0D n) d
 
 -- MB_EN 1, and a host message of n bytes with its CURRENT bit, and HOST_PUT or not
 abbrev pub hostMessage : ℕ → Bool → Device → Device

@@ -28,7 +28,7 @@ errorCode WriteForbidden = 0x12
 errorCode NotLockable = 0x10
 -- "11h already locked"
 errorCode AlreadyLocked = 0x11
--- A0, A1: "pointers 03-0A, 0D, 0F, else 10h"
+-- A0, A1: "pointers .., else 10h"
 errorCode NoSuchRegister = 0x10
 -- "A1: 12h if LOCK_CFG or password 0 session closed"
 errorCode ConfigurationClosed = 0x12

@@ -16,7 +16,8 @@ use Rattle.tag.specs.Layout.{memoryBytes}
 use Rattle.bus.specs.Bus.{isOpen}
 use Rattle.keys.specs.Keys.{uidAt, freshPasswords}
 use Rattle.tag.specs.Supply.{freshTag}
-use Rattle.state.specs.Layout.{registerBytes, bytesOf}
+use Rattle.registers.specs.Map.{registerBytes}
+use Rattle.state.specs.Layout.{bytesOf}
 use Rattle.state.specs.Claims.{busFits, Fits}
 use Rattle.state.proofs.There.{decodes-encoded}
 use Rattle.state.proofs.AreBytes.{encodes-bytes}

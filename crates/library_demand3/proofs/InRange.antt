@@ -1,20 +1,22 @@
 -- What the ranges say of a tag's numbers. Assumes nothing.
-use mathlib.Core.Path.{_≡_, refl}
-use mathlib.Core.Bool.{true, not, _&&_, _||_}
-use mathlib.Core.List.{List, [], _∷_}
-use Prim.Native.Nat.{ℕ, _%_, _≤_, _<_}
+use mathlib.Core.Path.{_≡_, refl, sym, subst}
+use mathlib.Core.Bool.{Bool, true, false, not, _&&_, _||_}
+use mathlib.Core.List.{List}
+use Prim.Native.Nat.{ℕ, _%_, _^_, _≤_, _<_}
 use native.Mathlib.Nat.{mod-lt}
 use native.Mathlib.Omega.{arith}
 use lib.Dec.{leb, ltb, eqb}
-use borrow.Author.Tests.{eqb-true, leb-true, ltb-true, lt-ltb}
+use lib.ListN.{getD, List·getD-eq-default}
+use lib.Pow.{pow-pos, pow-mono}
+use borrow.Author.Tests.{eqb-true, leb-true, ltb-true, ltb-false, lt-ltb}
 use Rattle.parts.specs.Bytes.{areBytes}
+use Rattle.parts.proofs.Below.{are-below}
 use Rattle.parts.proofs.Bools.{and-left, and-right}
 use Rattle.registers.specs.declared.Registers.{Registers}
-use Rattle.register_types.specs.Types.{rfMngtBits}
-use Rattle.register_table.specs.Table.{RegisterEntry, registerTable}
-use Rattle.defined_bits.specs.Defined.{onlyBits, definedIn, definedOnly}
-use Rattle.registers.specs.Map.{byteOf}
-use Rattle.register_table.proofs.Rows.{Each}
+use Rattle.register_table.specs.Table.{registerCount, placeBits}
+use Rattle.register_table.proofs.Rows.{eight-bits}
+use Rattle.defined_bits.specs.Defined.{onlyBits, definedTo, definedOnly}
+use Rattle.defined_bits.proofs.Defined.{defined-at}
 use Rattle.areas.specs.Ends.{endsInRange}
 use Rattle.bus.specs.declared.Bus.{Bus}
 use Rattle.bus.specs.declared.Bus.the-variants.{Idle, Started, ReadLeg, WriteLeg, LowAddress, DataLeg}
@@ -25,41 +27,26 @@ use Rattle.tag.specs.Parts.{wireSide}
 use Rattle.ranges.specs.Ranges.{registersInRange, airInRange, putCurrent, mailboxInRange, suppliedInRange, hostInRange, coreInRange, wireInRange, inRange}
 use Rattle.page.specs.PageRange.{busInRange}
 use Rattle.refusals.specs.Refusals.{tagInRange}
-use Rattle.state.specs.Layout.{registerBytes}
+use Rattle.registers.specs.Map.{registerBytes}
+use Rattle.registers.proofs.Bytes.{bytes-count}
 use Rattle.state.specs.Claims.{isByte, isWord, busFits, PasswordsFit, areEight, Fits}
 use Rattle.library_demand3.proofs.WireKept.{highByteOf}
 
 -- ---- registers
--- a number below k whose remainder by k it is
-own-remainder : (k b : ℕ) → 0 < k → k ≤ 256 → eqb (b % k) b ≡ true → isByte b ≡ true
-own-remainder k b z h e = lt-ltb b 256 (omega (arith, eqb-true (b % k) b e, mod-lt b z))
-
-two : (b : ℕ) → onlyBits 2 b ≡ true → isByte b ≡ true
-two b e = own-remainder 4 b (omega arith) (omega arith) e
-
-four : (b : ℕ) → onlyBits 4 b ≡ true → isByte b ≡ true
-four b e = own-remainder 16 b (omega arith) (omega arith) e
-
-one : (b : ℕ) → onlyBits 1 b ≡ true → isByte b ≡ true
-one b e = own-remainder 2 b (omega arith) (omega arith) e
-
--- the tests of a table one by one
-each-defined : (es : List RegisterEntry) (r : Registers) → definedIn es r ≡ true → Each (λ (e : RegisterEntry). onlyBits (e .definedBits) (byteOf (e .row .register) r) ≡ true) es
-unfolding definedIn
-each-defined [] r h = tt
-each-defined (e ∷ es) r h =
-    let t = onlyBits (e .definedBits) (byteOf (e .row .register) r) in
-    (and-left t (definedIn es r) h, each-defined es r (and-right t (definedIn es r) h))
+-- a number of at most eight bits
+bits-below : (n x : ℕ) → n ≤ 8 → onlyBits n x ≡ true → x < 256
+bits-below n x h e = omega (arith, eqb-true (x % 2 ^ n) x e, mod-lt x (pow-pos n), pow-mono h)
 
 registers-are : (r : Registers) → registersInRange r ≡ true → areBytes (registerBytes r) ≡ true
-unfolding registersInRange definedOnly areBytes registerBytes
-registers-are r h =
-    let t = onlyBits rfMngtBits (r .dynamic .bits) in
-    let d = and-right (endsInRange (r .ends)) (definedOnly r) h in
-    let f = each-defined registerTable r (and-right t (definedIn registerTable r) d) in
-    let areas = f .1 in
-    let last = areas .1 .1 .1 .1 .1 .1 .1 in
-    rw (two (r .mngt .bits) (f .0), two (r .dynamic .bits) (and-left t (definedIn registerTable r) d), four (r .security .area1 .bits) (areas .0), four (r .ends .end1 .bits) (areas .1 .0), four (r .security .area2 .bits) (areas .1 .1 .0), four (r .ends .end2 .bits) (areas .1 .1 .1 .0), four (r .security .area3 .bits) (areas .1 .1 .1 .1 .0), four (r .ends .end3 .bits) (areas .1 .1 .1 .1 .1 .0), four (r .security .area4 .bits) (areas .1 .1 .1 .1 .1 .1 .0), own-remainder 256 (r .i2css .bits) (omega arith) (omega arith) (last .0), two (r .ccfile .bits) (last .1 .0), one (r .mode .bits) (last .1 .1 .0), one (r .config .bits) (last .1 .1 .1 .0))
+unfolding registersInRange definedOnly
+registers-are r h = are-below (registerBytes r) (λ i. at i (ltb i registerCount) refl)
+  where
+    d : definedTo registerCount (registerBytes r) ≡ true
+    d = and-right (endsInRange (r .ends)) (definedOnly r) h
+
+    at : (i : ℕ) (b : Bool) → ltb i registerCount ≡ b → getD (registerBytes r) i 0 < 256
+    at i true l = bits-below (getD placeBits i 0) (getD (registerBytes r) i 0) (eight-bits i) (defined-at registerCount (registerBytes r) d i (ltb-true i registerCount l))
+    at i false l = subst (λ (x : ℕ). x < 256) (sym (List·getD-eq-default (registerBytes r) 0 {n = i} (omega (arith, bytes-count r, ltb-false i registerCount l)))) (omega arith)
 
 -- ---- the message's length, the bus
 message-is : (b : Mailbox) → mailboxInRange b ≡ true → isWord (b .length) ≡ true

@@ -1,55 +1,50 @@
--- The registers, each by its name and by its address: read, and written.
+-- The registers by their places, which are those of the state's bytes, and by their addresses: read, and written.
+use mathlib.Core.List.{List, [], _∷_}
 use Prim.Native.Nat.{ℕ}
 use lib.Dec.{eqb}
+use lib.ListN.{getD, set}
 use Rattle.parts.specs.Pick.{pick}
+use Rattle.parts.specs.Bits.{keepBits}
 use Rattle.register_types.specs.declared.RfMngt.{RfMngt}
-use Rattle.register_types.specs.declared.RfaSs.{RfaSs}
 use Rattle.register_types.specs.declared.EndA.{EndA}
-use Rattle.register_types.specs.declared.I2cSs.{I2cSs}
-use Rattle.register_types.specs.declared.LockCcFile.{LockCcFile}
-use Rattle.register_types.specs.declared.MbMode.{MbMode}
-use Rattle.register_types.specs.declared.LockCfg.{LockCfg}
-use Rattle.registers.specs.declared.Security.{Security}
 use Rattle.registers.specs.declared.Ends.{Ends}
 use Rattle.registers.specs.declared.Registers.{Registers}
-use Rattle.register_table.specs.declared.Register.{Register}
-use Rattle.register_table.specs.declared.Register.the-variants.{Mngt, Rfa1Ss, EndA1, Rfa2Ss, EndA2, Rfa3Ss, EndA3, Rfa4Ss, I2css, Ccfile, Mode, Config, Unmapped}
-use Rattle.register_table.specs.Table.{rowOf}
-use Rattle.register_types.specs.Types.{rfMngt, rfaSs, endA, i2cSs, lockCcFile, mbMode, lockCfg}
+use Rattle.register_table.specs.Table.{mngtPlace, dynamicPlace, noPlace, placeBits, rowOf}
 
--- the byte of a register; "FFh where unmapped"
-abbrev pub byteOf : Register → Registers → ℕ
-byteOf Mngt r = r .mngt .bits
-byteOf Rfa1Ss r = r .security .area1 .bits
-byteOf EndA1 r = r .ends .end1 .bits
-byteOf Rfa2Ss r = r .security .area2 .bits
-byteOf EndA2 r = r .ends .end2 .bits
-byteOf Rfa3Ss r = r .security .area3 .bits
-byteOf EndA3 r = r .ends .end3 .bits
-byteOf Rfa4Ss r = r .security .area4 .bits
-byteOf I2css r = r .i2css .bits
-byteOf Ccfile r = r .ccfile .bits
-byteOf Mode r = r .mode .bits
-byteOf Config r = r .config .bits
-byteOf Unmapped r = 0xFF
+-- the byte at each place: "RF_MNGT, RF_MNGT_Dyn, RFA1SS, ENDA1, RFA2SS, ENDA2, RFA3SS, ENDA3, RFA4SS, I2CSS, LOCK_CCFILE, MB_MODE, LOCK_CFG"
+unfoldable pub registerBytes : Registers → List ℕ
+registerBytes r =
+    r .mngt .bits ∷ r .dynamic .bits
+    ∷ r .security .area1 .bits ∷ r .ends .end1 .bits ∷ r .security .area2 .bits ∷ r .ends .end2 .bits
+    ∷ r .security .area3 .bits ∷ r .ends .end3 .bits ∷ r .security .area4 .bits
+    ∷ r .i2css .bits ∷ r .ccfile .bits ∷ r .mode .bits ∷ r .config .bits ∷ []
 
--- the byte at address a
+-- the registers of such bytes; one that is missing is 0
+abbrev pub registersOf : List ℕ → Registers
+registersOf s =
+    record {
+      mngt = record { bits = getD s 0 0 };
+      dynamic = record { bits = getD s 1 0 };
+      security = record { area1 = record { bits = getD s 2 0 }; area2 = record { bits = getD s 4 0 }; area3 = record { bits = getD s 6 0 }; area4 = record { bits = getD s 8 0 } };
+      ends = record { end1 = record { bits = getD s 3 0 }; end2 = record { bits = getD s 5 0 }; end3 = record { bits = getD s 7 0 } };
+      i2css = record { bits = getD s 9 0 };
+      ccfile = record { bits = getD s 10 0 };
+      mode = record { bits = getD s 11 0 };
+      config = record { bits = getD s 12 0 };
+    }
+
+-- the byte of the register at a place; "FFh where unmapped"
+unfoldable pub byteOf : ℕ → Registers → ℕ
+byteOf place r = pick (eqb place noPlace) 0xFF (getD (registerBytes r) place 0)
+
+-- the byte at an address
 unfoldable pub registerAt : Registers → ℕ → ℕ
-registerAt r address = byteOf (rowOf address .register) r
+registerAt r address = byteOf (rowOf address .place) r
 
--- ---- the registers with one of them replaced
-abbrev pub withSecurity : Security → Registers → Registers
-withSecurity security r =
-    record { mngt = r .mngt; dynamic = r .dynamic; security = security; ends = r .ends; i2css = r .i2css; ccfile = r .ccfile; mode = r .mode; config = r .config }
-
--- RFAiSS of area i replaced
-unfoldable pub withArea : ℕ → RfaSs → Security → Security
-withArea i x security =
-    pick (eqb i 1) (record { area1 = x; area2 = security .area2; area3 = security .area3; area4 = security .area4 })
-    (pick (eqb i 2) (record { area1 = security .area1; area2 = x; area3 = security .area3; area4 = security .area4 })
-    (pick (eqb i 3) (record { area1 = security .area1; area2 = security .area2; area3 = x; area4 = security .area4 })
-    (pick (eqb i 4) (record { area1 = security .area1; area2 = security .area2; area3 = security .area3; area4 = x })
-    security)))
+-- ---- one of the registers replaced
+abbrev pub withDynamic : RfMngt → Registers → Registers
+withDynamic x r =
+    record { mngt = r .mngt; dynamic = x; security = r .security; ends = r .ends; i2css = r .i2css; ccfile = r .ccfile; mode = r .mode; config = r .config }
 
 -- ENDAi replaced
 unfoldable pub withEnd : ℕ → EndA → Ends → Ends
@@ -59,51 +54,17 @@ withEnd i x e =
     (pick (eqb i 3) (record { end1 = e .end1; end2 = e .end2; end3 = x })
     e))
 
-abbrev pub withEnds : Ends → Registers → Registers
-withEnds e r =
-    record { mngt = r .mngt; dynamic = r .dynamic; security = r .security; ends = e; i2css = r .i2css; ccfile = r .ccfile; mode = r .mode; config = r .config }
+-- ---- the registers after byte x was written
+-- the bytes with x at a place, its defined bits kept; past the last place nothing changes
+unfoldable pub putDefined : ℕ → ℕ → List ℕ → List ℕ
+putDefined place x s = set s place (keepBits (getD placeBits place 0) x)
 
-abbrev pub withDynamic : RfMngt → Registers → Registers
-withDynamic x r =
-    record { mngt = r .mngt; dynamic = x; security = r .security; ends = r .ends; i2css = r .i2css; ccfile = r .ccfile; mode = r .mode; config = r .config }
-
--- "each write of RF_MNGT, reloads RF_MNGT_Dyn"
-abbrev pub withMngt : RfMngt → Registers → Registers
-withMngt x r =
-    record { mngt = x; dynamic = x; security = r .security; ends = r .ends; i2css = r .i2css; ccfile = r .ccfile; mode = r .mode; config = r .config }
-
-abbrev pub withI2cSs : I2cSs → Registers → Registers
-withI2cSs x r =
-    record { mngt = r .mngt; dynamic = r .dynamic; security = r .security; ends = r .ends; i2css = x; ccfile = r .ccfile; mode = r .mode; config = r .config }
-
-abbrev pub withCcFile : LockCcFile → Registers → Registers
-withCcFile x r =
-    record { mngt = r .mngt; dynamic = r .dynamic; security = r .security; ends = r .ends; i2css = r .i2css; ccfile = x; mode = r .mode; config = r .config }
-
-abbrev pub withMode : MbMode → Registers → Registers
-withMode x r =
-    record { mngt = r .mngt; dynamic = r .dynamic; security = r .security; ends = r .ends; i2css = r .i2css; ccfile = r .ccfile; mode = x; config = r .config }
-
-abbrev pub withConfig : LockCfg → Registers → Registers
-withConfig x r =
-    record { mngt = r .mngt; dynamic = r .dynamic; security = r .security; ends = r .ends; i2css = r .i2css; ccfile = r .ccfile; mode = r .mode; config = x }
-
--- the registers after byte x was written to one of them, its defined bits kept
-abbrev pub writtenTo : Register → ℕ → Registers → Registers
-writtenTo Mngt x r = withMngt (rfMngt x) r
-writtenTo Rfa1Ss x r = withSecurity (withArea 1 (rfaSs x) (r .security)) r
-writtenTo EndA1 x r = withEnds (withEnd 1 (endA x) (r .ends)) r
-writtenTo Rfa2Ss x r = withSecurity (withArea 2 (rfaSs x) (r .security)) r
-writtenTo EndA2 x r = withEnds (withEnd 2 (endA x) (r .ends)) r
-writtenTo Rfa3Ss x r = withSecurity (withArea 3 (rfaSs x) (r .security)) r
-writtenTo EndA3 x r = withEnds (withEnd 3 (endA x) (r .ends)) r
-writtenTo Rfa4Ss x r = withSecurity (withArea 4 (rfaSs x) (r .security)) r
-writtenTo I2css x r = withI2cSs (i2cSs x) r
-writtenTo Ccfile x r = withCcFile (lockCcFile x) r
-writtenTo Mode x r = withMode (mbMode x) r
-writtenTo Config x r = withConfig (lockCfg x) r
-writtenTo Unmapped x r = r
+-- written to the register at a place; "each write of RF_MNGT, reloads RF_MNGT_Dyn"
+unfoldable pub writtenTo : ℕ → ℕ → Registers → Registers
+writtenTo place x r =
+    pick (eqb place mngtPlace) (registersOf (putDefined dynamicPlace x (putDefined mngtPlace x (registerBytes r))))
+    (registersOf (putDefined place x (registerBytes r)))
 
 -- the same by the address; nothing changes where no register is
 unfoldable pub written : Registers → ℕ → ℕ → Registers
-written r address x = writtenTo (rowOf address .register) x r
+written r address x = writtenTo (rowOf address .place) x r

@@ -1,9 +1,9 @@
-// The tag's registers, all of them together: read and written, by their names and by their addresses.
+// The tag's registers, all of them together: as bytes, each at its place, and read and written by their addresses.
 ghost use mathlib.Core.Path.{_≡_};
-ghost use Rattle.register_types.specs.Types.{rfMngt, rfaSs, endA};
+ghost use Rattle.register_types.specs.Types.{rfMngt};
 ghost use Rattle.registers.specs.Fresh.{freshRegisters};
-ghost use Rattle.registers.specs.Map.{byteOf, registerAt, withArea, withEnd, withEnds, withDynamic, withSecurity, writtenTo, written};
-use register_table::Register;
+ghost use Rattle.registers.specs.Map.{registerBytes, registersOf, byteOf, registerAt, withDynamic, putDefined, writtenTo, written};
+use register_table::REGISTER_BYTES;
 use register_types::EndA;
 use register_types::I2cSs;
 use register_types::LockCcFile;
@@ -20,63 +20,11 @@ pub struct Security {
     pub area4: RfaSs,
 }
 
-impl Security {
-    // RFAiSS of an area replaced.
-    pub fn with(self, area: u8, x: RfaSs) -> Security
-        ensures { λ r. ⌜ r ≡ withArea area x self ⌝ }
-    {
-        let mut s = self;
-        match area {
-            1 => {
-                s.area1 = x;
-                s
-            }
-            2 => {
-                s.area2 = x;
-                s
-            }
-            3 => {
-                s.area3 = x;
-                s
-            }
-            4 => {
-                s.area4 = x;
-                s
-            }
-            _ => self,
-        }
-    }
-}
-
 // ENDA1 to ENDA3.
 pub struct Ends {
     pub end1: EndA,
     pub end2: EndA,
     pub end3: EndA,
-}
-
-impl Ends {
-    // ENDAi replaced.
-    pub fn with(self, i: u8, x: EndA) -> Ends
-        ensures { λ r. ⌜ r ≡ withEnd i x self ⌝ }
-    {
-        let mut e = self;
-        match i {
-            1 => {
-                e.end1 = x;
-                e
-            }
-            2 => {
-                e.end2 = x;
-                e
-            }
-            3 => {
-                e.end3 = x;
-                e
-            }
-            _ => self,
-        }
-    }
 }
 
 pub struct Registers {
@@ -94,7 +42,61 @@ pub struct Registers {
     pub config: LockCfg,
 }
 
+// Puts a byte at a place of the registers' bytes, its defined bits kept.
+fn put_defined(s: &mut [u8], place: u8, byte: u8)
+    ensures { λ _. ⌜ now (s .exit) ≡ putDefined place byte (now (s .entry)) ⌝ }
+{
+    let kept = register_table::keep_defined(place, byte);
+    parts::put(s, place as usize, kept);
+}
+
 impl Registers {
+    // The byte at each place.
+    pub fn to_bytes(self) -> [u8; REGISTER_BYTES]
+        ensures { λ r. ⌜ r ≡ registerBytes self ⌝ }
+    {
+        [
+            self.mngt.bits,
+            self.dynamic.bits,
+            self.security.area1.bits,
+            self.ends.end1.bits,
+            self.security.area2.bits,
+            self.ends.end2.bits,
+            self.security.area3.bits,
+            self.ends.end3.bits,
+            self.security.area4.bits,
+            self.i2css.bits,
+            self.ccfile.bits,
+            self.mode.bits,
+            self.config.bits,
+        ]
+    }
+
+    // The registers of such bytes.
+    pub fn from_bytes(s: [u8; REGISTER_BYTES]) -> Registers
+        ensures { λ r. ⌜ r ≡ registersOf s ⌝ }
+    {
+        Registers {
+            mngt: RfMngt { bits: s[0] },
+            dynamic: RfMngt { bits: s[1] },
+            security: Security {
+                area1: RfaSs { bits: s[2] },
+                area2: RfaSs { bits: s[4] },
+                area3: RfaSs { bits: s[6] },
+                area4: RfaSs { bits: s[8] },
+            },
+            ends: Ends {
+                end1: EndA { bits: s[3] },
+                end2: EndA { bits: s[5] },
+                end3: EndA { bits: s[7] },
+            },
+            i2css: I2cSs { bits: s[9] },
+            ccfile: LockCcFile { bits: s[10] },
+            mode: MbMode { bits: s[11] },
+            config: LockCfg { bits: s[12] },
+        }
+    }
+
     pub fn fresh() -> Registers
         ensures { λ r. ⌜ r ≡ freshRegisters ⌝ }
     {
@@ -140,25 +142,15 @@ impl Registers {
         r
     }
 
-    // The byte of a register.
-    pub fn byte_of(self, x: Register) -> u8
-        ensures { λ r. ⌜ r ≡ byteOf x self ⌝ }
+    // The byte of the register at a place.
+    pub fn byte_of(self, place: u8) -> u8
+        ensures { λ r. ⌜ r ≡ byteOf place self ⌝ }
     {
-        match x {
-            Register::Mngt => self.mngt.bits,
-            Register::Rfa1Ss => self.security.area1.bits,
-            Register::EndA1 => self.ends.end1.bits,
-            Register::Rfa2Ss => self.security.area2.bits,
-            Register::EndA2 => self.ends.end2.bits,
-            Register::Rfa3Ss => self.security.area3.bits,
-            Register::EndA3 => self.ends.end3.bits,
-            Register::Rfa4Ss => self.security.area4.bits,
-            Register::I2css => self.i2css.bits,
-            Register::Ccfile => self.ccfile.bits,
-            Register::Mode => self.mode.bits,
-            Register::Config => self.config.bits,
-            Register::Unmapped => 0xFF,
+        if place == register_table::NO_PLACE {
+            return 0xFF;
         }
+        let s = self.to_bytes();
+        parts::byte_at(&s, place as usize)
     }
 
     // The byte of the register at a system address.
@@ -166,64 +158,21 @@ impl Registers {
         ensures { λ r. ⌜ r ≡ registerAt self at ⌝ }
     {
         let row = register_table::row_of(at as u32);
-        let x = row.register;
-        self.byte_of(x)
+        self.byte_of(row.place)
     }
 
-    // The registers with RFAiSS of an area replaced.
-    fn with_area(self, area: u8, byte: u8) -> Registers
-        ensures { λ r. ⌜ r ≡ withSecurity (withArea area (rfaSs byte) (self .security)) self ⌝ }
+    // The registers after a byte was written to the one at a place. RF_MNGT reloads RF_MNGT_Dyn.
+    pub fn write_to(self, place: u8, byte: u8) -> Registers
+        ensures { λ r. ⌜ r ≡ writtenTo place byte self ⌝ }
     {
-        let mut r = self;
-        r.security = self.security.with(area, RfaSs::new(byte));
-        r
-    }
-
-    // The registers with ENDAi replaced.
-    fn with_end(self, i: u8, byte: u8) -> Registers
-        ensures { λ r. ⌜ r ≡ withEnds (withEnd i (endA byte) (self .ends)) self ⌝ }
-    {
-        let mut r = self;
-        r.ends = self.ends.with(i, EndA::new(byte));
-        r
-    }
-
-    // The registers after a byte was written to one of them. RF_MNGT reloads RF_MNGT_Dyn.
-    pub fn write_to(self, x: Register, byte: u8) -> Registers
-        ensures { λ r. ⌜ r ≡ writtenTo x byte self ⌝ }
-    {
-        let mut r = self;
-        match x {
-            Register::Mngt => {
-                r.mngt = RfMngt::new(byte);
-                r.dynamic = RfMngt::new(byte);
-                r
-            }
-            Register::Rfa1Ss => self.with_area(1, byte),
-            Register::EndA1 => self.with_end(1, byte),
-            Register::Rfa2Ss => self.with_area(2, byte),
-            Register::EndA2 => self.with_end(2, byte),
-            Register::Rfa3Ss => self.with_area(3, byte),
-            Register::EndA3 => self.with_end(3, byte),
-            Register::Rfa4Ss => self.with_area(4, byte),
-            Register::I2css => {
-                r.i2css = I2cSs::new(byte);
-                r
-            }
-            Register::Ccfile => {
-                r.ccfile = LockCcFile::new(byte);
-                r
-            }
-            Register::Mode => {
-                r.mode = MbMode::new(byte);
-                r
-            }
-            Register::Config => {
-                r.config = LockCfg::new(byte);
-                r
-            }
-            Register::Unmapped => self,
+        let mut s = self.to_bytes();
+        if place == register_table::MNGT_PLACE {
+            put_defined(&mut s, register_table::MNGT_PLACE, byte);
+            put_defined(&mut s, register_table::DYNAMIC_PLACE, byte);
+            return Registers::from_bytes(s);
         }
+        put_defined(&mut s, place, byte);
+        Registers::from_bytes(s)
     }
 
     // The registers after a byte was written to a system address.
@@ -231,7 +180,6 @@ impl Registers {
         ensures { λ r. ⌜ r ≡ written self at byte ⌝ }
     {
         let row = register_table::row_of(at as u32);
-        let x = row.register;
-        self.write_to(x, byte)
+        self.write_to(row.place, byte)
     }
 }

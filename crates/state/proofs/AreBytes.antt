@@ -1,6 +1,7 @@
 -- A tag's bytes are bytes. Assumes nothing.
 use Rattle.parts.proofs.Below.{are-append}
-use Rattle.state.specs.Layout.{airBytes, hostBytes, registerBytes, mailboxBytes, passwordBytes, bytesOf}
+use Rattle.registers.specs.Map.{registerBytes}
+use Rattle.state.specs.Layout.{airBytes, hostBytes, mailboxBytes, passwordBytes, bytesOf}
 use Rattle.state.specs.Claims.{EncodesBytes}
 use Rattle.state.proofs.Air.{air-bytes}
 use Rattle.state.proofs.Host.{host-bytes}

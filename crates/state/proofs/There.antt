@@ -6,7 +6,8 @@ use Prim.Native.Nat.{ℕ, _+_}
 use lib.ListN.{length, length-append}
 use Rattle.parts.specs.Bytes.{bytesAt}
 use Rattle.tag.specs.declared.Tag.{Tag}
-use Rattle.state.specs.Layout.{airPartLength, hostPartLength, registersPartLength, mailboxPartLength, passwordsPartLength, uidPartLength, airPartPlace, hostPartPlace, registersPartPlace, mailboxPartPlace, passwordsPartPlace, uidPartPlace, stateBytes, airBytes, hostBytes, registerBytes, mailboxBytes, passwordBytes, bytesOf, decodes, tagOf}
+use Rattle.registers.specs.Map.{registerBytes}
+use Rattle.state.specs.Layout.{airPartLength, hostPartLength, registersPartLength, mailboxPartLength, passwordsPartLength, uidPartLength, airPartPlace, hostPartPlace, registersPartPlace, mailboxPartPlace, passwordsPartPlace, uidPartPlace, stateBytes, airBytes, hostBytes, mailboxBytes, passwordBytes, bytesOf, decodes, tagOf}
 use Rattle.state.specs.Claims.{Fits, DecodesEncoded}
 use Rattle.state.proofs.Places.{bytesAt-skip, bytesAt-head, bytesAt-whole}
 use Rattle.state.proofs.Air.{air-length, air-decodes, air-back, air-own}

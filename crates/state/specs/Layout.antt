@@ -6,7 +6,10 @@ use Prim.Native.Nat.{ℕ, _+_, _*_, _/_, _%_}
 use lib.Dec.{leb, eqb}
 use lib.ListN.{length, getD}
 use Rattle.parts.specs.Pick.{pick}
+use Rattle.parts.specs.Bytes.{bytesAt}
+use Rattle.register_table.specs.Table.{registerCount}
 use Rattle.registers.specs.declared.Registers.{Registers}
+use Rattle.registers.specs.Map.{registerBytes, registersOf}
 use Rattle.air.specs.declared.RadioState.{RadioState}
 use Rattle.air.specs.declared.RadioState.the-variants.{Ready, Quiet, Selected}
 use Rattle.air.specs.declared.Air.{Air}
@@ -35,7 +38,7 @@ abbrev pub hostPartLength : ℕ
 hostPartLength = busOffset + busLength
 
 abbrev pub registersPartLength : ℕ
-registersPartLength = 13
+registersPartLength = registerCount
 
 abbrev pub mailboxPartLength : ℕ
 mailboxPartLength = 7
@@ -180,26 +183,9 @@ hostAt s at =
       bus = busAt s (at + busOffset);
     }
 
--- ---- "RF_MNGT, RF_MNGT_Dyn, RFA1SS, ENDA1, RFA2SS, ENDA2, RFA3SS, ENDA3, RFA4SS, I2CSS, LOCK_CCFILE, MB_MODE, LOCK_CFG"
-unfoldable pub registerBytes : Registers → List ℕ
-registerBytes r =
-    r .mngt .bits ∷ r .dynamic .bits
-    ∷ r .security .area1 .bits ∷ r .ends .end1 .bits ∷ r .security .area2 .bits ∷ r .ends .end2 .bits
-    ∷ r .security .area3 .bits ∷ r .ends .end3 .bits ∷ r .security .area4 .bits
-    ∷ r .i2css .bits ∷ r .ccfile .bits ∷ r .mode .bits ∷ r .config .bits ∷ []
-
+-- ---- the registers: the byte at each place, `registerBytes` of crates/registers/specs/Map.antt
 unfoldable pub registersAt : List ℕ → ℕ → Registers
-registersAt s at =
-    record {
-      mngt = record { bits = getD s (at + 0) 0 };
-      dynamic = record { bits = getD s (at + 1) 0 };
-      security = record { area1 = record { bits = getD s (at + 2) 0 }; area2 = record { bits = getD s (at + 4) 0 }; area3 = record { bits = getD s (at + 6) 0 }; area4 = record { bits = getD s (at + 8) 0 } };
-      ends = record { end1 = record { bits = getD s (at + 3) 0 }; end2 = record { bits = getD s (at + 5) 0 }; end3 = record { bits = getD s (at + 7) 0 } };
-      i2css = record { bits = getD s (at + 9) 0 };
-      ccfile = record { bits = getD s (at + 10) 0 };
-      mode = record { bits = getD s (at + 11) 0 };
-      config = record { bits = getD s (at + 12) 0 };
-    }
+registersAt s at = registersOf (bytesAt s at registersPartLength)
 
 -- ---- "MB_EN, HOST_PUT, RF_PUT, HOST_CURRENT, RF_CURRENT", "message length, low byte first"
 unfoldable pub mailboxBytes : Mailbox → List ℕ

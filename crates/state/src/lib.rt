@@ -7,7 +7,7 @@ pub const BUS_LENGTH: usize = 7;
 
 pub const HOST_PART_LENGTH: usize = BUS_OFFSET + BUS_LENGTH;
 
-pub const REGISTERS_PART_LENGTH: usize = 13;
+pub const REGISTERS_PART_LENGTH: usize = register_table::REGISTER_BYTES;
 
 pub const MAILBOX_PART_LENGTH: usize = 7;
 

@@ -12,16 +12,7 @@ use keys::Passwords;
 use keys::Uid;
 use mailbox::Mailbox;
 use mailbox::Message;
-use register_types::EndA;
-use register_types::I2cSs;
-use register_types::LockCcFile;
-use register_types::LockCfg;
-use register_types::MbMode;
-use register_types::RfMngt;
-use register_types::RfaSs;
-use registers::Ends;
 use registers::Registers;
-use registers::Security;
 use tag::Core;
 use tag::Host;
 use tag::Tag;
@@ -127,66 +118,12 @@ fn host_at(s: &[u8], at: usize) -> Host
     }
 }
 
-fn security_at(s: &[u8], at: usize) -> Security
-    ensures { λ r. ⌜ r ≡ registersAt (now (s .entry)) at .security ⌝ }
-{
-    Security {
-        area1: RfaSs {
-            bits: parts::byte_in(s, at, 2),
-        },
-        area2: RfaSs {
-            bits: parts::byte_in(s, at, 4),
-        },
-        area3: RfaSs {
-            bits: parts::byte_in(s, at, 6),
-        },
-        area4: RfaSs {
-            bits: parts::byte_in(s, at, 8),
-        },
-    }
-}
-
-fn ends_at(s: &[u8], at: usize) -> Ends
-    ensures { λ r. ⌜ r ≡ registersAt (now (s .entry)) at .ends ⌝ }
-{
-    Ends {
-        end1: EndA {
-            bits: parts::byte_in(s, at, 3),
-        },
-        end2: EndA {
-            bits: parts::byte_in(s, at, 5),
-        },
-        end3: EndA {
-            bits: parts::byte_in(s, at, 7),
-        },
-    }
-}
-
 fn registers_at(s: &[u8], at: usize) -> Registers
     ensures { λ r. ⌜ r ≡ registersAt (now (s .entry)) at ⌝ }
 {
-    Registers {
-        mngt: RfMngt {
-            bits: parts::byte_in(s, at, 0),
-        },
-        dynamic: RfMngt {
-            bits: parts::byte_in(s, at, 1),
-        },
-        security: security_at(s, at),
-        ends: ends_at(s, at),
-        i2css: I2cSs {
-            bits: parts::byte_in(s, at, 9),
-        },
-        ccfile: LockCcFile {
-            bits: parts::byte_in(s, at, 10),
-        },
-        mode: MbMode {
-            bits: parts::byte_in(s, at, 11),
-        },
-        config: LockCfg {
-            bits: parts::byte_in(s, at, 12),
-        },
-    }
+    let mut b = [0u8; state::REGISTERS_PART_LENGTH];
+    parts::put_bytes(&mut b, 0, s, at, state::REGISTERS_PART_LENGTH);
+    Registers::from_bytes(b)
 }
 
 fn mailbox_at(s: &[u8], at: usize) -> Mailbox

@@ -9,7 +9,8 @@ use Rattle.parts.specs.Bytes.{bytesAt}
 use Rattle.keys.specs.declared.Passwords.{Passwords}
 use Rattle.tag.specs.declared.Host.{Host}
 use Rattle.tag.specs.declared.Tag.{Tag}
-use Rattle.state.specs.Layout.{busOffset, busLength, airPartLength, hostPartLength, registersPartLength, mailboxPartLength, passwordsPartLength, airPartPlace, hostPartPlace, registersPartPlace, mailboxPartPlace, passwordsPartPlace, uidPartPlace, airBytes, busBytes, hostBytes, registerBytes, mailboxBytes, passwordBytes, bytesOf}
+use Rattle.registers.specs.Map.{registerBytes}
+use Rattle.state.specs.Layout.{busOffset, busLength, airPartLength, hostPartLength, registersPartLength, mailboxPartLength, passwordsPartLength, airPartPlace, hostPartPlace, registersPartPlace, mailboxPartPlace, passwordsPartPlace, uidPartPlace, airBytes, busBytes, hostBytes, mailboxBytes, passwordBytes, bytesOf}
 use Rattle.state.proofs.Places.{bytesAt-whole, sets-then, sets-next}
 use Rattle.state.proofs.Air.{air-length}
 use Rattle.state.proofs.Bus.{bus-length}

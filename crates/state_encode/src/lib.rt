@@ -3,7 +3,8 @@ ghost use mathlib.Core.Path.{_≡_};
 ghost use Prim.Native.Nat.{_≤_};
 ghost use lib.ListN.{length};
 ghost use lib.Seq.{sets};
-ghost use Rattle.state.specs.Layout.{stateBytes, passwordsPartLength, flagByte, radioNumber, spaceNumber, airBytes, busBytes, hostBytes, registerBytes, mailboxBytes, passwordBytes, bytesOf};
+ghost use Rattle.registers.specs.Map.{registerBytes};
+ghost use Rattle.state.specs.Layout.{stateBytes, passwordsPartLength, flagByte, radioNumber, spaceNumber, airBytes, busBytes, hostBytes, mailboxBytes, passwordBytes, bytesOf};
 use air::Air;
 use air::RadioState;
 use bus::Bus;
@@ -103,21 +104,7 @@ fn put_host(h: Host, s: &mut [u8], at: usize)
 fn put_registers(r: Registers, s: &mut [u8], at: usize)
     ensures { λ _. ⌜ now (s .exit) ≡ sets (now (s .entry)) at (registerBytes r) ⌝ }
 {
-    let b = [
-        r.mngt.bits,
-        r.dynamic.bits,
-        r.security.area1.bits,
-        r.ends.end1.bits,
-        r.security.area2.bits,
-        r.ends.end2.bits,
-        r.security.area3.bits,
-        r.ends.end3.bits,
-        r.security.area4.bits,
-        r.i2css.bits,
-        r.ccfile.bits,
-        r.mode.bits,
-        r.config.bits,
-    ];
+    let b = r.to_bytes();
     parts::put_bytes(s, at, &b, 0, state::REGISTERS_PART_LENGTH);
 }
 

@@ -12,8 +12,7 @@ fn write_at(r: Registers, first: u16, i: u16, x: u8) -> Registers
     ensures { λ n. ⌜ n ≡ written r (first + i) x ⌝ }
 {
     let row = register_table::row_of(first as u32 + i as u32);
-    let register = row.register;
-    r.write_to(register, x)
+    r.write_to(row.place, x)
 }
 
 // The registers with the page's k bytes taken as written from the first address on.

@@ -32,7 +32,7 @@ pub fn user_acked(c: Core, session: bool, first: u16, k: u16) -> bool
     if first < 512 {
         return memory_acked(c, session, first, k);
     }
-    if (first == dynamic::RF_MNGT_DYN) | (first == dynamic::MB_CTRL_DYN) {
+    if dynamic::host_writes(first) {
         return k == 0;
     }
     mailbox_acked(c.mailbox, first)

@@ -1,8 +1,13 @@
-use Rattle.parts.specs.Bytes.{bytesAt}
-use Rattle.state.specs.Layout.{registerBytes}
+use Rattle.register_table.specs.Table.{registerCount}
+use Rattle.registers.specs.Map.{registerBytes}
+use Rattle.registers.proofs.Bytes.{bytes-count}
+use Rattle.state.proofs.Places.{bytesAt-whole}
 use borrow.Author.Needs.{needs}
 use Rattle.state_encode.proofs.put_registers.Statement.{statement}
 use Rattle.state_encode.proofs.put_registers.Tie as tie
+
+to-bytes-requires : tie.Need-to-bytes-requires
+to-bytes-requires c κs = search needs
 
 slice-aggregate-put-bytes : tie.Need-slice-aggregate-put-bytes
 slice-aggregate-put-bytes c = search needs
@@ -14,9 +19,12 @@ same-length : tie.Need-same-length
 same-length c = search needs
 
 returns : tie.Need-returns
-unfolding bytesAt registerBytes
-returns c = rw (c .before .before .put-bytes .ensures)
+returns c =
+    let put = c .before .before in
+    let b = put .before .before .before in
+    let a = b .before .before .args in
+    rw (put .put-bytes .ensures, b .to-bytes .ensures, bytesAt-whole (registerBytes (a .r)) registerCount (bytes-count (a .r)))
 
 pub put-registers-spec : {M : Type 1} → statement M
 put-registers-spec =
-    tie.close (tie.spec slice-aggregate-put-bytes put-bytes-requires same-length returns)
+    tie.close (tie.spec to-bytes-requires slice-aggregate-put-bytes put-bytes-requires same-length returns)

@@ -5,7 +5,7 @@ use lib.Seq.{sets}
 use Rattle.parts.specs.Bits.{keepBits}
 use Rattle.parts.specs.Bytes.{bytesAt}
 use Rattle.parts.proofs.Picks.{pick-case}
-use Rattle.register_table.specs.declared.Register.the-variants.{Ccfile}
+use Rattle.register_table.specs.Table.{ccfilePlace}
 use Rattle.register_types.specs.Types.{lockCcFileBits}
 use Rattle.registers.specs.Map.{writtenTo}
 use Rattle.errors.specs.declared.RadioError.{RadioError}
@@ -26,7 +26,7 @@ module _ (K : CommandResult → Type 0) (v : RadioSide) (m : List ℕ) where
       (λ _. pick-case K _ _ _ (λ _. fail WriteLeavesArea) (λ _. pick-case K _ _ _ (λ _. fail WriteForbidden) (λ _. done))))
 
   pub lock-case : (block : ℕ) → ((error : RadioError) → K (fails error v m))
-      → K (commandResult (good []) (sideRegisters (writtenTo Ccfile (keepBits lockCcFileBits (v .core .registers .ccfile .bits) + (block + 1)) (v .core .registers)) v) m)
+      → K (commandResult (good []) (sideRegisters (writtenTo ccfilePlace (keepBits lockCcFileBits (v .core .registers .ccfile .bits) + (block + 1)) (v .core .registers)) v) m)
       → K (lockOf v m block)
   unfolding lockOf
   lock-case block fail done =

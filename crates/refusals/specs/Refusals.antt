@@ -26,7 +26,7 @@ number OutOfRange = 4
 number StateLength = 13
 number UidLength = 14
 
--- those that look at the tag or its memory; the others look at what the call hands in
+-- 1 and 4 look at the tag or its memory; the model's others look at what the call hands in alone
 unfoldable pub looksAtTag : Refusal → Bool
 looksAtTag refusal = eqb (number refusal) 1 || eqb (number refusal) 4
 

@@ -73,7 +73,7 @@ isStarted (DataLeg space count spoiled) = false
 unfoldable pub ackedSelect : Host → ℕ → Bool
 ackedSelect h x = isStarted (h .bus) && not (selectRefused (choose (h .vcc) (h .programming) x))
 
--- what is noted is one
+-- what is noted opens a transfer: it is an Acked select
 unfoldable pub opens : Host → List Noted → Bool
 opens h [] = false
 opens h (NotedStart ∷ rest) = false

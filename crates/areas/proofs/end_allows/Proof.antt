@@ -24,7 +24,9 @@ returns c = rw (← c .before .before .row-of .ensures, c .enum-told .given .1)
 
 returns-2 : tie.Need-returns-2
 unfolding endAllows
-returns-2 c = rw (c .end-accepted .ensures, ← c .before .before .before .before .row-of .ensures, c .before .before .rule .given .1)
+returns-2 c =
+    let after-row-of : tie.After-row-of = search needs in
+    rw (c .end-accepted .ensures, ← after-row-of .row-of .ensures, c .before .before .rule .given .1)
 
 returns-3 : tie.Need-returns-3
 unfolding endAllows

@@ -19,7 +19,10 @@ loop-holds : tie.Need-loop-holds Inv-loop μ-loop
 loop-holds c = (refl, refl)
 
 turn-requires : tie.Need-turn-requires Inv-loop μ-loop
-turn-requires c κs = omega (arith, c .before .before .before .before .before .before .before .loop .inv .1, c .before .before .before .before .before .before .before .before .before .before .pre)
+turn-requires c κs =
+    let at-loop : tie.At-loop Inv-loop μ-loop = search needs in
+    let start : tie.Start Inv-loop μ-loop = search needs in
+    omega (arith, at-loop .loop .inv .1, start .pre)
 
 sub-reads : tie.Need-sub-reads Inv-loop μ-loop
 sub-reads c = omega (arith, ltb-true 0 (c .before .before .before .before .before .before .before .before .before .before .before .before .loop .reads) (and-right (c .before .before .before .before .before .before .before .before .before .before .before .before .loop .r .more) (ltb 0 (c .before .before .before .before .before .before .before .before .before .before .before .before .loop .reads)) (c .before .before .before .before .before .before .before .before .before .before .if1 .taken)))
@@ -29,8 +32,10 @@ loop-less c = omega (arith, ltb-true 0 (c .before .before .before .before .befor
 
 loop-again : tie.Need-loop-again Inv-loop μ-loop
 loop-again c =
-    let k = c .before .before .before .before .turn .kept in
-    (k .1 .1 .1 .1 .0 ∙ c .before .before .before .before .before .before .before .before .before .before .before .before .loop .inv .0, k .1 .1 .1 .1 .1 .0 ∙ c .before .before .before .before .before .before .before .before .before .before .before .before .loop .inv .1)
+    let after-turn : tie.After-turn Inv-loop μ-loop = search needs in
+    let at-loop : tie.At-loop Inv-loop μ-loop = search needs in
+    let k = after-turn .turn .kept in
+    (k .1 .1 .1 .1 .0 ∙ at-loop .loop .inv .0, k .1 .1 .1 .1 .1 .0 ∙ at-loop .loop .inv .1)
 
 same-length : tie.Need-same-length Inv-loop μ-loop
 same-length c = c .before .before .loop .inv .0

@@ -21,10 +21,14 @@ loop-holds : tie.Need-loop-holds Inv-loop μ-loop
 loop-holds c = record { carried-is = refl; held-is = refl; out-len = refl; within = omega arith }
 
 sub-step : tie.Need-sub-step Inv-loop μ-loop
-sub-step c = omega (arith, c .before .before .before .before .loop .inv .within)
+sub-step c =
+    let at-loop : tie.At-loop Inv-loop μ-loop = search needs in
+    omega (arith, at-loop .loop .inv .within)
 
 part-step-start : tie.Need-part-step-start Inv-loop μ-loop
-part-step-start c = omega (arith, c .before .before .before .before .loop .inv .within)
+part-step-start c =
+    let at-loop : tie.At-loop Inv-loop μ-loop = search needs in
+    omega (arith, at-loop .loop .inv .within)
 
 part-step-end : tie.Need-part-step-end Inv-loop μ-loop
 part-step-end c = omega arith
@@ -39,7 +43,9 @@ part-say-start : tie.Need-part-say-start Inv-loop μ-loop
 part-say-start c = omega arith
 
 part-say-end : tie.Need-part-say-end Inv-loop μ-loop
-part-say-end c = omega (arith, c .before .before .before .before .step .ensures .1 .1, c .before .before .before .before .step .kept .1 .1 .1 .1 .1 .1 .0)
+part-say-end c =
+    let after-step : tie.After-step Inv-loop μ-loop = search needs in
+    omega (arith, after-step .step .ensures .1 .1, after-step .step .kept .1 .1 .1 .1 .1 .1 .0)
 
 say-requires : tie.Need-say-requires Inv-loop μ-loop
 say-requires c κs = search needs
@@ -48,7 +54,10 @@ stopped-requires : tie.Need-stopped-requires Inv-loop μ-loop
 stopped-requires c κs = search needs
 
 same-length : tie.Need-same-length Inv-loop μ-loop
-same-length c = c .before .before .before .before .before .before .before .before .step .kept .1 .1 .1 .1 .1 .1 .0 ∙ c .before .before .before .before .before .before .before .before .before .before .before .before .before .before .before .loop .inv .out-len
+same-length c =
+    let after-step : tie.After-step Inv-loop μ-loop = search needs in
+    let at-loop : tie.At-loop Inv-loop μ-loop = search needs in
+    after-step .step .kept .1 .1 .1 .1 .1 .1 .0 ∙ at-loop .loop .inv .out-len
 
 returns : tie.Need-returns Inv-loop μ-loop
 returns c = λ t. absurd (never _ (c .stopped .ensures) t)
@@ -86,7 +95,8 @@ same-length-2 c = c .before .loop .inv .out-len
 
 returns-2 : tie.Need-returns-2 Inv-loop μ-loop
 returns-2 c =
-    let a = c .before .before .before .before .before .args in
+    let start : tie.Start Inv-loop μ-loop = search needs in
+    let a = start .args in
     let l = c .before .loop in
     all-used (benchState (a .run .bench) (a .m .now) (a .reply .now)) (take (a .run .have) (a .kept .now)) (a .s .now) (a .out .now) (benchState (l .bench) (l .m) (l .reply)) (take (l .have) (l .kept)) (l .out) (l .at) (l .inv) (c .loop-test .left) true
 

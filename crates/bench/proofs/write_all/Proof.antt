@@ -43,10 +43,14 @@ returns : tie.Need-returns Inv-loop μ-loop
 returns c = search needs
 
 sub-count : tie.Need-sub-count Inv-loop μ-loop
-sub-count c = omega (arith, c .before .before .before .before .before .loop .inv)
+sub-count c =
+    let at-loop : tie.At-loop Inv-loop μ-loop = search needs in
+    omega (arith, at-loop .loop .inv)
 
 part-count-start : tie.Need-part-count-start Inv-loop μ-loop
-part-count-start c = omega (arith, c .before .before .before .before .before .loop .inv)
+part-count-start c =
+    let at-loop : tie.At-loop Inv-loop μ-loop = search needs in
+    omega (arith, at-loop .loop .inv)
 
 part-count-end : tie.Need-part-count-end Inv-loop μ-loop
 part-count-end c = omega arith
@@ -56,18 +60,26 @@ count-requires c κs = search needs
 
 moved : (c : tie.After-count Inv-loop μ-loop) → c .before .before .before .before .before .before .before .loop .done + c .count .result ≤ length (c .before .before .before .before .before .before .before .before .before .args .s .now)
 moved c =
-    let l = c .before .before .before .before .before .before .before .loop in
-    let s = c .before .before .before .before .before .before .before .before .before .args .s .now in
+    let at-loop : tie.At-loop Inv-loop μ-loop = search needs in
+    let start : tie.Start Inv-loop μ-loop = search needs in
+    let l = at-loop .loop in
+    let s = start .args .s .now in
     omega (arith, c .count .ensures .0, l .inv, length-take (length s - l .done) (drop (l .done) s), length-drop (l .done) s)
 
 add-done : tie.Need-add-done Inv-loop μ-loop
-add-done c = omega (arith, moved c, c .before .before .before .before .before .before .before .before .before .good .1 .0 .0)
+add-done c =
+    let start : tie.Start Inv-loop μ-loop = search needs in
+    omega (arith, moved c, start .good .1 .0 .0)
 
 sub-calls : tie.Need-sub-calls Inv-loop μ-loop
-sub-calls c = omega (arith, calls-left (c .before .before .before .before .before .before))
+sub-calls c =
+    let in-loop : tie.In-loop Inv-loop μ-loop = search needs in
+    omega (arith, calls-left in-loop)
 
 loop-less : tie.Need-loop-less Inv-loop μ-loop
-loop-less c = omega (arith, calls-left (c .before .before .before .before .before .before))
+loop-less c =
+    let in-loop : tie.In-loop Inv-loop μ-loop = search needs in
+    omega (arith, calls-left in-loop)
 
 loop-again : tie.Need-loop-again Inv-loop μ-loop
 loop-again c = moved c

@@ -22,14 +22,16 @@ same-length c = search needs
 
 returns : tie.Need-returns
 returns c =
+    let then1 : tie.Then1 = search needs in
+    let start : tie.Start = search needs in
+    let after-put : tie.After-put = search needs in
+    let after-status-of : tie.After-status-of = search needs in
     let bytes = c .before .before in
-    let first = bytes .before .before .before .before in
-    let status = first .before .before in
-    let h = status .before .if1 .taken in
-    let a = status .before .before .before .before .args in (
+    let h = then1 .if1 .taken in
+    let a = start .args in (
       sym (length-with (a .r) (a .session) (a .m .now) (a .option) (a .block) h),
       bytes .put-bytes .ensures
-          ∙ rw (first .put .ensures, status .status-of .ensures)
+          ∙ rw (after-put .put .ensures, after-status-of .status-of .ensures)
           (ap (sets (a .part .now) 0) (sym (block-with (a .r) (a .session) (a .m .now) (a .option) (a .block) h))),
     )
 
@@ -41,9 +43,11 @@ same-length-2 c = search needs
 
 returns-2 : tie.Need-returns-2
 returns-2 c =
+    let else1 : tie.Else1 = search needs in
+    let start : tie.Start = search needs in
     let bytes = c .before .before in
-    let h = bytes .before .before .if1 .left in
-    let a = bytes .before .before .before .before .before .args in (
+    let h = else1 .if1 .left in
+    let a = start .args in (
       sym (length-plain (a .r) (a .session) (a .m .now) (a .option) (a .block) h),
       bytes .put-bytes2 .ensures
           ∙ ap (sets (a .part .now) 0) (sym (block-plain (a .r) (a .session) (a .m .now) (a .option) (a .block) h)),

@@ -12,14 +12,16 @@ use Rattle.block_bytes.proofs.put_block_at.Tie as tie
 
 returns : tie.Need-returns
 returns c =
-    let a = c .before .before .before .before .args in (
+    let start : tie.Start = search needs in
+    let a = start .args in (
       sym (length-with (a .r) (a .session) (a .m .now) (a .option) (a .block) (c .if2 .taken)),
       sym (sets-past (blockOf (a .r) (a .session) (a .m .now) (a .option) (a .block)) (a .out .now) (a .at) (omega arith)),
     )
 
 returns-2 : tie.Need-returns-2
 returns-2 c =
-    let a = c .before .before .before .before .args in (
+    let start : tie.Start = search needs in
+    let a = start .args in (
       sym (length-plain (a .r) (a .session) (a .m .now) (a .option) (a .block) (c .if2 .left)),
       sym (sets-past (blockOf (a .r) (a .session) (a .m .now) (a .option) (a .block)) (a .out .now) (a .at) (omega arith)),
     )
@@ -41,8 +43,9 @@ same-length c = search needs
 
 returns-3 : tie.Need-returns-3
 returns-3 c =
+    let start : tie.Start = search needs in
     let part = c .before .before .put-block in
-    let a = c .before .before .before .before .before .before .before .args in
+    let a = start .args in
     let o = a .out .now in (
       part .ensures .0,
       ap (putMid (a .at) (length o - a .at) o) (part .ensures .1)

@@ -41,16 +41,18 @@ loop-less c = omega arith
 
 loop-again : tie.Need-loop-again Inv-loop μ-loop
 loop-again c =
+    let at-loop : tie.At-loop Inv-loop μ-loop = search needs in
+    let start : tie.Start Inv-loop μ-loop = search needs in
+    let after-status-of : tie.After-status-of Inv-loop μ-loop = search needs in
     let put = c .before .before in
-    let status = put .before .before in
-    let l = status .before .before .loop in
-    let a = status .before .before .before .before .args in
+    let l = at-loop .loop in
+    let a = start .args in
     let done = statusesOf (a .r) (a .session) (a .first) (l .k) in
     let next = statusOf (a .r) (a .session) (a .first + l .k) in (
       omega arith,
       (
         put .put-in .ensures
-            ∙ ap (set (l .out) (1 + l .k)) (status .status-of .ensures)
+            ∙ ap (set (l .out) (1 + l .k)) (after-status-of .status-of .ensures)
             ∙ ap (λ (o : List ℕ). set o (1 + l .k) next) (l .inv .1 .0)
             ∙ ap (λ (n : ℕ). set (sets (a .out .now) 1 done) (1 + n) next) (sym (length-statuses (a .r) (a .session) (a .first) (l .k)))
             ∙ sym (sets-snoc done (a .out .now) 1 next)

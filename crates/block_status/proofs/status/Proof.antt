@@ -21,8 +21,9 @@ same-length c = search needs
 returns : tie.Need-returns
 unfolding statusReply
 returns c =
+    let start : tie.Start = search needs in
     let call = c .before .before in
-    let a = call .before .before .before .before .before .args in
+    let a = start .args in
     said (statusReply (a .v) (a .m .now) (a .first) (a .more)) _ (fault NoSuchBlock) (call .error .ensures) (search picks depth 20)
 
 sub-lesser : tie.Need-sub-lesser
@@ -55,19 +56,20 @@ same-length-2 c = search needs
 returns-2 : tie.Need-returns-2
 unfolding statusReply
 returns-2 c =
+    let start : tie.Start = search needs in
+    let after-lesser : tie.After-lesser = search needs in
+    let after-put-statuses : tie.After-put-statuses = search needs in
+    let after-put : tie.After-put = search needs in
     let call = c .before .before in
-    let run = call .before .before .before .before in
-    let zero = run .before .before .before .before in
-    let count = zero .before .before in
-    let a = count .before .before .before .before .args in
-    let n = count .lesser .result in
+    let a = start .args in
+    let n = after-lesser .lesser .result in
     let statuses = statusesOf (a .v .core .registers) (a .v .air .session) (a .first) n in
     said (statusReply (a .v) (a .m .now) (a .first) (a .more)) _ (good statuses)
-    (good-run statuses (a .out .now) (run .put-statuses .last .0) (1 + n)
+    (good-run statuses (a .out .now) (after-put-statuses .put-statuses .last .0) (1 + n)
     (ap (λ (k : ℕ). 1 + k) (sym (length-statuses (a .v .core .registers) (a .v .air .session) (a .first) n)))
-    (run .put-statuses .ensures ∙ ap (λ (o : List ℕ). sets o 1 statuses) (zero .put .ensures))
+    (after-put-statuses .put-statuses .ensures ∙ ap (λ (o : List ℕ). sets o 1 statuses) (after-put .put .ensures))
     (call .close .ensures))
-    (rw (count .lesser .ensures .0) (search picks depth 20))
+    (rw (after-lesser .lesser .ensures .0) (search picks depth 20))
 
 pub status-spec : {M : Type 1} → statement M
 status-spec =

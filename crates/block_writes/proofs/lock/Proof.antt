@@ -17,8 +17,9 @@ same-length c = search needs
 returns : tie.Need-returns
 unfolding lockOf
 returns c =
+    let start : tie.Start = search needs in
     let call = c .before .before in
-    let a = call .before .before .before .before .before .before .args in
+    let a = start .args in
     said (lockOf (a .v) (a .m .now) (a .block)) _ (fault NotLockable) (call .error .ensures) (search picks depth 20)
 
 is-locked-requires : tie.Need-is-locked-requires
@@ -33,11 +34,12 @@ same-length-2 c = search needs
 returns-2 : tie.Need-returns-2
 unfolding lockOf
 returns-2 c =
+    let start : tie.Start = search needs in
+    let after-is-locked : tie.After-is-locked = search needs in
     let call = c .before .before in
-    let locked = call .before .before .before in
-    let a = locked .before .before .before .before .before .args in
+    let a = start .args in
     said (lockOf (a .v) (a .m .now) (a .block)) _ (fault AlreadyLocked) (call .error2 .ensures)
-    (rw (← locked .is-locked .ensures) (search picks depth 20))
+    (rw (← after-is-locked .is-locked .ensures) (search picks depth 20))
 
 keep-requires : tie.Need-keep-requires
 keep-requires c κs = search needs
@@ -63,13 +65,15 @@ same-length-3 c = search needs
 returns-3 : tie.Need-returns-3
 unfolding lockOf
 returns-3 c =
+    let start : tie.Start = search needs in
+    let after-with-registers : tie.After-with-registers = search needs in
+    let after-write-to : tie.After-write-to = search needs in
+    let after-keep : tie.After-keep = search needs in
+    let after-is-locked : tie.After-is-locked = search needs in
     let call = c .before .before in
-    let next = call .before .before in
-    let write = next .before in
-    let locked = write .before .before .before in
-    let a = locked .before .before .before .before .before .args in
+    let a = start .args in
     said (lockOf (a .v) (a .m .now) (a .block)) _ (good []) (call .done .ensures)
-    (rw (next .with-registers .ensures, write .write-to .ensures, write .before .keep .ensures, ← locked .is-locked .ensures) (search picks depth 20))
+    (rw (after-with-registers .with-registers .ensures, after-write-to .write-to .ensures, after-keep .keep .ensures, ← after-is-locked .is-locked .ensures) (search picks depth 20))
 
 pub lock-spec : {M : Type 1} → statement M
 lock-spec =

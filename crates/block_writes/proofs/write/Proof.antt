@@ -20,8 +20,9 @@ same-length c = search needs
 returns : tie.Need-returns
 unfolding writeOf
 returns c =
+    let start : tie.Start = search needs in
     let call = c .before .before in
-    let a = call .before .before .before .before .before .before .before .args in
+    let a = start .args in
     said (writeOf (a .v) (a .m .now) (a .first) (a .more) (a .frame .now) (a .at)) _ (fault TooManyBlocks) (call .error .ensures) (search picks depth 20)
 
 error-requires-2 : tie.Need-error-requires-2
@@ -33,8 +34,9 @@ same-length-2 c = search needs
 returns-2 : tie.Need-returns-2
 unfolding writeOf
 returns-2 c =
+    let start : tie.Start = search needs in
     let call = c .before .before in
-    let a = call .before .before .before .before .before .before .before .before .args in
+    let a = start .args in
     said (writeOf (a .v) (a .m .now) (a .first) (a .more) (a .frame .now) (a .at)) _ (fault NoSuchBlock) (call .error2 .ensures) (search picks depth 20)
 
 leaves-area-requires : tie.Need-leaves-area-requires
@@ -49,11 +51,12 @@ same-length-3 c = search needs
 returns-3 : tie.Need-returns-3
 unfolding writeOf
 returns-3 c =
+    let start : tie.Start = search needs in
+    let after-leaves-area : tie.After-leaves-area = search needs in
     let call = c .before .before in
-    let leave = call .before .before .before in
-    let a = leave .before .before .before .before .before .before .before .args in
+    let a = start .args in
     said (writeOf (a .v) (a .m .now) (a .first) (a .more) (a .frame .now) (a .at)) _ (fault WriteLeavesArea) (call .error3 .ensures)
-    (rw (← leave .leaves-area .ensures) (search picks depth 20))
+    (rw (← after-leaves-area .leaves-area .ensures) (search picks depth 20))
 
 add-may-write-all : tie.Need-add-may-write-all
 add-may-write-all c = search needs
@@ -70,12 +73,13 @@ same-length-4 c = search needs
 returns-4 : tie.Need-returns-4
 unfolding writeOf
 returns-4 c =
+    let start : tie.Start = search needs in
+    let after-leaves-area : tie.After-leaves-area = search needs in
+    let after-may-write-all : tie.After-may-write-all = search needs in
     let call = c .before .before in
-    let right = call .before .before .before in
-    let leave = right .before .before in
-    let a = leave .before .before .before .before .before .before .before .args in
+    let a = start .args in
     said (writeOf (a .v) (a .m .now) (a .first) (a .more) (a .frame .now) (a .at)) _ (fault WriteForbidden) (call .error4 .ensures)
-    (rw (← leave .leaves-area .ensures, ← right .may-write-all .ensures) (search picks depth 20))
+    (rw (← after-leaves-area .leaves-area .ensures, ← after-may-write-all .may-write-all .ensures) (search picks depth 20))
 
 mul-put-bytes : tie.Need-mul-put-bytes
 mul-put-bytes c = search needs
@@ -101,13 +105,14 @@ same-length-6 c = search needs
 returns-5 : tie.Need-returns-5
 unfolding writeOf
 returns-5 c =
+    let start : tie.Start = search needs in
+    let after-put-bytes : tie.After-put-bytes = search needs in
+    let after-leaves-area : tie.After-leaves-area = search needs in
+    let after-may-write-all : tie.After-may-write-all = search needs in
     let call = c .before .before in
-    let bytes = call .before .before .before .before in
-    let right = bytes .before .before .before in
-    let leave = right .before .before in
-    let a = leave .before .before .before .before .before .before .before .args in
+    let a = start .args in
     said (writeOf (a .v) (a .m .now) (a .first) (a .more) (a .frame .now) (a .at)) _ (good []) (call .done .ensures)
-    (rw (bytes .put-bytes .ensures, ← leave .leaves-area .ensures, ← right .may-write-all .ensures) (search picks depth 20))
+    (rw (after-put-bytes .put-bytes .ensures, ← after-leaves-area .leaves-area .ensures, ← after-may-write-all .may-write-all .ensures) (search picks depth 20))
 
 pub write-spec : {M : Type 1} → statement M
 write-spec =

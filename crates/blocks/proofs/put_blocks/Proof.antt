@@ -34,9 +34,11 @@ put-block-at-requires c κs = search needs
 
 add-at : tie.Need-add-at Inv-loop μ-loop
 add-at c =
+    let at-loop : tie.At-loop Inv-loop μ-loop = search needs in
+    let start : tie.Start Inv-loop μ-loop = search needs in
     let call = c .before .before in
-    let l = call .before .before .before .loop in
-    let a = call .before .before .before .before .before .before .args in
+    let l = at-loop .loop in
+    let a = start .args in
     let h : call .put-block-at .result ≤ 5 = subst (λ (n : ℕ). n ≤ 5) (sym (call .put-block-at .ensures .0)) (block-le _ _ _ _ _) in
     omega (arith, h, l .inv .1 .0, blocks-le (a .r) (a .session) (a .m .now) (a .option) (a .first) (l .k))
 
@@ -48,9 +50,11 @@ loop-less c = omega arith
 
 loop-again : tie.Need-loop-again Inv-loop μ-loop
 loop-again c =
+    let at-loop : tie.At-loop Inv-loop μ-loop = search needs in
+    let start : tie.Start Inv-loop μ-loop = search needs in
     let call = c .before .before in
-    let l = call .before .before .before .loop in
-    let a = call .before .before .before .before .before .before .args in
+    let l = at-loop .loop in
+    let a = start .args in
     let done = blocksOf (a .r) (a .session) (a .m .now) (a .option) (a .first) (l .k) in
     let next = blockOf (a .r) (a .session) (a .m .now) (a .option) (a .first + l .k) in (
       omega arith,
@@ -77,8 +81,9 @@ same-length c = c .before .loop .inv .1 .1 .1
 
 returns : tie.Need-returns Inv-loop μ-loop
 returns c =
+    let start : tie.Start Inv-loop μ-loop = search needs in
     let l = c .before .loop in
-    let a = c .before .before .before .before .args in
+    let a = start .args in
     let e : l .k ≡ a .n = omega arith in (
       l .inv .1 .0 ∙ ap (λ (n : ℕ). 1 + length (blocksOf (a .r) (a .session) (a .m .now) (a .option) (a .first) n)) e,
       l .inv .1 .1 .0 ∙ ap (λ (n : ℕ). sets (a .out .now) 1 (blocksOf (a .r) (a .session) (a .m .now) (a .option) (a .first) n)) e,

@@ -26,8 +26,9 @@ same-length c = search needs
 returns : tie.Need-returns
 unfolding readOf
 returns c =
+    let start : tie.Start = search needs in
     let call = c .before .before in
-    let a = call .before .before .before .before .before .before .before .args in
+    let a = start .args in
     said (readOf (a .v) (a .m .now) (a .option) (a .first) (a .more)) _ (fault NoSuchBlock) (call .error .ensures) (search picks depth 20)
 
 error-requires-2 : tie.Need-error-requires-2
@@ -39,11 +40,12 @@ same-length-2 c = search needs
 returns-2 : tie.Need-returns-2
 unfolding readOf
 returns-2 c =
+    let start : tie.Start = search needs in
+    let after-leaves-area : tie.After-leaves-area = search needs in
     let call = c .before .before in
-    let leave = call .before .before .before .before in
-    let a = leave .before .before .before .before .args in
+    let a = start .args in
     said (readOf (a .v) (a .m .now) (a .option) (a .first) (a .more)) _ (fault ReadLeavesArea) (call .error2 .ensures)
-    (rw (← leave .leaves-area .ensures) (search picks depth 20))
+    (rw (← after-leaves-area .leaves-area .ensures) (search picks depth 20))
 
 may-read-requires : tie.Need-may-read-requires
 may-read-requires c κs = search needs
@@ -57,12 +59,13 @@ same-length-3 c = search needs
 returns-3 : tie.Need-returns-3
 unfolding readOf
 returns-3 c =
+    let start : tie.Start = search needs in
+    let after-leaves-area : tie.After-leaves-area = search needs in
+    let after-may-read : tie.After-may-read = search needs in
     let call = c .before .before in
-    let right = call .before .before .before in
-    let leave = right .before .before .before in
-    let a = leave .before .before .before .before .args in
+    let a = start .args in
     said (readOf (a .v) (a .m .now) (a .option) (a .first) (a .more)) _ (fault ReadProtected) (call .error3 .ensures)
-    (rw (← leave .leaves-area .ensures, ← right .may-read .ensures) (search picks depth 20))
+    (rw (← after-leaves-area .leaves-area .ensures, ← after-may-read .may-read .ensures) (search picks depth 20))
 
 put-requires : tie.Need-put-requires
 put-requires c κs = search needs
@@ -82,19 +85,20 @@ same-length-4 c = search needs
 returns-4 : tie.Need-returns-4
 unfolding readOf
 returns-4 c =
+    let start : tie.Start = search needs in
+    let after-put-blocks : tie.After-put-blocks = search needs in
+    let after-put : tie.After-put = search needs in
+    let after-leaves-area : tie.After-leaves-area = search needs in
+    let after-may-read : tie.After-may-read = search needs in
     let call = c .before .before in
-    let run = call .before .before .before .before in
-    let zero = run .before .before .before .before in
-    let right = zero .before .before .before in
-    let leave = right .before .before .before in
-    let a = leave .before .before .before .before .args in
+    let a = start .args in
     let blocks = blocksOf (a .v .core .registers) (a .v .air .session) (a .m .now) (a .option) (a .first) (a .more + 1) in
     said (readOf (a .v) (a .m .now) (a .option) (a .first) (a .more)) _ (good blocks)
-    (good-run blocks (a .out .now) (run .put-blocks .last .0) (run .put-blocks .result)
-    (run .put-blocks .ensures .0)
-    (run .put-blocks .ensures .1 ∙ ap (λ (o : List ℕ). sets o 1 blocks) (zero .put .ensures))
+    (good-run blocks (a .out .now) (after-put-blocks .put-blocks .last .0) (after-put-blocks .put-blocks .result)
+    (after-put-blocks .put-blocks .ensures .0)
+    (after-put-blocks .put-blocks .ensures .1 ∙ ap (λ (o : List ℕ). sets o 1 blocks) (after-put .put .ensures))
     (call .close .ensures))
-    (rw (← leave .leaves-area .ensures, ← right .may-read .ensures) (search picks depth 20))
+    (rw (← after-leaves-area .leaves-area .ensures, ← after-may-read .may-read .ensures) (search picks depth 20))
 
 pub read-spec : {M : Type 1} → statement M
 read-spec =

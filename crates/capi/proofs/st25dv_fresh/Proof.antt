@@ -34,7 +34,9 @@ keep-requires : tie.Need-keep-requires
 keep-requires c κs = search needs
 
 answer-number-requires : tie.Need-answer-number-requires
-answer-number-requires c κs = ap (λ (e : FreshResult). replyFits (e .answer)) (c .before .before .before .before .before .before .fresh .ensures) ∙ fresh-reply-fits _ _
+answer-number-requires c κs =
+    let after-fresh : tie.After-fresh = search needs in
+    ap (λ (e : FreshResult). replyFits (e .answer)) (after-fresh .fresh .ensures) ∙ fresh-reply-fits _ _
 
 same-length : tie.Need-same-length
 same-length c = search needs
@@ -44,7 +46,9 @@ same-length-2 c = search needs
 
 returns : tie.Need-returns
 unfolding freshCall unlessRefused
-returns c = rw (c .number .ensures, sym (c .before .before .before .before .fresh-call-refusal .ensures) ∙ c .before .before .judged .given .1)
+returns c =
+    let after-fresh-call-refusal : tie.After-fresh-call-refusal = search needs in
+    rw (c .number .ensures, sym (after-fresh-call-refusal .fresh-call-refusal .ensures) ∙ c .before .before .judged .given .1)
 
 same-length-3 : tie.Need-same-length-3
 same-length-3 c = search needs
@@ -54,11 +58,16 @@ same-length-4 c = search needs
 
 returns-2 : tie.Need-returns-2
 returns-2 c =
-    let a = c .before .before .before .before .before .before .before .before .before .before .before .before .before .before .before .before .before .before .args in
-    let o = c .before .before .before .before .before .before .before .fresh in
+    let start : tie.Start = search needs in
+    let after-fresh : tie.After-fresh = search needs in
+    let after-fresh-call-refusal : tie.After-fresh-call-refusal = search needs in
+    let after-enum-told : tie.After-enum-told = search needs in
+    let after-at : tie.After-at = search needs in
+    let a = start .args in
+    let o = after-fresh .fresh in
     freshened (a .uid .now) (a .m .now) (a .s .now) (freshResult (o .result .answer) (o .result .tag) (o .last .1 .0)) (c .answer-number .result) (c .before .before .before .keep .last .1 .0)
-    (sym (c .before .before .before .before .before .before .before .before .before .before .before .before .fresh-call-refusal .ensures) ∙ c .before .before .before .before .before .before .before .before .before .before .enum-told .given .1)
-    (o .ensures ∙ rw (c .before .before .before .before .before .before .before .before .before .at .ensures)) (c .answer-number .ensures) (c .before .before .before .keep .ensures)
+    (sym (after-fresh-call-refusal .fresh-call-refusal .ensures) ∙ after-enum-told .enum-told .given .1)
+    (o .ensures ∙ rw (after-at .at .ensures)) (c .answer-number .ensures) (c .before .before .before .keep .ensures)
 
 pub st25dv-fresh-spec : {M : Type 1} → statement M
 st25dv-fresh-spec =

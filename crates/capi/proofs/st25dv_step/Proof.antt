@@ -35,7 +35,9 @@ keep-requires : tie.Need-keep-requires
 keep-requires c κs = search needs
 
 answer-number-requires : tie.Need-answer-number-requires
-answer-number-requires c κs = ap (λ (e : StepResult). replyFits (e .answer)) (c .before .before .before .before .before .before .before .before .step .ensures) ∙ steps-fit _ _ _
+answer-number-requires c κs =
+    let after-step : tie.After-step = search needs in
+    ap (λ (e : StepResult). replyFits (e .answer)) (after-step .step .ensures) ∙ steps-fit _ _ _
 
 same-length : tie.Need-same-length
 same-length c = search needs
@@ -48,7 +50,9 @@ same-length-3 c = search needs
 
 returns : tie.Need-returns
 unfolding stepCall unlessRefused
-returns c = rw (c .number .ensures, sym (c .before .before .before .before .step-refusal .ensures) ∙ c .before .before .judged .given .1)
+returns c =
+    let after-step-refusal : tie.After-step-refusal = search needs in
+    rw (c .number .ensures, sym (after-step-refusal .step-refusal .ensures) ∙ c .before .before .judged .given .1)
 
 same-length-4 : tie.Need-same-length-4
 same-length-4 c = search needs

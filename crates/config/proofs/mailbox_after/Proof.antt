@@ -33,7 +33,9 @@ returns-3 c = rw (← c .before .before .row-of .ensures, c .enum-told2 .given .
 
 returns-4 : tie.Need-returns-4
 unfolding mailboxAfterWrite
-returns-4 c = rw (c .disable .ensures, ← c .before .before .before .before .row-of .ensures, c .before .before .enum-told3 .given .1) (search picks depth 20)
+returns-4 c =
+    let after-row-of : tie.After-row-of = search needs in
+    rw (c .disable .ensures, ← after-row-of .row-of .ensures, c .before .before .enum-told3 .given .1) (search picks depth 20)
 
 pub mailbox-after-spec : {M : Type 1} → statement M
 mailbox-after-spec =

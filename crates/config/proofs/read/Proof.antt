@@ -22,9 +22,11 @@ same-length c = search needs
 returns : tie.Need-returns
 unfolding readConfigOf
 returns c =
+    let start : tie.Start = search needs in
+    let after-row-of : tie.After-row-of = search needs in
     let call = c .before .before in
-    let a = call .before .before .before .before .before .before .before .args in
-    said (readConfigOf (a .v) (a .m .now) (a .pointer)) _ (fault NoSuchRegister) (call .error .ensures) (rw (← ap (λ (row : RegisterRow). row .radio) (call .before .before .before .before .row-of .ensures)) (search picks depth 20))
+    let a = start .args in
+    said (readConfigOf (a .v) (a .m .now) (a .pointer)) _ (fault NoSuchRegister) (call .error .ensures) (rw (← ap (λ (row : RegisterRow). row .radio) (after-row-of .row-of .ensures)) (search picks depth 20))
 
 read-requires : tie.Need-read-requires
 read-requires c κs = search needs
@@ -38,10 +40,13 @@ same-length-2 c = search needs
 returns-2 : tie.Need-returns-2
 unfolding readConfigOf
 returns-2 c =
+    let start : tie.Start = search needs in
+    let after-read : tie.After-read = search needs in
+    let after-row-of : tie.After-row-of = search needs in
     let call = c .before .before in
-    let a = call .before .before .before .before .before .before .before .before .args in
-    said (readConfigOf (a .v) (a .m .now) (a .pointer)) _ (good (call .before .before .read .result ∷ [])) (call .byte .ensures)
-    (rw (call .before .before .read .ensures, ← ap (λ (row : RegisterRow). row .radio) (call .before .before .before .before .before .row-of .ensures)) (search picks depth 20))
+    let a = start .args in
+    said (readConfigOf (a .v) (a .m .now) (a .pointer)) _ (good (after-read .read .result ∷ [])) (call .byte .ensures)
+    (rw (after-read .read .ensures, ← ap (λ (row : RegisterRow). row .radio) (after-row-of .row-of .ensures)) (search picks depth 20))
 
 pub read-spec : {M : Type 1} → statement M
 read-spec =

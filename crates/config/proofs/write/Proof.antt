@@ -22,10 +22,12 @@ same-length c = search needs
 returns : tie.Need-returns
 unfolding writeConfigOf
 returns c =
+    let start : tie.Start = search needs in
+    let after-row-of : tie.After-row-of = search needs in
     let call = c .before .before in
-    let a = call .before .before .before .before .before .before .before .before .args in
+    let a = start .args in
     said (writeConfigOf (a .v) (a .m .now) (a .pointer) (a .x)) _ (fault NoSuchRegister) (call .error .ensures)
-    (rw (← ap (λ (row : RegisterRow). row .radio) (call .before .before .before .before .row-of .ensures)) (search picks depth 20))
+    (rw (← ap (λ (row : RegisterRow). row .radio) (after-row-of .row-of .ensures)) (search picks depth 20))
 
 error-requires-2 : tie.Need-error-requires-2
 error-requires-2 c κs = search needs

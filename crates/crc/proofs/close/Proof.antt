@@ -55,7 +55,8 @@ same-length c = search needs
 
 returns-3 : tie.Need-returns-3
 returns-3 c =
-    let a = c .before .before .before .before .before .before .args in
+    let start : tie.Start = search needs in
+    let a = start .args in
     let o = a .out .now in
     let e : c .crc .result ≡ crcOf (take (a .n) o) = c .crc .ensures ∙ ap (λ (k : ℕ). crcOf (take k o)) (sub-zero (a .n)) in
     rw (e, add-one) (sym (closed-fits o (a .n) (omega arith)))

@@ -45,11 +45,13 @@ cast-result-2 c = search needs
 returns-2 : tie.Need-returns-2
 unfolding goodFrame
 returns-2 c =
+    let start : tie.Start = search needs in
+    let else1 : tie.Else1 = search needs in
     let b = c .before .before in
-    let s = b .before .before .before .before .args .s .now in
+    let s = start .args .s .now in
     let k = length s - 2 in
     let e : b .crc .result ≡ crcOf (take k s) = b .crc .ensures ∙ ap (λ (n : ℕ). crcOf (take n s)) (sub-zero k) in
-    rw (e, le-leb _ _ (b .before .before .if1 .left))
+    rw (e, le-leb _ _ (else1 .if1 .left))
 
 pub is-good-spec : {M : Type 1} → statement M
 is-good-spec =

@@ -1,3 +1,4 @@
+use borrow.Author.Needs.{needs}
 use mathlib.Core.Path.{_≡_, refl, sym, ap, _∙_}
 use Prim.Native.Nat.{ℕ, _+_, _≤_, _-_}
 use native.Mathlib.Omega.{arith}
@@ -22,7 +23,9 @@ shared-slice-read-feed : tie.Need-shared-slice-read-feed Inv-loop μ-loop
 shared-slice-read-feed c = omega arith
 
 feed-requires : tie.Need-feed-requires Inv-loop μ-loop
-feed-requires c κs = c .before .before .before .before .pre
+feed-requires c κs =
+    let start : tie.Start Inv-loop μ-loop = search needs in
+    start .pre
 
 add-i : tie.Need-add-i Inv-loop μ-loop
 add-i c = omega arith
@@ -32,8 +35,9 @@ loop-less c = omega arith
 
 loop-again : tie.Need-loop-again Inv-loop μ-loop
 loop-again c =
+    let start : tie.Start Inv-loop μ-loop = search needs in
     let at = c .before .before .before in
-    let s = at .before .before .args .s .now in (
+    let s = start .args .s .now in (
       omega arith,
       ap (λ (x : ℕ). run x (drop (at .loop .i + 1) s)) (c .feed .ensures)
           ∙ run-on s (at .loop .i) (at .loop .c) (omega arith) ∙ at .loop .inv .1,

@@ -17,8 +17,9 @@ same-length c = search needs
 returns : tie.Need-returns
 unfolding readDynamicOf
 returns c =
+    let start : tie.Start = search needs in
     let call = c .before .before in
-    let a = call .before .before .before .before .before .args in
+    let a = start .args in
     said (readDynamicOf (a .v) (a .m .now) (a .pointer)) _ (fault NoSuchDynamicRegister) (call .error .ensures) (search picks depth 20)
 
 control-byte-requires : tie.Need-control-byte-requires
@@ -33,10 +34,12 @@ same-length-2 c = search needs
 returns-2 : tie.Need-returns-2
 unfolding readDynamicOf
 returns-2 c =
+    let start : tie.Start = search needs in
+    let after-control-byte : tie.After-control-byte = search needs in
     let call = c .before .before in
-    let a = call .before .before .before .before .before .before .args in
-    said (readDynamicOf (a .v) (a .m .now) (a .pointer)) _ (good (call .before .before .control-byte .result ∷ [])) (call .byte .ensures)
-    (rw (call .before .before .control-byte .ensures) (search picks depth 20))
+    let a = start .args in
+    said (readDynamicOf (a .v) (a .m .now) (a .pointer)) _ (good (after-control-byte .control-byte .result ∷ [])) (call .byte .ensures)
+    (rw (after-control-byte .control-byte .ensures) (search picks depth 20))
 
 pub read-dynamic-spec : {M : Type 1} → statement M
 read-dynamic-spec =

@@ -17,8 +17,9 @@ same-length c = search needs
 returns : tie.Need-returns
 unfolding writeDynamicOf
 returns c =
+    let start : tie.Start = search needs in
     let call = c .before .before in
-    let a = call .before .before .before .before .before .args in
+    let a = start .args in
     said (writeDynamicOf (a .v) (a .m .now) (a .vcc) (a .pointer) (a .x)) _ (fault NoSuchDynamicRegister) (call .error .ensures) (search picks depth 20)
 
 control-requires : tie.Need-control-requires
@@ -36,10 +37,13 @@ same-length-2 c = search needs
 returns-2 : tie.Need-returns-2
 unfolding writeDynamicOf
 returns-2 c =
+    let start : tie.Start = search needs in
+    let after-with-mailbox : tie.After-with-mailbox = search needs in
+    let after-control : tie.After-control = search needs in
     let call = c .before .before in
-    let a = call .before .before .before .before .before .before .before .before .args in
+    let a = start .args in
     said (writeDynamicOf (a .v) (a .m .now) (a .vcc) (a .pointer) (a .x)) _ (good []) (call .done .ensures)
-    (rw (call .before .before .with-mailbox .ensures, call .before .before .before .control .ensures) (search picks depth 20))
+    (rw (after-with-mailbox .with-mailbox .ensures, after-control .control .ensures) (search picks depth 20))
 
 pub write-dynamic-spec : {M : Type 1} → statement M
 write-dynamic-spec =

@@ -35,8 +35,10 @@ loop-less c =
 
 loop-again : tie.Need-loop-again Inv-loop μ-loop
 loop-again c =
-    let i = c .before .before .before .before .before .before .before .before .before .before .before .before .before .before .loop .inv in
-    let k = c .before .before .before .before .before .before .before .line .kept in
+    let at-loop : tie.At-loop Inv-loop μ-loop = search needs in
+    let after-line : tie.After-line Inv-loop μ-loop = search needs in
+    let i = at-loop .loop .inv in
+    let k = after-line .line .kept in
     (k .1 .1 .0 ∙ i .0, (k .1 .1 .1 .0 ∙ i .1 .0, k .1 .1 .1 .1 .0 ∙ i .1 .1))
 
 same-length : tie.Need-same-length Inv-loop μ-loop

@@ -38,7 +38,8 @@ part-result-end-2 c =
 
 returns-2 : tie.Need-returns-2
 returns-2 c =
-    let a = c .before .before .before .before .args in
+    let start : tie.Start = search needs in
+    let a = start .args in
     let e : c .before .line-end .result - a .at ≡ lineLength (drop (a .at) (a .s .now)) = omega (arith, c .before .line-end .ensures) in
     ap (λ (n : ℕ). take n (drop (a .at) (a .s .now))) e
 

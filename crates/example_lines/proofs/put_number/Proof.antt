@@ -21,8 +21,10 @@ same-length c = search needs
 
 returns : tie.Need-returns
 returns c =
-    let a = c .before .before .before .before .before .before .before .before .before .args in
-    let n = c .before .before .before .before .before .before .put-decimal in
+    let start : tie.Start = search needs in
+    let after-put-decimal : tie.After-put-decimal = search needs in
+    let a = start .args in
+    let n = after-put-decimal .put-decimal in
     let o = a .text .now in
     let room : length o ≤ lastPlace = omega arith in
     c .before .before .put-mark .ensures ∙ behind o (n .last .0) (decimal (a .number)) (9 ∷ []) 0 (n .result) room (n .ensures)

@@ -23,7 +23,9 @@ same-length : tie.Need-same-length
 same-length c = search needs
 
 returns : tie.Need-returns
-returns c = ap (λ (s : Stored). s .buffer) (c .before .before .before .before .before .before .before .put-mark .ensures)
+returns c =
+    let after-put-mark : tie.After-put-mark = search needs in
+    ap (λ (s : Stored). s .buffer) (after-put-mark .put-mark .ensures)
 
 slice-aggregate-write-all : tie.Need-slice-aggregate-write-all
 slice-aggregate-write-all c = search needs
@@ -35,7 +37,9 @@ same-length-2 : tie.Need-same-length-2
 same-length-2 c = search needs
 
 returns-2 : tie.Need-returns-2
-returns-2 c = ap (λ (s : Stored). s .buffer) (c .before .before .before .before .before .put-mark .ensures)
+returns-2 c =
+    let after-put-mark : tie.After-put-mark = search needs in
+    ap (λ (s : Stored). s .buffer) (after-put-mark .put-mark .ensures)
 
 pub write-line-spec : {M : Type 1} → statement M
 write-line-spec =

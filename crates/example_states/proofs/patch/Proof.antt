@@ -23,8 +23,10 @@ store-requires c κs = search needs
 returns : tie.Need-returns
 unfolding patchBy
 returns c =
-    let t = c .before .before .before .before .before .before .before .before .args .t in
-    let e = c .before .before .before .before .before .encode in
+    let start : tie.Start = search needs in
+    let after-encode : tie.After-encode = search needs in
+    let t = start .args .t in
+    let e = after-encode .encode in
     pick-false _ _ _ _ (not-true _ (c .if1 .taken)) refl
     ∙ patched-by t _ _ _ (encoded t _ _ refl (e .ensures .1) (e .ensures .0)) (c .before .before .store .ensures)
 
@@ -37,10 +39,13 @@ decodes-requires c κs = search needs
 returns-2 : tie.Need-returns-2
 unfolding patchBy
 returns-2 c =
-    let t = c .before .before .before .before .before .before .before .before .before .before .before .args .t in
-    let e = c .before .before .before .before .before .before .before .before .encode in
+    let start : tie.Start = search needs in
+    let after-encode : tie.After-encode = search needs in
+    let after-store : tie.After-store = search needs in
+    let t = start .args .t in
+    let e = after-encode .encode in
     pick-true _ _ _ _ (not-false _ (c .before .before .before .if1 .left)) (pick-false _ _ _ _ (sym (c .before .decodes .ensures) ∙ not-true _ (c .if2 .taken)) refl)
-    ∙ patched-by t _ _ _ (encoded t _ _ refl (e .ensures .1) (e .ensures .0)) (c .before .before .before .before .before .store .ensures)
+    ∙ patched-by t _ _ _ (encoded t _ _ refl (e .ensures .1) (e .ensures .0)) (after-store .store .ensures)
 
 slice-aggregate-decode : tie.Need-slice-aggregate-decode
 slice-aggregate-decode c = search needs

@@ -27,8 +27,10 @@ same-length c = search needs
 
 returns : tie.Need-returns
 returns c =
-    let a = c .before .before .before .before .before .before .before .before .before .args in
-    let e = c .before .before .before .before .before .before .encode .ensures in
+    let start : tie.Start = search needs in
+    let after-encode : tie.After-encode = search needs in
+    let a = start .args in
+    let e = after-encode .encode .ensures in
     c .before .before .put-hex .ensures
     ∙ ap (λ (l : List ℕ). textAt (a .text .now) (a .at) (hexText (take stateBytes l))) (encoded (a .t) _ _ refl (e .1) (e .0))
     ∙ ap (λ (l : List ℕ). textAt (a .text .now) (a .at) (hexText l)) (all-bytes (a .t) (e .1))

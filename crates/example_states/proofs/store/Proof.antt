@@ -40,7 +40,8 @@ same-length c = search needs
 returns-4 : tie.Need-returns-4
 unfolding storeOf
 returns-4 c =
-    rw (c .before .before .put-bytes .ensures, ← c .before .before .before .before .before .before .word-at .ensures) (search picks depth 20)
+    let after-word-at : tie.After-word-at = search needs in
+    rw (c .before .before .put-bytes .ensures, ← after-word-at .word-at .ensures) (search picks depth 20)
 
 pub store-spec : {M : Type 1} → statement M
 store-spec =

@@ -32,8 +32,9 @@ loop-less c = omega arith
 
 loop-again : tie.Need-loop-again Inv-loop μ-loop
 loop-again c =
+    let start : tie.Start Inv-loop μ-loop = search needs in
     let l = c .before .before .before .loop in
-    let s = c .before .before .before .before .before .args .s .now in (
+    let s = start .args .s .now in (
       ap (λ (b : Bool). l .all && b && allHex (drop (l .i + 1) s)) (c .is-hex .ensures) ∙ all-hex-more (l .all) s (l .i) (omega arith) ∙ l .inv .0,
       omega arith,
     )

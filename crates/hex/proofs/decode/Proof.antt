@@ -49,12 +49,15 @@ loop-less c = omega arith
 
 loop-again : tie.Need-loop-again Inv-loop μ-loop
 loop-again c =
+    let at-loop : tie.At-loop Inv-loop μ-loop = search needs in
+    let start : tie.Start Inv-loop μ-loop = search needs in
+    let after-hex-byte : tie.After-hex-byte Inv-loop μ-loop = search needs in
     let p = c .before .before in
-    let l = p .before .before .before .before .before .before .loop in
-    let s = c .before .before .before .before .before .before .before .before .before .before .before .args .s .now in
+    let l = at-loop .loop in
+    let s = start .args .s .now in
     let b = hexByte (getD s (2 * l .i) 0) (getD s (2 * l .i + 1) 0) in
     let r = hexBytes (drop (2 * (l .i + 1)) s) in
-    let e : p .put .last .0 ≡ set (l .out) (l .i) b = p .put .ensures ∙ ap (λ (x : ℕ). set (l .out) (l .i) x) (p .before .before .hex-byte .ensures) in (
+    let e : p .put .last .0 ≡ set (l .out) (l .i) b = p .put .ensures ∙ ap (λ (x : ℕ). set (l .out) (l .i) x) (after-hex-byte .hex-byte .ensures) in (
       ap (λ (o : List ℕ). sets o (l .i + 1) r) e
           ∙ ap (λ (k : ℕ). sets (set (l .out) (l .i) b) k r) (add-one (l .i))
           ∙ sym (ap (λ (x : List ℕ). sets (l .out) (l .i) x) (hex-bytes-step s (l .i) (omega arith)))
@@ -67,8 +70,9 @@ same-length c = c .before .loop .inv .1 .1
 
 returns : tie.Need-returns Inv-loop μ-loop
 returns c =
+    let start : tie.Start Inv-loop μ-loop = search needs in
     let l = c .before .loop in
-    let s = c .before .before .before .before .args .s .now in
+    let s = start .args .s .now in
     (sym (length-hex-bytes s), sym (ap (λ (x : List ℕ). sets (l .out) (l .i) x) (hex-bytes-end (drop (2 * l .i) s) (simp length-drop (omega arith)))) ∙ l .inv .0)
 
 pub decode-spec : {M : Type 1} → statement M

@@ -38,9 +38,11 @@ loop-less c = omega arith
 
 loop-again : tie.Need-loop-again Inv-loop μ-loop
 loop-again c =
+    let at-loop : tie.At-loop Inv-loop μ-loop = search needs in
+    let start : tie.Start Inv-loop μ-loop = search needs in
     let p = c .before .before .put-byte in
-    let l = c .before .before .before .before .before .before .loop in
-    let a = c .before .before .before .before .before .before .before .before .before .args in
+    let l = at-loop .loop in
+    let a = start .args in
     let s = a .s .now in (
       p .ensures
           ∙ behind (a .text .now) (l .text) (hexText (take (l .i) s)) (hexText (getD s (l .i) 0 ∷ [])) (a .at) (l .to) (omega arith) (l .inv .0)
@@ -50,14 +52,16 @@ loop-again c =
 
 same-length : tie.Need-same-length Inv-loop μ-loop
 same-length c =
+    let start : tie.Start Inv-loop μ-loop = search needs in
     let l = c .before .loop in
-    let a = c .before .before .before .before .args in
+    let a = start .args in
     same-room (a .text .now) (l .text) (hexText (take (l .i) (a .s .now))) (a .at) (l .to) (l .inv .0)
 
 returns : tie.Need-returns Inv-loop μ-loop
 returns c =
+    let start : tie.Start Inv-loop μ-loop = search needs in
     let l = c .before .loop in
-    let a = c .before .before .before .before .args in
+    let a = start .args in
     let e : l .i ≡ a .n = omega arith in
     l .inv .0 ∙ ap (λ (k : ℕ). textAt (a .text .now) (a .at) (hexText (take k (a .s .now)))) e
 

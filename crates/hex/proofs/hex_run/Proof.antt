@@ -57,8 +57,10 @@ loop-less c = omega arith
 
 loop-again : tie.Need-loop-again Inv-loop μ-loop
 loop-again c =
-    let l = c .before .before .before .before .loop in
-    let a = c .before .before .before .before .before .before .before .args in (
+    let at-loop : tie.At-loop Inv-loop μ-loop = search needs in
+    let start : tie.Start Inv-loop μ-loop = search needs in
+    let l = at-loop .loop in
+    let a = start .args in (
       rw (c .hex-digit2 .ensures, c .before .hex-digit .ensures, l .inv .0) (hex-text-stored (a .text .now) (a .s .now) (a .at) (l .i) (omega arith)),
       (omega arith, simp length-set (l .inv .1 .1)),
     )
@@ -68,8 +70,9 @@ same-length c = c .before .loop .inv .1 .1
 
 returns : tie.Need-returns Inv-loop μ-loop
 returns c =
+    let start : tie.Start Inv-loop μ-loop = search needs in
     let l = c .before .loop in
-    let a = c .before .before .before .before .args in
+    let a = start .args in
     let e : l .i ≡ a .n = omega arith in
     l .inv .0 ∙ ap (λ (k : ℕ). sets (a .text .now) (a .at) (hexText (take k (a .s .now)))) e
 

@@ -25,10 +25,13 @@ same-length c = search needs
 returns : tie.Need-returns
 unfolding hexText
 returns c =
+    let start : tie.Start = search needs in
+    let after-hex-digit2 : tie.After-hex-digit2 = search needs in
+    let after-put : tie.After-put = search needs in
+    let after-hex-digit : tie.After-hex-digit = search needs in
     let second = c .before .before .before in
-    let first = second .before .before .before .before .before in
-    let at = first .before .before .before .before .args .at in
-    rw (c .after .ensures, second .put-in .ensures, second .before .hex-digit2 .ensures, first .put .ensures, first .before .hex-digit .ensures, add-one at)
+    let at = start .args .at in
+    rw (c .after .ensures, second .put-in .ensures, after-hex-digit2 .hex-digit2 .ensures, after-put .put .ensures, after-hex-digit .hex-digit .ensures, add-one at)
 
 pub put-byte-spec : {M : Type 1} → statement M
 put-byte-spec =

@@ -35,10 +35,12 @@ clipped s n k e = ap (λ (i : ℕ). take i s) e ∙ take-clip n (length s) s ref
 
 returns : tie.Need-returns
 returns c =
+    let after-least : tie.After-least = search needs in
+    let start : tie.Start = search needs in
     let r = c .before .before .hex-run in
-    let g = c .before .before .before .before .before .before .least in
+    let g = after-least .least in
     let k = g .result in
-    let a = c .before .before .before .before .before .before .before .before .before .args in
+    let a = start .args in
     let s = a .s .now in
     let o = a .text .now in
     let e : a .at + 2 * k ≡ min (a .at + length (hexText (take k s))) lastPlace = omega (arith, length-hex-text (take k s), length-take k s, g .ensures) in
@@ -54,8 +56,10 @@ same-length-2 c = search needs
 
 returns-2 : tie.Need-returns-2
 returns-2 c =
-    let g = c .before .before .before .before .before .least in
-    let a = c .before .before .before .before .before .before .before .before .args in
+    let after-least : tie.After-least = search needs in
+    let start : tie.Start = search needs in
+    let g = after-least .least in
+    let a = start .args in
     c .before .before .hex-each .ensures ∙ ap (λ (t : List ℕ). textAt (a .text .now) (a .at) (hexText t)) (clipped (a .s .now) (a .n) (g .result) (g .ensures))
 
 pub put-hex-spec : {M : Type 1} → statement M

@@ -26,9 +26,11 @@ same-length c = search needs
 returns : tie.Need-returns
 unfolding hexText
 returns c =
+    let after-put-byte : tie.After-put-byte = search needs in
+    let start : tie.Start = search needs in
     let low = c .before .before .put-byte2 in
-    let high = c .before .before .before .before .before .before .put-byte in
-    let a = c .before .before .before .before .before .before .before .before .before .args in
+    let high = after-put-byte .put-byte in
+    let a = start .args in
     low .ensures
     ∙ behind (a .text .now) (high .last .0) (hexText (a .n / 256 ∷ [])) (hexText (a .n % 256 ∷ [])) (a .at) (high .result) (omega arith) (high .ensures)
 

@@ -17,7 +17,9 @@ error-of-requires c κs = search needs
 
 returns-2 : tie.Need-returns-2
 unfolding firstSays errorHolds ruleError errorRules judge
-returns-2 c = rw (c .error-of .ensures, ← c .before .before .before .before .is-silent .ensures) (search picks depth 20)
+returns-2 c =
+    let after-is-silent : tie.After-is-silent = search needs in
+    rw (c .error-of .ensures, ← after-is-silent .is-silent .ensures) (search picks depth 20)
 
 command-requires : tie.Need-command-requires
 command-requires c κs = search needs
@@ -34,8 +36,10 @@ error-of-requires-2 c κs = search needs
 returns-3 : tie.Need-returns-3
 unfolding firstSays errorHolds ruleError errorRules judge
 returns-3 c =
+    let after-command : tie.After-command = search needs in
+    let after-is-silent : tie.After-is-silent = search needs in
     let known = c .before .before in
-    rw (c .error-of2 .ensures, ← known .before .before .command .ensures, ← known .before .command-of .ensures, ← known .is-known .ensures, ← known .before .before .before .before .before .before .is-silent .ensures) (search picks depth 20)
+    rw (c .error-of2 .ensures, ← after-command .command .ensures, ← known .before .command-of .ensures, ← known .is-known .ensures, ← after-is-silent .is-silent .ensures) (search picks depth 20)
 
 bad-flags-requires : tie.Need-bad-flags-requires
 bad-flags-requires c κs = search needs
@@ -46,9 +50,12 @@ error-of-requires-3 c κs = search needs
 returns-4 : tie.Need-returns-4
 unfolding firstSays errorHolds ruleError errorRules judge
 returns-4 c =
+    let after-command : tie.After-command = search needs in
+    let after-command-of : tie.After-command-of = search needs in
+    let after-is-known : tie.After-is-known = search needs in
+    let after-is-silent : tie.After-is-silent = search needs in
     let bad = c .before .before in
-    let known = bad .before .before in
-    rw (c .error-of3 .ensures, ← bad .bad-flags .ensures, ← known .before .before .command .ensures, ← known .before .command-of .ensures, ← known .is-known .ensures, ← known .before .before .before .before .before .before .is-silent .ensures) (search picks depth 20)
+    rw (c .error-of3 .ensures, ← bad .bad-flags .ensures, ← after-command .command .ensures, ← after-command-of .command-of .ensures, ← after-is-known .is-known .ensures, ← after-is-silent .is-silent .ensures) (search picks depth 20)
 
 wrong-length-requires : tie.Need-wrong-length-requires
 wrong-length-requires c κs = search needs
@@ -59,18 +66,24 @@ error-of-requires-4 c κs = search needs
 returns-5 : tie.Need-returns-5
 unfolding firstSays errorHolds ruleError errorRules judge
 returns-5 c =
+    let after-bad-flags : tie.After-bad-flags = search needs in
+    let after-command : tie.After-command = search needs in
+    let after-command-of : tie.After-command-of = search needs in
+    let after-is-known : tie.After-is-known = search needs in
+    let after-is-silent : tie.After-is-silent = search needs in
     let wrong = c .before .before in
-    let bad = wrong .before .before in
-    let known = bad .before .before in
-    rw (c .error-of4 .ensures, ← wrong .wrong-length .ensures, ← bad .bad-flags .ensures, ← known .before .before .command .ensures, ← known .before .command-of .ensures, ← known .is-known .ensures, ← known .before .before .before .before .before .before .is-silent .ensures) (search picks depth 20)
+    rw (c .error-of4 .ensures, ← wrong .wrong-length .ensures, ← after-bad-flags .bad-flags .ensures, ← after-command .command .ensures, ← after-command-of .command-of .ensures, ← after-is-known .is-known .ensures, ← after-is-silent .is-silent .ensures) (search picks depth 20)
 
 returns-6 : tie.Need-returns-6
 unfolding firstSays errorHolds ruleError errorRules judge
 returns-6 c =
+    let after-command : tie.After-command = search needs in
+    let after-command-of : tie.After-command-of = search needs in
+    let after-is-known : tie.After-is-known = search needs in
+    let after-is-silent : tie.After-is-silent = search needs in
     let wrong = c .before in
     let bad = wrong .before .before in
-    let known = bad .before .before in
-    rw (← wrong .wrong-length .ensures, ← bad .bad-flags .ensures, ← known .before .before .command .ensures, ← known .before .command-of .ensures, ← known .is-known .ensures, ← known .before .before .before .before .before .before .is-silent .ensures) (search picks depth 20)
+    rw (← wrong .wrong-length .ensures, ← bad .bad-flags .ensures, ← after-command .command .ensures, ← after-command-of .command-of .ensures, ← after-is-known .is-known .ensures, ← after-is-silent .is-silent .ensures) (search picks depth 20)
 
 pub judge-spec : {M : Type 1} → statement M
 judge-spec =

@@ -30,8 +30,11 @@ add-result c = search needs
 returns : tie.Need-returns
 unfolding wrongLength
 returns c =
+    let after-param : tie.After-param = search needs in
+    let after-command-of : tie.After-command-of = search needs in
+    let after-command : tie.After-command = search needs in
     let takes = c .before .before in
-    rw (c .crc-place .ensures, c .before .param-place .ensures .0, takes .param-bytes .ensures .0, takes .before .param2 .ensures, takes .before .before .param .ensures, takes .before .before .before .command-of .ensures, takes .before .before .before .before .command .ensures)
+    rw (c .crc-place .ensures, c .before .param-place .ensures .0, takes .param-bytes .ensures .0, takes .before .param2 .ensures, after-param .param .ensures, after-command-of .command-of .ensures, after-command .command .ensures)
 
 pub wrong-length-spec : {M : Type 1} → statement M
 wrong-length-spec =

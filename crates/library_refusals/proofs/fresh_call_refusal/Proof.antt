@@ -21,7 +21,8 @@ enum-told c = search needs
 returns : tie.Need-returns
 unfolding judgement firstSays
 returns c =
-    let a = c .before .before .before .before .before .before .before .args in
+    let start : tie.Start = search needs in
+    let a = start .args in
     let first = freshRules (a .m .now) in
     let rest = stateRule (a .s .now) ∷ uidRule (a .uid .now) ∷ [] in
     rw (append-none first rest (sym (c .before .before .before .fresh-refusal .ensures) ∙ c .before .enum-told .given .1)) (search picks depth 20)
@@ -29,14 +30,17 @@ returns c =
 returns-2 : tie.Need-returns-2
 unfolding judgement firstSays
 returns-2 c =
-    let a = c .before .before .before .before .before .before .before .before .args in
+    let start : tie.Start = search needs in
+    let after-fresh-refusal : tie.After-fresh-refusal = search needs in
+    let a = start .args in
     let first = freshRules (a .m .now) in
     let rest = stateRule (a .s .now) ∷ uidRule (a .uid .now) ∷ [] in
-    rw (append-none first rest (sym (c .before .before .before .before .fresh-refusal .ensures) ∙ c .before .before .enum-told .given .1)) (search picks depth 20)
+    rw (append-none first rest (sym (after-fresh-refusal .fresh-refusal .ensures) ∙ c .before .before .enum-told .given .1)) (search picks depth 20)
 
 returns-3 : tie.Need-returns-3
 returns-3 c =
-    let a = c .before .before .before .before .before .before .before .args in
+    let start : tie.Start = search needs in
+    let a = start .args in
     let first = freshRules (a .m .now) in
     let rest = stateRule (a .s .now) ∷ uidRule (a .uid .now) ∷ [] in
     sym (append-refused first rest _ (sym (c .before .before .before .fresh-refusal .ensures) ∙ c .before .first .given .1))
@@ -44,10 +48,12 @@ returns-3 c =
 returns-4 : tie.Need-returns-4
 unfolding judgement firstSays
 returns-4 c =
-    let a = c .before .before .before .before .before .before .before .before .args in
+    let start : tie.Start = search needs in
+    let after-fresh-refusal : tie.After-fresh-refusal = search needs in
+    let a = start .args in
     let first = freshRules (a .m .now) in
     let rest = stateRule (a .s .now) ∷ uidRule (a .uid .now) ∷ [] in
-    rw (append-none first rest (sym (c .before .before .before .before .fresh-refusal .ensures) ∙ c .before .before .enum-told .given .1)) (search picks depth 20)
+    rw (append-none first rest (sym (after-fresh-refusal .fresh-refusal .ensures) ∙ c .before .before .enum-told .given .1)) (search picks depth 20)
 
 pub fresh-call-refusal-spec : {M : Type 1} → statement M
 fresh-call-refusal-spec =

@@ -22,7 +22,8 @@ enum-told c = search needs
 returns : tie.Need-returns
 unfolding judgement firstSays
 returns c =
-    let a = c .before .before .before .before .before .before .before .before .args in
+    let start : tie.Start = search needs in
+    let a = start .args in
     let first = callRules (a .m .now) (handedIn (a .out .now) (a .code) (a .value) (a .frame .now)) in
     let rest = stateRule (a .s .now) ∷ decodesRule (a .s .now) ∷ [] in
     rw (append-none first rest (sym (c .before .before .before .call-refusal .ensures) ∙ c .before .enum-told .given .1)) (search picks depth 20)
@@ -33,14 +34,17 @@ decodes-requires c κs = search needs
 returns-2 : tie.Need-returns-2
 unfolding judgement firstSays
 returns-2 c =
-    let a = c .before .before .before .before .before .before .before .before .before .before .args in
+    let start : tie.Start = search needs in
+    let after-call-refusal : tie.After-call-refusal = search needs in
+    let a = start .args in
     let first = callRules (a .m .now) (handedIn (a .out .now) (a .code) (a .value) (a .frame .now)) in
     let rest = stateRule (a .s .now) ∷ decodesRule (a .s .now) ∷ [] in
-    rw (append-none first rest (sym (c .before .before .before .before .before .call-refusal .ensures) ∙ c .before .before .before .enum-told .given .1), ← c .before .decodes .ensures) (search picks depth 20)
+    rw (append-none first rest (sym (after-call-refusal .call-refusal .ensures) ∙ c .before .before .before .enum-told .given .1), ← c .before .decodes .ensures) (search picks depth 20)
 
 returns-3 : tie.Need-returns-3
 returns-3 c =
-    let a = c .before .before .before .before .before .before .before .before .args in
+    let start : tie.Start = search needs in
+    let a = start .args in
     let first = callRules (a .m .now) (handedIn (a .out .now) (a .code) (a .value) (a .frame .now)) in
     let rest = stateRule (a .s .now) ∷ decodesRule (a .s .now) ∷ [] in
     sym (append-refused first rest _ (sym (c .before .before .before .call-refusal .ensures) ∙ c .before .first .given .1))
@@ -48,10 +52,12 @@ returns-3 c =
 returns-4 : tie.Need-returns-4
 unfolding judgement firstSays
 returns-4 c =
-    let a = c .before .before .before .before .before .before .before .before .before .before .args in
+    let start : tie.Start = search needs in
+    let after-call-refusal : tie.After-call-refusal = search needs in
+    let a = start .args in
     let first = callRules (a .m .now) (handedIn (a .out .now) (a .code) (a .value) (a .frame .now)) in
     let rest = stateRule (a .s .now) ∷ decodesRule (a .s .now) ∷ [] in
-    rw (append-none first rest (sym (c .before .before .before .before .before .call-refusal .ensures) ∙ c .before .before .before .enum-told .given .1), ← c .before .decodes .ensures) (search picks depth 20)
+    rw (append-none first rest (sym (after-call-refusal .call-refusal .ensures) ∙ c .before .before .before .enum-told .given .1), ← c .before .decodes .ensures) (search picks depth 20)
 
 pub step-refusal-spec : {M : Type 1} → statement M
 step-refusal-spec =

@@ -31,7 +31,8 @@ all-hex-requires c κs = search needs
 returns-2 : tie.Need-returns-2
 unfolding hasBytes
 returns-2 c =
-    let s = c .before .before .before .before .before .args .s .now in
+    let start : tie.Start = search needs in
+    let s = start .args .s .now in
     let e : take (length s - 2) (drop 2 s) ≡ drop 2 s = take-all (length s - 2) (drop 2 s) (omega (arith, length-drop 2 s)) in
     rw (le-leb 4 (length s) (c .before .before .before .if1 .left), rw e at (c .all-hex .ensures))
 

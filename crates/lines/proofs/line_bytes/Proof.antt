@@ -33,7 +33,8 @@ same-length c = search needs
 
 returns-2 : tie.Need-returns-2
 returns-2 c =
-    let a = c .before .before .before .before .before .before .before .before .args in
+    let start : tie.Start = search needs in
+    let a = start .args in
     let s = a .s .now in
     let d = c .before .before .decode in
     let e : take (length s - 2) (drop 2 s) ≡ drop 2 s = take-all (length s - 2) (drop 2 s) (omega (arith, length-drop 2 s)) in

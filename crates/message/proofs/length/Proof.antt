@@ -17,8 +17,9 @@ same-length c = search needs
 returns : tie.Need-returns
 unfolding lengthOf
 returns c =
+    let start : tie.Start = search needs in
     let call = c .before .before in
-    let a = call .before .before .before .before .before .before .before .args in
+    let a = start .args in
     said (lengthOf (a .v) (a .m .now)) _ (fault MailboxDisabled) (call .error .ensures) (search picks depth 20)
 
 length-byte-requires : tie.Need-length-byte-requires
@@ -33,8 +34,9 @@ same-length-2 c = search needs
 returns-2 : tie.Need-returns-2
 unfolding lengthOf
 returns-2 c =
+    let start : tie.Start = search needs in
     let call = c .before .before in
-    let a = call .before .before .before .before .before .before .before .before .args in
+    let a = start .args in
     said (lengthOf (a .v) (a .m .now)) _ (good (call .before .length-byte .result ∷ [])) (call .byte .ensures)
     (rw (call .before .length-byte .ensures) (search picks depth 20))
 

@@ -21,8 +21,9 @@ same-length c = search needs
 returns : tie.Need-returns
 unfolding readMessageOf
 returns c =
+    let start : tie.Start = search needs in
     let call = c .before .before in
-    let a = call .before .before .before .before .before .before .before .args in
+    let a = start .args in
     said (readMessageOf (a .v) (a .m .now) (a .pointer) (a .n)) _ (fault MailboxDisabled) (call .error .ensures) (search picks depth 20)
 
 asked-requires : tie.Need-asked-requires
@@ -46,10 +47,12 @@ same-length-2 c = search needs
 returns-2 : tie.Need-returns-2
 unfolding readMessageOf
 returns-2 c =
+    let start : tie.Start = search needs in
+    let after-asked : tie.After-asked = search needs in
     let call = c .before .before in
-    let a = call .before .before .before .before .before .before .before .before .before .before .before .args in
+    let a = start .args in
     said (readMessageOf (a .v) (a .m .now) (a .pointer) (a .n)) _ (fault PastMessage) (call .error2 .ensures)
-    (rw (← call .before .before .before .before .before .asked .ensures) (search picks depth 20))
+    (rw (← after-asked .asked .ensures) (search picks depth 20))
 
 put-requires : tie.Need-put-requires
 put-requires c κs = search needs

@@ -20,10 +20,12 @@ same-length c = search needs
 returns : tie.Need-returns
 unfolding writeMessageOf
 returns c =
+    let start : tie.Start = search needs in
+    let after-takes-message : tie.After-takes-message = search needs in
     let call = c .before .before in
-    let a = call .before .before .before .before .before .before .before .before .args in
+    let a = start .args in
     said (writeMessageOf (a .v) (a .m .now) (a .more) (a .frame .now) (a .at)) _ (fault MailboxUnavailable) (call .error .ensures)
-    (rw (← call .before .before .before .takes-message .ensures) (search picks depth 20))
+    (rw (← after-takes-message .takes-message .ensures) (search picks depth 20))
 
 add-n : tie.Need-add-n
 add-n c = search needs

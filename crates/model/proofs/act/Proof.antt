@@ -41,8 +41,10 @@ same-length c = search needs
 returns : tie.Need-returns
 unfolding actOf
 returns c =
-    let a = c .before .before .before .before .before .before .before .before .before .before .args in
-    rw (c .before .before .before .before .before .signal .given .1)
+    let start : tie.Start = search needs in
+    let after-signal : tie.After-signal = search needs in
+    let a = start .args in
+    rw (after-signal .signal .given .1)
     (ap (λ (e : FreshResult). stepResult (e .answer) (e .tag) (e .memory) (a .out .now)) (c .before .before .by-wire .ensures))
 
 -- src/lib.rt:159:1
@@ -60,7 +62,10 @@ same-length-3 c = search needs
 
 -- src/lib.rt:159:1
 returns-3 : tie.Need-returns-3
-returns-3 c = rw (c .before .before .before .before .before .before .before .enum-told .given .1) (c .before .before .before .before .by-frame .ensures)
+returns-3 c =
+    let after-enum-told : tie.After-enum-told = search needs in
+    let after-by-frame : tie.After-by-frame = search needs in
+    rw (after-enum-told .enum-told .given .1) (after-by-frame .by-frame .ensures)
 
 pub act-spec : {M : Type 1} → statement M
 act-spec =

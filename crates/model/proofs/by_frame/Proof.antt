@@ -34,9 +34,12 @@ same-length-2 c = search needs
 returns : tie.Need-returns
 unfolding actOf
 returns c =
-    let a = c .before .before .before .before .before .before .before .before .before .before .before .before .before .before .before .before .before .before .args in
-    rw (c .from-radio .ensures, ← c .before .before .before .before .before .before .before .before .before .before .before .is-open .ensures)
-    (ap (λ (e : RadioResult). stepResult (fromRadio (e .answer)) (withRadio (e .side) (a .t)) (e .memory) (e .buffer)) (c .before .before .before .before .before .before .before .before .radio .ensures))
+    let start : tie.Start = search needs in
+    let after-is-open : tie.After-is-open = search needs in
+    let after-radio : tie.After-radio = search needs in
+    let a = start .args in
+    rw (c .from-radio .ensures, ← after-is-open .is-open .ensures)
+    (ap (λ (e : RadioResult). stepResult (fromRadio (e .answer)) (withRadio (e .side) (a .t)) (e .memory) (e .buffer)) (after-radio .radio .ensures))
 
 pub by-frame-spec : {M : Type 1} → statement M
 by-frame-spec =

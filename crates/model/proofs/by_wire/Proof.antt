@@ -25,9 +25,11 @@ same-length c = search needs
 -- src/lib.rt:98:1
 returns : tie.Need-returns
 returns c =
-    let a = c .before .before .before .before .before .before .before .before .before .before .before .args in
+    let start : tie.Start = search needs in
+    let after-step : tie.After-step = search needs in
+    let a = start .args in
     rw (c .from-wire .ensures)
-    (ap (λ (e : WireResult). freshResult (fromWire (e .answer)) (withWire (e .side) (a .t)) (e .memory)) (c .before .before .before .before .before .before .step .ensures))
+    (ap (λ (e : WireResult). freshResult (fromWire (e .answer)) (withWire (e .side) (a .t)) (e .memory)) (after-step .step .ensures))
 
 pub by-wire-spec : {M : Type 1} → statement M
 by-wire-spec = tie.close (tie.spec step-requires from-wire-requires same-length returns)

@@ -33,7 +33,10 @@ same-length c = search needs
 
 returns : tie.Need-returns
 unfolding freshOf unlessRefused
-returns c = rw (c .refused .ensures, c .before .before .before .before .before .before .fresh .ensures, sym (c .before .before .before .before .fresh-refusal .ensures) ∙ c .before .before .judged .given .1)
+returns c =
+    let after-fresh : tie.After-fresh = search needs in
+    let after-fresh-refusal : tie.After-fresh-refusal = search needs in
+    rw (c .refused .ensures, after-fresh .fresh .ensures, sym (after-fresh-refusal .fresh-refusal .ensures) ∙ c .before .before .judged .given .1)
 
 same-length-2 : tie.Need-same-length-2
 same-length-2 c = search needs
@@ -41,9 +44,13 @@ same-length-2 c = search needs
 returns-2 : tie.Need-returns-2
 unfolding freshOf unlessRefused
 returns-2 c =
-    let m = c .before .before .before .before .before .before .before .before .before .before .before .args .m .now in
-    let none = sym (c .before .before .before .before .before .before .before .fresh-refusal .ensures) ∙ c .before .before .before .before .before .enum-told .given .1 in
-    rw (c .before .before .put-bytes .ensures, c .before .before .before .before .before .before .before .before .before .fresh .ensures, cleared m (fresh-size m none), none)
+    let start : tie.Start = search needs in
+    let after-fresh-refusal : tie.After-fresh-refusal = search needs in
+    let after-enum-told : tie.After-enum-told = search needs in
+    let after-fresh : tie.After-fresh = search needs in
+    let m = start .args .m .now in
+    let none = sym (after-fresh-refusal .fresh-refusal .ensures) ∙ after-enum-told .enum-told .given .1 in
+    rw (c .before .before .put-bytes .ensures, after-fresh .fresh .ensures, cleared m (fresh-size m none), none)
 
 pub fresh-spec : {M : Type 1} → statement M
 fresh-spec =

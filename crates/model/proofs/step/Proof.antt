@@ -31,7 +31,9 @@ same-length-2 c = search needs
 
 returns : tie.Need-returns
 unfolding stepOf unlessRefused
-returns c = rw (c .refused .ensures, sym (c .before .before .before .before .entry-refusal .ensures) ∙ c .before .before .judged .given .1)
+returns c =
+    let after-entry-refusal : tie.After-entry-refusal = search needs in
+    rw (c .refused .ensures, sym (after-entry-refusal .entry-refusal .ensures) ∙ c .before .before .judged .given .1)
 
 same-length-3 : tie.Need-same-length-3
 same-length-3 c = search needs
@@ -41,7 +43,12 @@ same-length-4 c = search needs
 
 returns-2 : tie.Need-returns-2
 unfolding stepOf unlessRefused
-returns-2 c = rw (sym (c .before .before .before .before .before .before .before .before .before .before .entry-refusal .ensures) ∙ c .before .before .before .before .before .before .before .before .enum-told .given .1, ← c .before .before .before .before .before .before .before .signal-by .ensures) (c .before .before .before .before .act .ensures)
+returns-2 c =
+    let after-entry-refusal : tie.After-entry-refusal = search needs in
+    let after-enum-told : tie.After-enum-told = search needs in
+    let after-signal-by : tie.After-signal-by = search needs in
+    let after-act : tie.After-act = search needs in
+    rw (sym (after-entry-refusal .entry-refusal .ensures) ∙ after-enum-told .enum-told .given .1, ← after-signal-by .signal-by .ensures) (after-act .act .ensures)
 
 pub step-spec : {M : Type 1} → statement M
 step-spec =

@@ -33,9 +33,11 @@ loop-less c = omega arith
 loop-again : tie.Need-loop-again Inv-loop μ-loop
 unfolding copied
 loop-again c =
+    let at-loop : tie.At-loop Inv-loop μ-loop = search needs in
+    let after-byte-in : tie.After-byte-in Inv-loop μ-loop = search needs in
     let p = c .before .before in
-    let l = c .before .before .before .before .before .before .before .loop in
-    (p .put-in .ensures ∙ rw (p .before .before .byte-in .ensures, l .inv .0, add-one (l .i)), (omega arith, ap length (p .put-in .ensures) ∙ simp length-set (l .inv .1 .1)))
+    let l = at-loop .loop in
+    (p .put-in .ensures ∙ rw (after-byte-in .byte-in .ensures, l .inv .0, add-one (l .i)), (omega arith, ap length (p .put-in .ensures) ∙ simp length-set (l .inv .1 .1)))
 
 same-length : tie.Need-same-length Inv-loop μ-loop
 same-length c = c .before .loop .inv .1 .1

@@ -17,7 +17,8 @@ same-length c = search needs
 returns : tie.Need-returns
 unfolding presentOf
 returns c =
-    let a = c .before .before .before .before .before .before .before .before .args in
+    let start : tie.Start = search needs in
+    let a = start .args in
     said (presentOf (a .v) (a .m .now) (a .n) (a .frame .now) (a .at)) _ (fault NoSuchPassword) (c .before .before .error .ensures) (search picks depth 20)
 
 radio-requires : tie.Need-radio-requires

@@ -17,8 +17,9 @@ same-length c = search needs
 returns : tie.Need-returns
 unfolding writePasswordOf
 returns c =
+    let start : tie.Start = search needs in
     let call = c .before .before in
-    let a = call .before .before .before .before .before .before .args in
+    let a = start .args in
     said (writePasswordOf (a .v) (a .m .now) (a .n) (a .frame .now) (a .at)) _ (fault NoSuchPassword) (call .error .ensures) (search picks depth 20)
 
 add-if2 : tie.Need-add-if2
@@ -33,8 +34,9 @@ same-length-2 c = search needs
 returns-2 : tie.Need-returns-2
 unfolding writePasswordOf
 returns-2 c =
+    let start : tie.Start = search needs in
     let call = c .before .before in
-    let a = call .before .before .before .before .before .before .before .before .args in
+    let a = start .args in
     said (writePasswordOf (a .v) (a .m .now) (a .n) (a .frame .now) (a .at)) _ (fault PasswordSessionClosed) (call .error2 .ensures) (search picks depth 20)
 
 at-requires : tie.Need-at-requires

@@ -53,49 +53,63 @@ same-length c = search needs
 
 returns : tie.Need-returns
 unfolding answerText
-returns c = rw (c .before .before .before .before .enum-told .given .1) (c .before .before .put-mark .ensures)
+returns c =
+    let after-enum-told : tie.After-enum-told = search needs in
+    rw (after-enum-told .enum-told .given .1) (c .before .before .put-mark .ensures)
 
 same-length-2 : tie.Need-same-length-2
 same-length-2 c = search needs
 
 returns-2 : tie.Need-returns-2
 unfolding answerText
-returns-2 c = rw (c .before .before .before .before .enum-told2 .given .1) (c .before .before .put-mark2 .ensures)
+returns-2 c =
+    let after-enum-told2 : tie.After-enum-told2 = search needs in
+    rw (after-enum-told2 .enum-told2 .given .1) (c .before .before .put-mark2 .ensures)
 
 same-length-3 : tie.Need-same-length-3
 same-length-3 c = search needs
 
 returns-3 : tie.Need-returns-3
 unfolding answerText
-returns-3 c = rw (c .before .before .before .before .enum-told3 .given .1) (c .before .before .put-mark3 .ensures)
+returns-3 c =
+    let after-enum-told3 : tie.After-enum-told3 = search needs in
+    rw (after-enum-told3 .enum-told3 .given .1) (c .before .before .put-mark3 .ensures)
 
 same-length-4 : tie.Need-same-length-4
 same-length-4 c = search needs
 
 returns-4 : tie.Need-returns-4
 unfolding answerText
-returns-4 c = rw (c .before .before .before .before .enum-told4 .given .1) (c .before .before .put-mark4 .ensures)
+returns-4 c =
+    let after-enum-told4 : tie.After-enum-told4 = search needs in
+    rw (after-enum-told4 .enum-told4 .given .1) (c .before .before .put-mark4 .ensures)
 
 same-length-5 : tie.Need-same-length-5
 same-length-5 c = search needs
 
 returns-5 : tie.Need-returns-5
 unfolding answerText
-returns-5 c = rw (c .before .before .before .before .before .answer .given .1) (c .before .before .put-byte .ensures)
+returns-5 c =
+    let after-answer : tie.After-answer = search needs in
+    rw (after-answer .answer .given .1) (c .before .before .put-byte .ensures)
 
 same-length-6 : tie.Need-same-length-6
 same-length-6 c = search needs
 
 returns-6 : tie.Need-returns-6
 unfolding answerText
-returns-6 c = rw (c .before .before .before .before .enum-told5 .given .1) (c .before .before .put-mark5 .ensures)
+returns-6 c =
+    let after-enum-told5 : tie.After-enum-told5 = search needs in
+    rw (after-enum-told5 .enum-told5 .given .1) (c .before .before .put-mark5 .ensures)
 
 same-length-7 : tie.Need-same-length-7
 same-length-7 c = search needs
 
 returns-7 : tie.Need-returns-7
 unfolding answerText
-returns-7 c = rw (c .before .before .before .before .before .before .answer2 .given .1, ← c .before .before .before .shown-bytes .ensures) (c .before .before .put-hex .ensures)
+returns-7 c =
+    let after-answer2 : tie.After-answer2 = search needs in
+    rw (after-answer2 .answer2 .given .1, ← c .before .before .before .shown-bytes .ensures) (c .before .before .put-hex .ensures)
 
 pub put-answer-spec : {M : Type 1} → statement M
 put-answer-spec =

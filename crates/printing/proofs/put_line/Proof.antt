@@ -30,17 +30,18 @@ same-length c = search needs
 
 returns : tie.Need-returns
 returns c =
+    let start : tie.Start = search needs in
+    let after-put-decimal : tie.After-put-decimal = search needs in
+    let after-put-mark : tie.After-put-mark = search needs in
+    let after-put-answer : tie.After-put-answer = search needs in
     let end = c .before .before .put-mark2 in
-    let answer = c .before .before .before .before .before .before in
-    let tab = answer .before .before .before .before .before in
-    let number = tab .before .before .before .before in
-    let a = number .before .before .before .args in
+    let a = start .args in
     let o = a .text .now in
     let d = decimal (a .number) in
     let x = answerText (a .said) (a .out .now) in
-    let n = number .put-decimal in
-    let t = tab .put-mark in
-    let w = answer .put-answer in
+    let n = after-put-decimal .put-decimal in
+    let t = after-put-mark .put-mark in
+    let w = after-put-answer .put-answer in
     let room : length o ≤ lastPlace = omega arith in
     let to-tab = t .ensures ∙ behind o (n .last .0) d (0x09 ∷ []) 0 (n .result) room (n .ensures) in
     let to-answer = w .ensures ∙ behind o (t .last .0) (d ++ 0x09 ∷ []) x 0 (t .result) room to-tab in

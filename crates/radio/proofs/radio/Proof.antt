@@ -38,11 +38,13 @@ same-length c = search needs
 returns-2 : tie.Need-returns-2
 unfolding radioOf verdictResult
 returns-2 c =
+    let start : tie.Start = search needs in
+    let after-judge : tie.After-judge = search needs in
+    let after-e : tie.After-e = search needs in
     let failed = c .before .before in
-    let judged = failed .before .before .before .before .before in
-    let a = c .before .before .before .before .before .before .before .before .before .before .before .before .args in
+    let a = start .args in
     said (radioOf (a .v) (a .u) (a .vcc) (a .transfer) (a .programming) (a .m .now) (a .f .now)) (a .out .now) _ (failed .error .ensures)
-    (rw (← judged .judge .ensures, failed .before .before .before .e .given .1))
+    (rw (← after-judge .judge .ensures, after-e .e .given .1))
 
 same-length-2 : tie.Need-same-length-2
 same-length-2 c = search needs
@@ -53,9 +55,11 @@ same-length-3 c = search needs
 returns-3 : tie.Need-returns-3
 unfolding radioOf verdictResult
 returns-3 c =
-    let served = c .before .before .before .before in
-    let asked = served .before .before .before in
-    rw (← asked .before .before .before .judge .ensures, asked .before .enum-told2 .given .1, ← asked .fields .ensures) (served .serve .ensures)
+    let after-judge : tie.After-judge = search needs in
+    let after-enum-told2 : tie.After-enum-told2 = search needs in
+    let after-fields : tie.After-fields = search needs in
+    let after-serve : tie.After-serve = search needs in
+    rw (← after-judge .judge .ensures, after-enum-told2 .enum-told2 .given .1, ← after-fields .fields .ensures) (after-serve .serve .ensures)
 
 pub radio-spec : {M : Type 1} → statement M
 radio-spec =

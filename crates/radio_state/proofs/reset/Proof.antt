@@ -21,9 +21,12 @@ same-length c = search needs
 returns : tie.Need-returns
 unfolding resetToReadyOf
 returns c =
+    let start : tie.Start = search needs in
+    let after-with-air : tie.After-with-air = search needs in
+    let after-reset : tie.After-reset = search needs in
     let call = c .before .before in
-    let a = call .before .before .before .before .before .before .args in
-    said (resetToReadyOf (a .v) (a .m .now)) _ (good []) (call .done .ensures) (rw (call .before .before .with-air .ensures, call .before .before .before .reset .ensures))
+    let a = start .args in
+    said (resetToReadyOf (a .v) (a .m .now)) _ (good []) (call .done .ensures) (rw (after-with-air .with-air .ensures, after-reset .reset .ensures))
 
 pub reset-spec : {M : Type 1} → statement M
 reset-spec =

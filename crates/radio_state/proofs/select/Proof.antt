@@ -22,10 +22,13 @@ same-length c = search needs
 returns : tie.Need-returns
 unfolding selectUidOf
 returns c =
+    let start : tie.Start = search needs in
+    let after-with-air : tie.After-with-air = search needs in
+    let after-select : tie.After-select = search needs in
     let call = c .before .before in
-    let a = call .before .before .before .before .before .before .before .args in
+    let a = start .args in
     said (selectUidOf (a .v) (a .m .now) (a .own)) _ (good []) (call .done .ensures)
-    (rw (call .before .before .with-air .ensures, call .before .before .before .select .ensures) (search picks depth 20))
+    (rw (after-with-air .with-air .ensures, after-select .select .ensures) (search picks depth 20))
 
 deselect-requires : tie.Need-deselect-requires
 deselect-requires c κs = search needs
@@ -36,7 +39,8 @@ with-air-requires-2 c κs = search needs
 returns-2 : tie.Need-returns-2
 unfolding selectUidOf
 returns-2 c =
-    let a = c .before .before .before .before .before .args in
+    let start : tie.Start = search needs in
+    let a = start .args in
     silent (selectUidOf (a .v) (a .m .now) (a .own)) (rw (c .with-air2 .ensures, c .before .deselect .ensures) (search picks depth 20))
 
 pub select-spec : {M : Type 1} → statement M

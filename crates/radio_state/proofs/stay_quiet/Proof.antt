@@ -13,7 +13,8 @@ with-air-requires c κs = search needs
 returns : tie.Need-returns
 unfolding stayQuietOf
 returns c =
-    let a = c .before .before .before .before .args in
+    let start : tie.Start = search needs in
+    let a = start .args in
     silent (stayQuietOf (a .v) (a .m .now)) (rw (c .with-air .ensures, c .before .stay-quiet .ensures))
 
 pub stay-quiet-spec : {M : Type 1} → statement M

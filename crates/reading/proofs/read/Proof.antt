@@ -26,7 +26,8 @@ returns-2 c = rw (c .alone .ensures) (search picks depth 20)
 returns-3 : tie.Need-returns-3
 unfolding lineBy lineOf pick
 returns-3 c =
-    let s = c .before .before .before .before .args .s .now in
+    let start : tie.Start = search needs in
+    let s = start .args .s .now in
     let e : getD s 1 0 ≡ 0 = List·getD-eq-default s 0 (omega arith) in
     rw (le-ltb 1200 (length s) (omega arith), ne-eqb (length s) 1 (c .before .if2 .left), e)
 
@@ -55,7 +56,8 @@ tabbed-requires c κs = search needs
 returns-5 : tie.Need-returns-5
 unfolding lineOf
 returns-5 c =
-    let s = c .before .before .before .before .before .before .before .before .before .args .s .now in
+    let start : tie.Start = search needs in
+    let s = start .args .s .now in
     let e : take (length s - 2) (drop 2 s) ≡ drop 2 s = take-all (length s - 2) (drop 2 s) (omega (arith, length-drop 2 s)) in
     rw (rw e at (c .tabbed .ensures)) (search picks depth 20)
 

@@ -20,13 +20,15 @@ later-refusal-requires c κs = search needs
 
 returns : tie.Need-returns
 returns c =
-    let a = c .before .before .before .before .before .before .before .args in
+    let start : tie.Start = search needs in
+    let a = start .args in
     let call = handedIn (a .out .now) (a .code) (a .value) (a .frame .now) in
     sym (append-refused (callRules (a .m .now) call) (laterRules (a .t) (a .m .now) call) _ (sym (c .before .before .before .call-refusal .ensures) ∙ c .before .first .given .1))
 
 returns-2 : tie.Need-returns-2
 returns-2 c =
-    let a = c .before .before .before .before .before .before .before .args in
+    let start : tie.Start = search needs in
+    let a = start .args in
     let call = handedIn (a .out .now) (a .code) (a .value) (a .frame .now) in
     c .later-refusal .ensures
     ∙ sym (append-none (callRules (a .m .now) call) (laterRules (a .t) (a .m .now) call) (sym (c .before .before .before .call-refusal .ensures) ∙ c .before .enum-told .given .1))

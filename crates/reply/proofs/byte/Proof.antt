@@ -19,10 +19,10 @@ same-length c = search needs
 returns : tie.Need-returns
 unfolding answerOf bufferOf
 returns c =
+    let after-put2 : tie.After-put2 = search needs in
+    let after-put : tie.After-put = search needs in
     let closed = c .before .before in
-    let second = closed .before .before .before .before in
-    let first = second .before .before .before .before in
-    closed .close .ensures ∙ rw (second .put2 .ensures, first .put .ensures)
+    closed .close .ensures ∙ rw (after-put2 .put2 .ensures, after-put .put .ensures)
 
 pub byte-spec : {M : Type 1} → statement M
 byte-spec = tie.close (tie.spec put-requires put-requires-2 close-requires same-length returns)

@@ -16,8 +16,9 @@ same-length c = search needs
 returns : tie.Need-returns
 unfolding answerOf bufferOf
 returns c =
+    let after-put : tie.After-put = search needs in
     let closed = c .before .before in
-    closed .close .ensures ∙ rw (closed .before .before .before .before .put .ensures)
+    closed .close .ensures ∙ rw (after-put .put .ensures)
 
 pub done-spec : {M : Type 1} → statement M
 done-spec = tie.close (tie.spec put-requires close-requires same-length returns)

@@ -22,11 +22,11 @@ same-length c = search needs
 returns : tie.Need-returns
 unfolding answerOf bufferOf
 returns c =
+    let after-put2 : tie.After-put2 = search needs in
+    let after-code : tie.After-code = search needs in
+    let after-put : tie.After-put = search needs in
     let closed = c .before .before in
-    let second = closed .before .before .before .before in
-    let coded = second .before in
-    let first = coded .before .before .before .before in
-    closed .close .ensures ∙ rw (second .put2 .ensures, coded .code .ensures, first .put .ensures)
+    closed .close .ensures ∙ rw (after-put2 .put2 .ensures, after-code .code .ensures, after-put .put .ensures)
 
 pub error-spec : {M : Type 1} → statement M
 error-spec = tie.close (tie.spec put-requires code-requires put-requires-2 close-requires same-length returns)

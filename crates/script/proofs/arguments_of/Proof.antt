@@ -23,7 +23,8 @@ said s r x e h = sym e ∙ ap (λ (y : Reading). lineBy y (drop 2 s)) h
 is-framed : (c : tie.After-enum-told2) → Framed (c .before .before .before .before .args .s .now)
 unfolding lineBy
 is-framed c =
-    let s = c .before .before .before .before .args .s .now in
+    let start : tie.Start = search needs in
+    let s = start .args .s .now in
     framed s (hexBytes (drop 2 s)) (said s _ _ (c .before .before .read .ensures) (c .enum-told2 .given .1))
 
 read-requires : tie.Need-read-requires
@@ -49,7 +50,8 @@ part-put-frame-end c = search needs
 
 put-frame-requires : tie.Need-put-frame-requires
 put-frame-requires c κs =
-    let s = c .before .before .before .before .before .before .args .s .now in
+    let start : tie.Start = search needs in
+    let s = start .args .s .now in
     let f = is-framed (c .before .before) in
     let e : take (length s - 2) (drop 2 s) ≡ drop 2 s = take-all (length s - 2) (drop 2 s) (omega (arith, length-drop 2 s)) in
     rw e (omega (arith, f, length-drop 2 s))
@@ -57,7 +59,8 @@ put-frame-requires c κs =
 returns : tie.Need-returns
 unfolding benchOf lineResult lineBy closedFrame
 returns c =
-    let a = c .before .before .before .before .args in
+    let start : tie.Start = search needs in
+    let a = start .args in
     let s = a .s .now in
     let f = a .frame .now in
     let e = said s _ _ (c .before .before .read .ensures) (c .enum-told .given .1) in
@@ -66,7 +69,8 @@ returns c =
 returns-2 : tie.Need-returns-2
 unfolding benchOf lineResult lineBy closedFrame
 returns-2 c =
-    let a = c .before .before .before .before .before .args in
+    let start : tie.Start = search needs in
+    let a = start .args in
     let s = a .s .now in
     let f = a .frame .now in
     let e = said s _ _ (c .before .before .before .read .ensures) (c .before .code .given .1) in
@@ -75,9 +79,11 @@ returns-2 c =
 returns-3 : tie.Need-returns-3
 unfolding benchOf lineResult lineBy closedFrame
 returns-3 c =
-    let a = c .before .before .before .before .before .before .before .args in
+    let start : tie.Start = search needs in
+    let after-read : tie.After-read = search needs in
+    let a = start .args in
     let s = a .s .now in
-    let e = said s _ _ (c .before .before .before .before .before .read .ensures) (c .before .before .before .enum-told2 .given .1) in
+    let e = said s _ _ (after-read .read .ensures) (c .before .before .before .enum-told2 .given .1) in
     let t : take (length s - 2) (drop 2 s) ≡ drop 2 s = take-all (length s - 2) (drop 2 s) (omega (arith, length-drop 2 s)) in
     let f : take (c .put-frame .result) (c .put-frame .last .1 .0) ≡ closed (hexBytes (drop 2 s)) = rw t at (c .put-frame .ensures .0) in
     let g : c .put-frame .last .1 .0 ≡ sets (a .frame .now) 0 (closed (hexBytes (drop 2 s))) = rw t at (c .put-frame .ensures .1 .1) in (

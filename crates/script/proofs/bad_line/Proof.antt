@@ -16,7 +16,9 @@ same-length c = search needs
 
 returns : tie.Need-returns
 unfolding answerText
-returns c = λ (m : List ℕ). rw (c .before .before .put-line .ensures .1, c .before .before .put-line .ensures .0, c .before .before .before .before .next-line .ensures)
+returns c =
+    let after-next-line : tie.After-next-line = search needs in
+    λ (m : List ℕ). rw (c .before .before .put-line .ensures .1, c .before .before .put-line .ensures .0, after-next-line .next-line .ensures)
 
 pub bad-line-spec : {M : Type 1} → statement M
 bad-line-spec = tie.close (tie.spec next-line-requires put-line-requires same-length returns)

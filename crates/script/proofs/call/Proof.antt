@@ -19,7 +19,10 @@ same-length-2 : tie.Need-same-length-2
 same-length-2 c = search needs
 
 returns : tie.Need-returns
-returns c = rw (← c .before .before .before .before .before .before .before .before .before .step .ensures, c .before .before .put-line .ensures .1, c .before .before .put-line .ensures .0, c .before .before .before .before .before .next-line .ensures)
+returns c =
+    let after-step : tie.After-step = search needs in
+    let after-next-line : tie.After-next-line = search needs in
+    rw (← after-step .step .ensures, c .before .before .put-line .ensures .1, c .before .before .put-line .ensures .0, after-next-line .next-line .ensures)
 
 pub call-spec : {M : Type 1} → statement M
 call-spec =

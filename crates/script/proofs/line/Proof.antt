@@ -25,16 +25,18 @@ same-length c = search needs
 -- no code: what the call would leave is what a bad line leaves
 returns : tie.Need-returns
 returns c =
+    let after-arguments-of : tie.After-arguments-of = search needs in
+    let start : tie.Start = search needs in
+    let then1 : tie.Then1 = search needs in
     let d = c .before .before in
-    let i = d .before .before .before in
-    let g = i .before .before .arguments-of in
+    let g = after-arguments-of .arguments-of in
     let k = g .result in
-    let a = i .before .before .before .before .before .before .before .args in
+    let a = start .args in
     let o = d .bad-line in
     let f = take (k .length) (g .last .1 .0) in
     let p : prints (a .bench) (a .bench .tag) (a .m .now) (a .reply .now) badText ≡ benchOf (a .bench) (a .m .now) (a .reply .now) (a .s .now) =
     sym (bad-call (a .bench) (a .m .now) (a .reply .now) (k .value) f)
-    ∙ ap (λ (n : ℕ). benchCall (a .bench) (a .m .now) (a .reply .now) n (k .value) f) (sym (i .if1 .taken))
+    ∙ ap (λ (n : ℕ). benchCall (a .bench) (a .m .now) (a .reply .now) n (k .value) f) (sym (then1 .if1 .taken))
     ∙ g .ensures .0 (a .bench) (a .m .now) (a .reply .now) in
     let e : lineBuffers (o .result .bench) (o .result .length) (a .m .now) (a .reply .now) (o .last .1 .1 .0) ≡ putLine (benchOf (a .bench) (a .m .now) (a .reply .now) (a .s .now)) (a .text .now) =
     o .ensures (a .m .now) ∙ ap (λ (x : LineResult). putLine x (a .text .now)) p in
@@ -47,7 +49,9 @@ part-call-start : tie.Need-part-call-start
 part-call-start c = search needs
 
 part-call-end : tie.Need-part-call-end
-part-call-end c = c .before .before .before .before .before .before .arguments-of .ensures .1 .0
+part-call-end c =
+    let after-arguments-of : tie.After-arguments-of = search needs in
+    after-arguments-of .arguments-of .ensures .1 .0
 
 call-requires : tie.Need-call-requires
 call-requires c κs = search needs

@@ -21,13 +21,13 @@ close-requires c κs = search needs
 
 add-result : tie.Need-add-result
 add-result c =
-    let start = c .before .before .before .before .before in
+    let start : tie.Start = search needs in
     omega (arith, start .pre, c .before .before .decode .ensures .0, length-hex-bytes (start .args .s .now))
 
 returns : tie.Need-returns
 returns c =
     let d = c .before .before .decode in
-    let start = c .before .before .before .before .before in
+    let start : tie.Start = search needs in
     let a = start .args in
     let s = a .s .now in
     let n = d .result in

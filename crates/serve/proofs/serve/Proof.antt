@@ -17,7 +17,8 @@ serve-command-requires c κs = search needs
 returns : tie.Need-returns
 unfolding serveCode serveOf
 returns c =
-    let a = c .before .before .before .before .before .args in
+    let start : tie.Start = search needs in
+    let a = start .args in
     silent (serveOf (a .q) (a .v) (a .vcc) (a .m .now) (a .f .now)) (rw (c .enum-told .given .1))
 
 same-length : tie.Need-same-length
@@ -28,10 +29,11 @@ same-length-2 c = search needs
 
 returns-2 : tie.Need-returns-2
 returns-2 c =
-    let call = c .before .before .before .before in
-    let told = call .before .before .before .before in
-    let a = told .before .before .before .before .before .args in
-    rw (known-row (a .q) (a .v) (a .vcc) (a .m .now) (a .f .now) _ (told .code .given .1)) (call .serve-command .ensures)
+    let start : tie.Start = search needs in
+    let after-code : tie.After-code = search needs in
+    let after-serve-command : tie.After-serve-command = search needs in
+    let a = start .args in
+    rw (known-row (a .q) (a .v) (a .vcc) (a .m .now) (a .f .now) _ (after-code .code .given .1)) (after-serve-command .serve-command .ensures)
 
 pub serve-spec : {M : Type 1} → statement M
 serve-spec =

@@ -137,7 +137,9 @@ same-length-2 c = search needs
 
 returns : tie.Need-returns
 unfolding serveCommand
-returns c = rw (c .before .before .before .before .before .enum-told .given .1) (c .before .before .stay-quiet .ensures)
+returns c =
+    let after-enum-told : tie.After-enum-told = search needs in
+    rw (after-enum-told .enum-told .given .1) (c .before .before .stay-quiet .ensures)
 
 same-length-3 : tie.Need-same-length-3
 same-length-3 c = search needs
@@ -147,7 +149,9 @@ same-length-4 c = search needs
 
 returns-2 : tie.Need-returns-2
 unfolding serveCommand
-returns-2 c = rw (c .before .before .before .before .before .enum-told2 .given .1) (c .before .before .select .ensures)
+returns-2 c =
+    let after-enum-told2 : tie.After-enum-told2 = search needs in
+    rw (after-enum-told2 .enum-told2 .given .1) (c .before .before .select .ensures)
 
 same-length-5 : tie.Need-same-length-5
 same-length-5 c = search needs
@@ -157,7 +161,9 @@ same-length-6 c = search needs
 
 returns-3 : tie.Need-returns-3
 unfolding serveCommand
-returns-3 c = rw (c .before .before .before .before .before .enum-told3 .given .1) (c .before .before .reset .ensures)
+returns-3 c =
+    let after-enum-told3 : tie.After-enum-told3 = search needs in
+    rw (after-enum-told3 .enum-told3 .given .1) (c .before .before .reset .ensures)
 
 same-length-7 : tie.Need-same-length-7
 same-length-7 c = search needs
@@ -167,7 +173,9 @@ same-length-8 c = search needs
 
 returns-4 : tie.Need-returns-4
 unfolding serveCommand
-returns-4 c = rw (c .before .before .before .before .before .enum-told4 .given .1) (c .before .before .read .ensures)
+returns-4 c =
+    let after-enum-told4 : tie.After-enum-told4 = search needs in
+    rw (after-enum-told4 .enum-told4 .given .1) (c .before .before .read .ensures)
 
 same-length-9 : tie.Need-same-length-9
 same-length-9 c = search needs
@@ -177,7 +185,9 @@ same-length-10 c = search needs
 
 returns-5 : tie.Need-returns-5
 unfolding serveCommand
-returns-5 c = rw (c .before .before .before .before .before .enum-told5 .given .1) (c .before .before .read2 .ensures)
+returns-5 c =
+    let after-enum-told5 : tie.After-enum-told5 = search needs in
+    rw (after-enum-told5 .enum-told5 .given .1) (c .before .before .read2 .ensures)
 
 same-length-11 : tie.Need-same-length-11
 same-length-11 c = search needs
@@ -187,7 +197,10 @@ same-length-12 c = search needs
 
 returns-6 : tie.Need-returns-6
 unfolding serveCommand
-returns-6 c = rw (c .before .before .before .before .before .before .before .enum-told6 .given .1) (c .before .before .before .before .write .ensures)
+returns-6 c =
+    let after-enum-told6 : tie.After-enum-told6 = search needs in
+    let after-write : tie.After-write = search needs in
+    rw (after-enum-told6 .enum-told6 .given .1) (after-write .write .ensures)
 
 same-length-13 : tie.Need-same-length-13
 same-length-13 c = search needs
@@ -197,7 +210,10 @@ same-length-14 c = search needs
 
 returns-7 : tie.Need-returns-7
 unfolding serveCommand
-returns-7 c = rw (c .before .before .before .before .before .before .before .enum-told7 .given .1) (c .before .before .before .before .write2 .ensures)
+returns-7 c =
+    let after-enum-told7 : tie.After-enum-told7 = search needs in
+    let after-write2 : tie.After-write2 = search needs in
+    rw (after-enum-told7 .enum-told7 .given .1) (after-write2 .write2 .ensures)
 
 same-length-15 : tie.Need-same-length-15
 same-length-15 c = search needs
@@ -207,7 +223,9 @@ same-length-16 c = search needs
 
 returns-8 : tie.Need-returns-8
 unfolding serveCommand
-returns-8 c = rw (c .before .before .before .before .before .enum-told8 .given .1) (c .before .before .lock .ensures)
+returns-8 c =
+    let after-enum-told8 : tie.After-enum-told8 = search needs in
+    rw (after-enum-told8 .enum-told8 .given .1) (c .before .before .lock .ensures)
 
 same-length-17 : tie.Need-same-length-17
 same-length-17 c = search needs
@@ -217,7 +235,9 @@ same-length-18 c = search needs
 
 returns-9 : tie.Need-returns-9
 unfolding serveCommand
-returns-9 c = rw (c .before .before .before .before .before .enum-told9 .given .1) (c .before .before .status .ensures)
+returns-9 c =
+    let after-enum-told9 : tie.After-enum-told9 = search needs in
+    rw (after-enum-told9 .enum-told9 .given .1) (c .before .before .status .ensures)
 
 same-length-19 : tie.Need-same-length-19
 same-length-19 c = search needs
@@ -227,7 +247,9 @@ same-length-20 c = search needs
 
 returns-10 : tie.Need-returns-10
 unfolding serveCommand
-returns-10 c = rw (c .before .before .before .before .before .enum-told10 .given .1) (c .before .before .read3 .ensures)
+returns-10 c =
+    let after-enum-told10 : tie.After-enum-told10 = search needs in
+    rw (after-enum-told10 .enum-told10 .given .1) (c .before .before .read3 .ensures)
 
 same-length-21 : tie.Need-same-length-21
 same-length-21 c = search needs
@@ -237,7 +259,9 @@ same-length-22 c = search needs
 
 returns-11 : tie.Need-returns-11
 unfolding serveCommand
-returns-11 c = rw (c .before .before .before .before .before .enum-told11 .given .1) (c .before .before .write3 .ensures)
+returns-11 c =
+    let after-enum-told11 : tie.After-enum-told11 = search needs in
+    rw (after-enum-told11 .enum-told11 .given .1) (c .before .before .write3 .ensures)
 
 same-length-23 : tie.Need-same-length-23
 same-length-23 c = search needs
@@ -247,7 +271,9 @@ same-length-24 c = search needs
 
 returns-12 : tie.Need-returns-12
 unfolding serveCommand
-returns-12 c = rw (c .before .before .before .before .before .enum-told12 .given .1) (c .before .before .read-dynamic .ensures)
+returns-12 c =
+    let after-enum-told12 : tie.After-enum-told12 = search needs in
+    rw (after-enum-told12 .enum-told12 .given .1) (c .before .before .read-dynamic .ensures)
 
 same-length-25 : tie.Need-same-length-25
 same-length-25 c = search needs
@@ -257,7 +283,9 @@ same-length-26 c = search needs
 
 returns-13 : tie.Need-returns-13
 unfolding serveCommand
-returns-13 c = rw (c .before .before .before .before .before .enum-told13 .given .1) (c .before .before .write-dynamic .ensures)
+returns-13 c =
+    let after-enum-told13 : tie.After-enum-told13 = search needs in
+    rw (after-enum-told13 .enum-told13 .given .1) (c .before .before .write-dynamic .ensures)
 
 same-length-27 : tie.Need-same-length-27
 same-length-27 c = search needs
@@ -267,7 +295,10 @@ same-length-28 c = search needs
 
 returns-14 : tie.Need-returns-14
 unfolding serveCommand
-returns-14 c = rw (c .before .before .before .before .before .before .before .enum-told14 .given .1) (c .before .before .before .before .write4 .ensures)
+returns-14 c =
+    let after-enum-told14 : tie.After-enum-told14 = search needs in
+    let after-write4 : tie.After-write4 = search needs in
+    rw (after-enum-told14 .enum-told14 .given .1) (after-write4 .write4 .ensures)
 
 same-length-29 : tie.Need-same-length-29
 same-length-29 c = search needs
@@ -277,7 +308,9 @@ same-length-30 c = search needs
 
 returns-15 : tie.Need-returns-15
 unfolding serveCommand
-returns-15 c = rw (c .before .before .before .before .before .enum-told15 .given .1) (c .before .before .length .ensures)
+returns-15 c =
+    let after-enum-told15 : tie.After-enum-told15 = search needs in
+    rw (after-enum-told15 .enum-told15 .given .1) (c .before .before .length .ensures)
 
 same-length-31 : tie.Need-same-length-31
 same-length-31 c = search needs
@@ -287,7 +320,9 @@ same-length-32 c = search needs
 
 returns-16 : tie.Need-returns-16
 unfolding serveCommand
-returns-16 c = rw (c .before .before .before .before .before .enum-told16 .given .1) (c .before .before .read4 .ensures)
+returns-16 c =
+    let after-enum-told16 : tie.After-enum-told16 = search needs in
+    rw (after-enum-told16 .enum-told16 .given .1) (c .before .before .read4 .ensures)
 
 same-length-33 : tie.Need-same-length-33
 same-length-33 c = search needs
@@ -297,7 +332,9 @@ same-length-34 c = search needs
 
 returns-17 : tie.Need-returns-17
 unfolding serveCommand
-returns-17 c = rw (c .before .before .before .before .before .enum-told17 .given .1) (c .before .before .present .ensures)
+returns-17 c =
+    let after-enum-told17 : tie.After-enum-told17 = search needs in
+    rw (after-enum-told17 .enum-told17 .given .1) (c .before .before .present .ensures)
 
 same-length-35 : tie.Need-same-length-35
 same-length-35 c = search needs
@@ -307,7 +344,9 @@ same-length-36 c = search needs
 
 returns-18 : tie.Need-returns-18
 unfolding serveCommand
-returns-18 c = rw (c .before .before .before .before .before .enum-told18 .given .1) (c .before .before .write5 .ensures)
+returns-18 c =
+    let after-enum-told18 : tie.After-enum-told18 = search needs in
+    rw (after-enum-told18 .enum-told18 .given .1) (c .before .before .write5 .ensures)
 
 pub serve-command-spec : {M : Type 1} → statement M
 serve-command-spec =

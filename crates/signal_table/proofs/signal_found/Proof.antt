@@ -1,3 +1,4 @@
+use borrow.Author.Needs.{needs}
 use native.Mathlib.Omega.{arith}
 use lib.Dec.{leb, eqb}
 use borrow.Author.Tests.{leb-true}
@@ -22,7 +23,9 @@ returns-3 c = search picks depth 20
 
 -- a byte sent is a byte
 cast-t13 : tie.Need-cast-t13
-cast-t13 c = let a = c .before .before .before .before .args in omega (arith, leb-true (a .value) 255 (and-right (eqb (a .code) 4) _ (c .if4 .taken)))
+cast-t13 c =
+    let start : tie.Start = search needs in
+    let a = start .args in omega (arith, leb-true (a .value) 255 (and-right (eqb (a .code) 4) _ (c .if4 .taken)))
 
 returns-4 : tie.Need-returns-4
 unfolding signalFound signalTable firstSays

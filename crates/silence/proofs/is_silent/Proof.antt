@@ -18,7 +18,8 @@ fails-address-requires c κs = search needs
 returns-2 : tie.Need-returns-2
 unfolding requestSilences isSilent
 returns-2 c =
-    let a = c .before .before .before .before .args in
+    let start : tie.Start = search needs in
+    let a = start .args in
     rw (any-append, ← c .before .before .fails-reception .ensures (a .u), ← c .fails-address .ensures (a .dynamic)) (search picks depth 20)
 
 pub is-silent-spec : {M : Type 1} → statement M

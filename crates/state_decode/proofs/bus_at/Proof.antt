@@ -35,7 +35,14 @@ bus-of-requires c κs = search needs
 
 returns : tie.Need-returns
 unfolding busAt
-returns c = rw (c .bus-of .ensures, c .before .byte-in5 .ensures, c .before .before .flag-at2 .ensures, c .before .before .before .flag-at .ensures, c .before .before .before .before .byte-in4 .ensures, c .before .before .before .before .before .word-of .ensures, c .before .before .before .before .before .before .byte-in3 .ensures, c .before .before .before .before .before .before .before .byte-in2 .ensures, c .before .before .before .before .before .before .before .before .space-of .ensures, c .before .before .before .before .before .before .before .before .before .byte-in .ensures)
+returns c =
+    let after-byte-in4 : tie.After-byte-in4 = search needs in
+    let after-word-of : tie.After-word-of = search needs in
+    let after-byte-in3 : tie.After-byte-in3 = search needs in
+    let after-byte-in2 : tie.After-byte-in2 = search needs in
+    let after-space-of : tie.After-space-of = search needs in
+    let after-byte-in : tie.After-byte-in = search needs in
+    rw (c .bus-of .ensures, c .before .byte-in5 .ensures, c .before .before .flag-at2 .ensures, c .before .before .before .flag-at .ensures, after-byte-in4 .byte-in4 .ensures, after-word-of .word-of .ensures, after-byte-in3 .byte-in3 .ensures, after-byte-in2 .byte-in2 .ensures, after-space-of .space-of .ensures, after-byte-in .byte-in .ensures)
 
 pub bus-at-spec : {M : Type 1} → statement M
 bus-at-spec =

@@ -23,7 +23,10 @@ at-requires c κs = search needs
 
 returns : tie.Need-returns
 unfolding tagOf
-returns c = rw (c .at .ensures, c .before .host-at .ensures, c .before .before .air-at .ensures, c .before .before .before .passwords-at .ensures, c .before .before .before .before .mailbox-at .ensures, c .before .before .before .before .before .registers-at .ensures)
+returns c =
+    let after-mailbox-at : tie.After-mailbox-at = search needs in
+    let after-registers-at : tie.After-registers-at = search needs in
+    rw (c .at .ensures, c .before .host-at .ensures, c .before .before .air-at .ensures, c .before .before .before .passwords-at .ensures, after-mailbox-at .mailbox-at .ensures, after-registers-at .registers-at .ensures)
 
 pub decode-spec : {M : Type 1} → statement M
 decode-spec =

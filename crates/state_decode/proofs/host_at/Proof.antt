@@ -29,7 +29,11 @@ bus-at-requires c κs = search needs
 
 returns : tie.Need-returns
 unfolding hostAt
-returns c = rw (c .bus-at .ensures, c .before .word-of .ensures, c .before .before .byte-in2 .ensures, c .before .before .before .byte-in .ensures, c .before .before .before .before .flag-at3 .ensures, c .before .before .before .before .before .flag-at2 .ensures, c .before .before .before .before .before .before .flag-at .ensures)
+returns c =
+    let after-flag-at3 : tie.After-flag-at3 = search needs in
+    let after-flag-at2 : tie.After-flag-at2 = search needs in
+    let after-flag-at : tie.After-flag-at = search needs in
+    rw (c .bus-at .ensures, c .before .word-of .ensures, c .before .before .byte-in2 .ensures, c .before .before .before .byte-in .ensures, after-flag-at3 .flag-at3 .ensures, after-flag-at2 .flag-at2 .ensures, after-flag-at .flag-at .ensures)
 
 pub host-at-spec : {M : Type 1} → statement M
 host-at-spec =

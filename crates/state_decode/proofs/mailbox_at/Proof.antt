@@ -29,7 +29,12 @@ word-of-requires c κs = search needs
 
 returns : tie.Need-returns
 unfolding mailboxAt
-returns c = rw (c .word-of .ensures, c .before .byte-in2 .ensures, c .before .before .byte-in .ensures, c .before .before .before .flag-at5 .ensures, c .before .before .before .before .flag-at4 .ensures, c .before .before .before .before .before .flag-at3 .ensures, c .before .before .before .before .before .before .flag-at2 .ensures, c .before .before .before .before .before .before .before .flag-at .ensures)
+returns c =
+    let after-flag-at4 : tie.After-flag-at4 = search needs in
+    let after-flag-at3 : tie.After-flag-at3 = search needs in
+    let after-flag-at2 : tie.After-flag-at2 = search needs in
+    let after-flag-at : tie.After-flag-at = search needs in
+    rw (c .word-of .ensures, c .before .byte-in2 .ensures, c .before .before .byte-in .ensures, c .before .before .before .flag-at5 .ensures, after-flag-at4 .flag-at4 .ensures, after-flag-at3 .flag-at3 .ensures, after-flag-at2 .flag-at2 .ensures, after-flag-at .flag-at .ensures)
 
 pub mailbox-at-spec : {M : Type 1} → statement M
 mailbox-at-spec =

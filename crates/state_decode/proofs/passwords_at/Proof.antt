@@ -33,7 +33,9 @@ at-requires-5 c κs = search needs
 
 returns : tie.Need-returns
 unfolding passwordsAt
-returns c = rw (add-zero _, c .at5 .ensures, c .before .at4 .ensures, c .before .before .at3 .ensures, c .before .before .before .at2 .ensures, c .before .before .before .before .at .ensures)
+returns c =
+    let after-at : tie.After-at = search needs in
+    rw (add-zero _, c .at5 .ensures, c .before .at4 .ensures, c .before .before .at3 .ensures, c .before .before .before .at2 .ensures, after-at .at .ensures)
 
 pub passwords-at-spec : {M : Type 1} → statement M
 passwords-at-spec =

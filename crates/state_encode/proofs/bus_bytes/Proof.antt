@@ -61,7 +61,9 @@ returns-2 c = rw (c .flag-byte .ensures, c .before .before .b .given .1)
 
 returns-3 : tie.Need-returns-3
 unfolding busBytes
-returns-3 c = rw (c .flag-byte3 .ensures, c .before .flag-byte2 .ensures, c .before .before .space-number .ensures, c .before .before .before .before .b2 .given .1)
+returns-3 c =
+    let after-b2 : tie.After-b2 = search needs in
+    rw (c .flag-byte3 .ensures, c .before .flag-byte2 .ensures, c .before .before .space-number .ensures, after-b2 .b2 .given .1)
 
 returns-4 : tie.Need-returns-4
 unfolding busBytes

@@ -21,7 +21,10 @@ same-length c = search needs
 
 returns : tie.Need-returns
 unfolding bytesAt airBytes
-returns c = rw (c .before .before .put-bytes .ensures, c .before .before .before .before .before .radio-number .ensures, c .before .before .before .before .before .before .flag-byte .ensures)
+returns c =
+    let after-radio-number : tie.After-radio-number = search needs in
+    let after-flag-byte : tie.After-flag-byte = search needs in
+    rw (c .before .before .put-bytes .ensures, after-radio-number .radio-number .ensures, after-flag-byte .flag-byte .ensures)
 
 pub put-air-spec : {M : Type 1} → statement M
 put-air-spec =

@@ -18,7 +18,8 @@ same-length c = search needs
 
 returns : tie.Need-returns
 returns c =
-    let a = c .before .before .before .before .before .before .args in
+    let start : tie.Start = search needs in
+    let a = start .args in
     let e : length (a .t1) ≡ 8 = omega arith in
     (c .before .before .put-bytes .ensures ∙ ap (sets (a .s .now) (a .at)) (bytesAt-whole (a .t1) 8 e), e)
 

@@ -36,7 +36,13 @@ same-length c = search needs
 
 returns : tie.Need-returns
 unfolding bytesAt mailboxBytes
-returns c = rw (c .before .before .put-bytes .ensures, c .before .before .before .before .before .before .before .flag-byte5 .ensures, c .before .before .before .before .before .before .before .before .flag-byte4 .ensures, c .before .before .before .before .before .before .before .before .before .flag-byte3 .ensures, c .before .before .before .before .before .before .before .before .before .before .flag-byte2 .ensures, c .before .before .before .before .before .before .before .before .before .before .before .flag-byte .ensures)
+returns c =
+    let after-flag-byte5 : tie.After-flag-byte5 = search needs in
+    let after-flag-byte4 : tie.After-flag-byte4 = search needs in
+    let after-flag-byte3 : tie.After-flag-byte3 = search needs in
+    let after-flag-byte2 : tie.After-flag-byte2 = search needs in
+    let after-flag-byte : tie.After-flag-byte = search needs in
+    rw (c .before .before .put-bytes .ensures, after-flag-byte5 .flag-byte5 .ensures, after-flag-byte4 .flag-byte4 .ensures, after-flag-byte3 .flag-byte3 .ensures, after-flag-byte2 .flag-byte2 .ensures, after-flag-byte .flag-byte .ensures)
 
 pub put-mailbox-spec : {M : Type 1} → statement M
 put-mailbox-spec =

@@ -23,7 +23,10 @@ used-or-0-requires-6 c κs = search needs
 
 returns : tie.Need-returns
 unfolding isBus
-returns c = rw (c .used-or-06 .ensures, c .before .used-or-05 .ensures, c .before .before .used-or-04 .ensures, c .before .before .before .used-or-03 .ensures, c .before .before .before .before .used-or-02 .ensures, c .before .before .before .before .before .used-or-0 .ensures)
+returns c =
+    let after-used-or-02 : tie.After-used-or-02 = search needs in
+    let after-used-or-0 : tie.After-used-or-0 = search needs in
+    rw (c .used-or-06 .ensures, c .before .used-or-05 .ensures, c .before .before .used-or-04 .ensures, c .before .before .before .used-or-03 .ensures, after-used-or-02 .used-or-02 .ensures, after-used-or-0 .used-or-0 .ensures)
 
 pub is-bus-spec : {M : Type 1} → statement M
 is-bus-spec =

@@ -20,7 +20,9 @@ is-flag-at-requires-5 c κs = search needs
 
 returns : tie.Need-returns
 unfolding mailboxDecodes
-returns c = rw (c .is-flag-at5 .ensures, c .before .is-flag-at4 .ensures, c .before .before .is-flag-at3 .ensures, c .before .before .before .is-flag-at2 .ensures, c .before .before .before .before .is-flag-at .ensures)
+returns c =
+    let after-is-flag-at : tie.After-is-flag-at = search needs in
+    rw (c .is-flag-at5 .ensures, c .before .is-flag-at4 .ensures, c .before .before .is-flag-at3 .ensures, c .before .before .before .is-flag-at2 .ensures, after-is-flag-at .is-flag-at .ensures)
 
 pub mailbox-decodes-spec : {M : Type 1} → statement M
 mailbox-decodes-spec =

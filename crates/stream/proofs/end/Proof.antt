@@ -16,7 +16,8 @@ kept-count-requires c κs = search needs
 
 returns : tie.Need-returns
 returns c =
-    let a = c .before .before .before .before .before .args in
+    let start : tie.Start = search needs in
+    let a = start .args in
     let n = c .before .kept-count in
     (ap (λ (r : PieceResult). puts r (a .out .now)) (sym (end-none (length (a .out .now)) (benchState (a .bench) (a .m .now) (a .reply .now)) (take (a .have) (a .kept .now)) (omega (arith, n .ensures, c .if1 .taken, length-take (a .have) (a .kept .now))))), omega arith)
 

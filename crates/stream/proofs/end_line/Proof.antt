@@ -23,10 +23,13 @@ same-length c = search needs
 
 returns : tie.Need-returns
 returns c =
-    let a = c .before .before .before .before .before .before .before .before .before .before .before .before .before .before .args in
+    let start : tie.Start = search needs in
+    let after-line-from : tie.After-line-from = search needs in
+    let after-join : tie.After-join = search needs in
+    let a = start .args in
     let st = benchState (a .bench) (a .m .now) (a .reply .now) in (
       c .before .before .line .ensures .0
-          ∙ ap (λ (l : List ℕ). putLine (lineFrom st l) (a .text .now)) (c .before .before .before .before .line-from .ensures ∙ c .before .before .before .before .before .before .before .before .before .before .join .ensures .0)
+          ∙ ap (λ (l : List ℕ). putLine (lineFrom st l) (a .text .now)) (after-line-from .line-from .ensures ∙ after-join .join .ensures .0)
           ∙ ap (λ (r : LineResult). putLine r (a .text .now)) (whole-line st (a .kept .now) (a .s .now) (a .have)),
       c .before .before .line .ensures .1 .0,
     )

@@ -30,7 +30,8 @@ line-end-requires c κs = search needs
 
 loop-holds : tie.Need-loop-holds Inv-loop μ-loop
 loop-holds c =
-    let a = c .before .before .before .before .before .before .args in
+    let start : tie.Start Inv-loop μ-loop = search needs in
+    let a = start .args in
     let n = c .before .kept-count in
     let k : length (a .kept .now) ≡ 1201 = search needs in
     begins (benchState (a .bench) (a .m .now) (a .reply .now)) (a .kept .now) (a .s .now) (a .out .now) (n .result) (c .line-end .result) (omega (arith, k, n .ensures)) (c .line-end .ensures)
@@ -38,38 +39,52 @@ loop-holds c =
 -- a turn: a line feed is left, and room for a text
 less : (c : tie.In-loop Inv-loop μ-loop) → c .before .loop .end < length (c .before .before .before .before .before .before .before .before .args .s .now)
 less c =
+    let start : tie.Start Inv-loop μ-loop = search needs in
     let e = c .before .loop .end in
-    let n = length (c .before .before .before .before .before .before .before .before .args .s .now) in
+    let n = length (start .args .s .now) in
     ltb-true e n (and-left (ltb e n) (leb 1304 (length (c .before .loop .out) - c .before .loop .at)) (c .loop-test .taken))
 
 roomy : (c : tie.In-loop Inv-loop μ-loop) → 1304 ≤ length (c .before .loop .out) - c .before .loop .at
 roomy c =
+    let start : tie.Start Inv-loop μ-loop = search needs in
     let r = length (c .before .loop .out) - c .before .loop .at in
-    leb-true 1304 r (and-right (ltb (c .before .loop .end) (length (c .before .before .before .before .before .before .before .before .args .s .now))) (leb 1304 r) (c .loop-test .taken))
+    leb-true 1304 r (and-right (ltb (c .before .loop .end) (length (start .args .s .now))) (leb 1304 r) (c .loop-test .taken))
 
 sub-loop : tie.Need-sub-loop Inv-loop μ-loop
 sub-loop c = omega (arith, c .loop .inv .fits, c .loop .inv .out-len)
 
 sub-end-line : tie.Need-sub-end-line Inv-loop μ-loop
-sub-end-line c = omega (arith, c .before .before .before .before .before .loop .inv .next)
+sub-end-line c =
+    let at-loop : tie.At-loop Inv-loop μ-loop = search needs in
+    omega (arith, at-loop .loop .inv .next)
 
 part-end-line-start : tie.Need-part-end-line-start Inv-loop μ-loop
-part-end-line-start c = omega (arith, c .before .before .before .before .before .loop .inv .next)
+part-end-line-start c =
+    let at-loop : tie.At-loop Inv-loop μ-loop = search needs in
+    omega (arith, at-loop .loop .inv .next)
 
 part-end-line-end : tie.Need-part-end-line-end Inv-loop μ-loop
-part-end-line-end c = omega (arith, c .before .before .before .before .before .loop .inv .within)
+part-end-line-end c =
+    let at-loop : tie.At-loop Inv-loop μ-loop = search needs in
+    omega (arith, at-loop .loop .inv .within)
 
 sub-end-line-2 : tie.Need-sub-end-line-2 Inv-loop μ-loop
-sub-end-line-2 c = omega (arith, c .before .before .before .before .before .before .loop .inv .fits, c .before .before .before .before .before .before .loop .inv .out-len)
+sub-end-line-2 c =
+    let at-loop : tie.At-loop Inv-loop μ-loop = search needs in
+    omega (arith, at-loop .loop .inv .fits, at-loop .loop .inv .out-len)
 
 part-end-line-start-2 : tie.Need-part-end-line-start-2 Inv-loop μ-loop
-part-end-line-start-2 c = omega (arith, c .before .before .before .before .before .before .loop .inv .fits, c .before .before .before .before .before .before .loop .inv .out-len)
+part-end-line-start-2 c =
+    let at-loop : tie.At-loop Inv-loop μ-loop = search needs in
+    omega (arith, at-loop .loop .inv .fits, at-loop .loop .inv .out-len)
 
 part-end-line-end-2 : tie.Need-part-end-line-end-2 Inv-loop μ-loop
 part-end-line-end-2 c = omega arith
 
 end-line-requires : tie.Need-end-line-requires Inv-loop μ-loop
-end-line-requires c κs = c .before .before .before .before .before .before .before .loop .inv .few
+end-line-requires c κs =
+    let at-loop : tie.At-loop Inv-loop μ-loop = search needs in
+    at-loop .loop .inv .few
 
 add-at : tie.Need-add-at Inv-loop μ-loop
 add-at c = omega (arith, c .before .before .before .before .end-line .ensures .1, roomy (c .before .before .before .before .before .before .before .before .before .before .before), c .before .before .before .before .before .before .before .before .before .before .before .before .loop .inv .out-len, c .before .before .before .before .before .before .before .before .before .before .before .before .loop .inv .fits, c .before .before .before .before .before .before .before .before .before .before .before .before .before .before .before .before .before .before .before .good .1 .1 .1 .1 .1 .1 .0 .0)
@@ -81,7 +96,9 @@ line-end-requires-2 : tie.Need-line-end-requires-2 Inv-loop μ-loop
 line-end-requires-2 c κs = search needs
 
 loop-less : tie.Need-loop-less Inv-loop μ-loop
-loop-less c = omega (arith, less (c .before .before .before .before .before .before .before .before .before .before .before .before), c .line-end2 .ensures)
+loop-less c =
+    let in-loop : tie.In-loop Inv-loop μ-loop = search needs in
+    omega (arith, less in-loop, c .line-end2 .ensures)
 
 loop-again : tie.Need-loop-again Inv-loop μ-loop
 loop-again c =
@@ -106,13 +123,18 @@ hold-requires : tie.Need-hold-requires Inv-loop μ-loop
 hold-requires c κs = search needs
 
 same-length : tie.Need-same-length Inv-loop μ-loop
-same-length c = c .before .before .before .before .loop .inv .out-len
+same-length c =
+    let at-loop : tie.At-loop Inv-loop μ-loop = search needs in
+    at-loop .loop .inv .out-len
 
 returns : tie.Need-returns Inv-loop μ-loop
 returns c =
-    let a = c .before .before .before .before .before .before .before .before .before .before .before .args in
-    let l = c .before .before .before .before .loop in
-    let n = c .before .before .before .before .before .before .kept-count in
+    let start : tie.Start Inv-loop μ-loop = search needs in
+    let at-loop : tie.At-loop Inv-loop μ-loop = search needs in
+    let after-kept-count : tie.After-kept-count Inv-loop μ-loop = search needs in
+    let a = start .args in
+    let l = at-loop .loop in
+    let n = after-kept-count .kept-count in
     let st = benchState (a .bench) (a .m .now) (a .reply .now) in (
       ends st (take (n .result) (a .kept .now)) (a .s .now) (a .out .now) (benchState (l .bench) (l .m) (l .reply)) (l .kept) (l .out) (l .n) (l .from) (l .at) (l .end) (l .inv) (take (c .hold .result) (c .hold .last .0)) (c .before .before .before .loop-test .left) (c .hold .ensures .0)
           ∙ ap (λ (h : List ℕ). puts (pieceBy (length (a .out .now)) st h (a .s .now)) (a .out .now)) (take-within (a .kept .now) (a .have) (n .result) (n .ensures)),

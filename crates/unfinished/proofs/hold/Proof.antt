@@ -14,8 +14,9 @@ kept-count-requires c κs = search needs
 
 sub-least : tie.Need-sub-least
 sub-least c =
+    let start : tie.Start = search needs in
     let k = c .kept-count in
-    let l : length (c .before .before .before .before .args .kept .now) ≡ 1201 = search needs in
+    let l : length (start .args .kept .now) ≡ 1201 = search needs in
     omega (arith, l, k .ensures)
 
 least-requires : tie.Need-least-requires
@@ -26,14 +27,16 @@ put-bytes-requires c κs = search needs
 
 add-result : tie.Need-add-result
 add-result c =
+    let start : tie.Start = search needs in
     let k = c .before .before .before .kept-count in
     let n = c .before .before .least in
-    let l : length (c .before .before .before .before .before .before .before .args .kept .now) ≡ 1201 = search needs in
+    let l : length (start .args .kept .now) ≡ 1201 = search needs in
     omega (arith, l, k .ensures, n .ensures)
 
 returns : tie.Need-returns
 returns c =
-    let a = c .before .before .before .before .before .before .before .args in
+    let start : tie.Start = search needs in
+    let a = start .args in
     let k = c .before .before .before .kept-count in
     let n = c .before .before .least in
     let l : length (a .kept .now) ≡ 1201 = search needs in

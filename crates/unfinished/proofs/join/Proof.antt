@@ -19,7 +19,8 @@ hold-requires c κs = search needs
 
 returns-2 : tie.Need-returns-2
 returns-2 c =
-    let a = c .before .before .before .before .args in
+    let start : tie.Start = search needs in
+    let a = start .args in
     let held = c .hold .ensures in
     let some : a .have ≡ 0 → ⊥ = λ z. c .before .before .if1 .left (omega (arith, z)) in (
       joins (a .have) (c .hold .result) (a .s .now) _ _ some (omega (arith, held .1 .0)) (held .0),

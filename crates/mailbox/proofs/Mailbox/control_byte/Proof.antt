@@ -33,7 +33,9 @@ add-result-4 c = omega arith
 
 returns : tie.Need-returns
 unfolding controlByte
-returns c = rw (c .weight5 .ensures .0, c .before .weight4 .ensures .0, c .before .before .weight3 .ensures .0, c .before .before .before .weight2 .ensures .0, c .before .before .before .before .weight .ensures .0)
+returns c =
+    let after-weight : tie.After-weight = search needs in
+    rw (c .weight5 .ensures .0, c .before .weight4 .ensures .0, c .before .before .weight3 .ensures .0, c .before .before .before .weight2 .ensures .0, after-weight .weight .ensures .0)
 
 pub control-byte-spec : {M : Type 1} → statement M
 control-byte-spec =

@@ -20,7 +20,9 @@ fresh-requires-5 c κs = search needs
 
 returns : tie.Need-returns
 unfolding freshTag
-returns c = rw (c .fresh5 .ensures, c .before .fresh4 .ensures, c .before .before .fresh3 .ensures, c .before .before .before .fresh2 .ensures, c .before .before .before .before .fresh .ensures)
+returns c =
+    let after-fresh : tie.After-fresh = search needs in
+    rw (c .fresh5 .ensures, c .before .fresh4 .ensures, c .before .before .fresh3 .ensures, c .before .before .before .fresh2 .ensures, after-fresh .fresh .ensures)
 
 pub fresh-spec : {M : Type 1} → statement M
 fresh-spec =

@@ -44,10 +44,13 @@ loop-less c = omega arith
 
 loop-again : tie.Need-loop-again Inv-loop μ-loop
 loop-again c =
-    let l = c .before .before .before .before .before .loop in
+    let at-loop : tie.At-loop Inv-loop μ-loop = search needs in
+    let start : tie.Start Inv-loop μ-loop = search needs in
+    let in-loop : tie.In-loop Inv-loop μ-loop = search needs in
+    let l = at-loop .loop in
     let p = c .before .before .put-in in
-    let at = c .before .before .before .before .before .before .before .before .args .at in
-    let e : l .i ≡ suc (l .i - 1) = omega (arith, c .before .before .before .before .loop-test .taken) in
+    let at = start .args .at in
+    let e : l .i ≡ suc (l .i - 1) = omega (arith, in-loop .loop-test .taken) in
     let d = digit-stored (l .text) at (l .i - 1) (l .left) (ap (λ (j : ℕ). length (digitsOf j (l .left))) (sym e) ∙ l .inv .1 .0 ∙ e) in (
       ap (λ (x : List ℕ). sets x at (digitsOf (l .i - 1) (l .left / 10))) (p .ensures)
           ∙ d .0
@@ -65,9 +68,10 @@ same-length c = c .before .before .loop .inv .1 .1 .1
 returns : tie.Need-returns Inv-loop μ-loop
 unfolding digitsOf
 returns c =
+    let start : tie.Start Inv-loop μ-loop = search needs in
     let l = c .before .before .loop in
     let k = c .before .before .before .digit-count in
-    let a = c .before .before .before .before .before .args in
+    let a = start .args in
     let e : l .i ≡ 0 = omega (arith, c .before .loop-test .left) in
     let t : l .text ≡ sets (a .text .now) (a .at) (decimal (a .n)) = sym (ap (λ (j : ℕ). sets (l .text) (a .at) (digitsOf j (l .left))) e) ∙ l .inv .0 in
     ap (λ (x : List ℕ). stored (c .after .result) x) t

@@ -124,12 +124,16 @@ fn ends_in_range(enda: &[u8; 3]) -> bool {
 
 /// 01: "undefined register bits 0".
 fn defined_bits_only(tag: &Tag) -> bool {
-    let defined = |address| {
-        let byte = tag.registers.get(address);
-        byte.is_none_or(|byte| byte & !defined_bits(address) == 0)
-    };
-    (RF_MNGT..UID_FIRST).all(defined)
+    let registers = &tag.registers;
+    registers.rf_mngt & !defined_bits(RF_MNGT) == 0
         && tag.rf_mngt_dyn & !defined_bits(RF_MNGT) == 0
+        && registers
+            .rfass
+            .iter()
+            .all(|rfass| rfass & !defined_bits(RFA1SS) == 0)
+        && registers.lock_ccfile & !defined_bits(LOCK_CCFILE) == 0
+        && registers.mb_mode & !defined_bits(MB_MODE) == 0
+        && registers.lock_cfg & !defined_bits(LOCK_CFG) == 0
         && tag.mailbox.control & !(MB_EN | HOST_PUT | RF_PUT | HOST_CURRENT | RF_CURRENT) == 0
 }
 

@@ -2,12 +2,16 @@
 use mathlib.Core.Path.{_≡_, refl, sym, ap, _∙_}
 use mathlib.Core.Bool.{true, false, _&&_}
 use mathlib.Core.List.{List, [], _∷_}
-use borrow.Author.Tests.{not-false}
+use Prim.Native.Nat.{_≤_}
+use lib.Dec.{leb}
+use lib.ListN.{length}
+use borrow.Author.Tests.{leb-true}
 use Rattle.parts.specs.Pick.{pick}
 use Rattle.parts.proofs.Bools.{and-left, and-right}
 use Rattle.bus.specs.declared.Bus.{Bus}
 use Rattle.bus.specs.declared.Bus.the-variants.{Started}
 use Rattle.tag.specs.declared.WireSide.{WireSide}
+use Rattle.tag.specs.Layout.{replyBytes}
 use Rattle.tag.specs.Parts.{wireSide, withWire}
 use Rattle.signal.specs.Signal.{sideBus}
 use Rattle.transfer.specs.Legs.{Noted, NotedStart, NotedSend, NotedFetch, NotedStop, NotedVccOff, wireSignal}
@@ -16,34 +20,34 @@ use Rattle.transfer.specs.Claim.{runOf}
 use Rattle.transfer.proofs.Transfer.{transfer-by-signals}
 use Rattle.rule_list.specs.RuleList.{firstSays}
 use Rattle.signal_table.specs.declared.Signal.the-variants.{Wire}
-use Rattle.signal_table.specs.Table.{signalTable, signalFound, signalInRange, signalIn, signalBy}
-use Rattle.signal_table.proofs.Laws.{byte-code}
-use Rattle.refusals.specs.declared.Refusal.the-variants.{SignalUnknown}
-use Rattle.refusals.specs.declared.Judgement.the-variants.{NoRefusal}
-use Rattle.refusals.specs.Refusals.{number, argumentRules, judgement}
-use Rattle.refusals.proofs.Laws.{appliesOf, not-refused}
+use Rattle.signal_table.specs.Table.{signalTable, signalFound, isFound, signalInRange, signalIn, signalBy}
+use Rattle.signal_table.proofs.Laws.{byte-known, byte-code}
 use Rattle.model.specs.Step.{actOf}
 use Rattle.model.specs.Claims.{Fit}
 use Rattle.model.proofs.Acts.{signalOfCall, fit-acts}
 use Rattle.model.proofs.Kept.{wire-fit}
-use Rattle.refusals.specs.Call.{Call}
 use Rattle.calls.specs.Calls.{Device, device, DeviceResult, deviceResultOf, RunResult, runResult, entry, runBy}
-use Rattle.demand2.specs.Demand2.{WireCall, callBy, wireCalls, signals, isServed, allServed, answersOf, TransferServed}
-use Rattle.demand2.proofs.Frames.{served-judged}
+use Rattle.demand2.specs.Demand2.{WireCall, callBy, wireCalls, signals, sendsByte, allServed, answersOf, TransferServed}
+use Rattle.demand2.proofs.Frames.{not-refused-by}
 
 -- ---- a call that is not refused
 abbrev noted : Device → Noted → WireCall → DeviceResult
 noted d n w = deviceResultOf (actOf (Wire (wireSignal n)) (d .tag) (d .memory) (w .buffer) (w .frame))
 
 -- the codes are the signals'
-known : (c : Call) → judgement (argumentRules c) ≡ NoRefusal → signalInRange (c .code) (c .value) ≡ true
-unfolding appliesOf firstSays number pick
-known c h = not-false _ (not-refused SignalUnknown (argumentRules c) h)
+known : (n : Noted) (w : WireCall) → sendsByte n ≡ true → signalInRange (callBy n w .code) (callBy n w .value) ≡ true
+unfolding callBy sendsByte signalInRange isFound signalFound signalTable firstSays pick
+known NotedStart w h = refl
+known (NotedSend x) w h = byte-known x h
+known (NotedFetch true) w h = refl
+known (NotedFetch false) w h = refl
+known NotedStop w h = refl
+known NotedVccOff w h = refl
 
-by-code : (n : Noted) (w : WireCall) → judgement (argumentRules (callBy n w)) ≡ NoRefusal → signalOfCall (callBy n w) ≡ Wire (wireSignal n)
-unfolding callBy wireSignal signalFound signalTable firstSays signalIn signalBy pick
+by-code : (n : Noted) (w : WireCall) → sendsByte n ≡ true → signalOfCall (callBy n w) ≡ Wire (wireSignal n)
+unfolding callBy sendsByte wireSignal signalFound signalTable firstSays signalIn signalBy pick
 by-code NotedStart w h = refl
-by-code (NotedSend x) w h = byte-code x (known (callBy (NotedSend x) w) h)
+by-code (NotedSend x) w h = byte-code x (byte-known x h)
 by-code (NotedFetch true) w h = refl
 by-code (NotedFetch false) w h = refl
 by-code NotedStop w h = refl
@@ -58,12 +62,14 @@ handed-buffer NotedStop w = (refl, refl)
 handed-buffer NotedVccOff w = (refl, refl)
 
 -- a noted signal's call acts as that signal
-entry-notes : (d : Device) (n : Noted) (w : WireCall) → Fit (d .tag) (d .memory) → isServed (callBy n w) ≡ true → entry d (callBy n w) ≡ noted d n w
+entry-notes : (d : Device) (n : Noted) (w : WireCall) → Fit (d .tag) (d .memory) → leb replyBytes (length (w .buffer)) ≡ true
+    → sendsByte n ≡ true → entry d (callBy n w) ≡ noted d n w
 unfolding entry
-entry-notes d n w f h =
-    let none = served-judged _ h in
+entry-notes d n w f o h =
     let b = handed-buffer n w in
-    ap deviceResultOf (fit-acts (d .tag) (d .memory) (callBy n w) f none ∙ rw (by-code n w none, b .0, b .1))
+    let room : replyBytes ≤ length (callBy n w .buffer) = rw (b .0) (leb-true replyBytes (length (w .buffer)) o) in
+    let none = not-refused-by (callBy n w) room (known n w h) in
+    ap deviceResultOf (fit-acts (d .tag) (d .memory) (callBy n w) f none ∙ rw (by-code n w h, b .0, b .1))
 
 -- ---- a run of such calls is the run of their signals
 abbrev left : Device → TransferResult → List WireCall → RunResult
@@ -78,12 +84,13 @@ run-notes : (ws : List WireCall) (d : Device) → Fit (d .tag) (d .memory) → a
 unfolding runBy wireCalls signals allServed answersOf runOf actOf
 run-notes [] d f h = refl
 run-notes (w ∷ ws) d f h =
-    let own = isServed (callBy (w .signal) w) in
-    let n = entry-notes d (w .signal) w f (and-left own (allServed ws) h) in
+    let long = leb replyBytes (length (w .buffer)) in
+    let own = and-left (long && sendsByte (w .signal)) (allServed ws) h in
+    let n = entry-notes d (w .signal) w f (and-left long (sendsByte (w .signal)) own) (and-right long (sendsByte (w .signal)) own) in
     let x = wireSignal (w .signal) in
     ap (λ (e : DeviceResult). then e (runBy entry (e .device) (wireCalls ws))) n
     ∙ ap (then (noted d (w .signal) w))
-    (run-notes ws (noted d (w .signal) w .device) (wire-fit x (d .tag) (d .memory) (w .buffer) (w .frame) f) (and-right own (allServed ws) h))
+    (run-notes ws (noted d (w .signal) w .device) (wire-fit x (d .tag) (d .memory) (w .buffer) (w .frame) f) (and-right (long && sendsByte (w .signal)) (allServed ws) h))
 
 -- ---- the claim
 started : (w : WireSide) (b : Bus) → w .host .bus ≡ b → sideBus b w ≡ w

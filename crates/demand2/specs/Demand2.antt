@@ -2,11 +2,12 @@
 use mathlib.Core.Path.{_≡_}
 use mathlib.Core.Bool.{Bool, true, false, _&&_}
 use mathlib.Core.List.{List, [], _∷_}
-use Prim.Native.Nat.{ℕ}
+use Prim.Native.Nat.{ℕ, _≤_}
+use lib.Dec.{leb}
 use lib.ListN.{length}
 use Rattle.bus.specs.declared.Bus.the-variants.{Started}
 use Rattle.tag.specs.declared.Tag.{Tag}
-use Rattle.tag.specs.Layout.{memoryBytes}
+use Rattle.tag.specs.Layout.{memoryBytes, replyBytes}
 use Rattle.signal.specs.declared.WireAnswer.{WireAnswer}
 use Rattle.parts.specs.Pick.{pick}
 use Rattle.tag.specs.Parts.{wireSide, withWire}
@@ -15,8 +16,7 @@ use Rattle.transfer.specs.Whole.{transferOf}
 use Rattle.reply.specs.Reply.{bufferOf, answerOf}
 use Rattle.radio.specs.Radio.{radioOf}
 use Rattle.model.specs.Step.{stepResult, fromWire, fromRadio, transferOpen, stepOf}
-use Rattle.refusals.specs.declared.Refusal.{Refusal}
-use Rattle.refusals.specs.Refusals.{argumentRules, tagInRange, judgement, unlessRefused}
+use Rattle.refusals.specs.Refusals.{tagInRange}
 use Rattle.reply.specs.Outcome.{radioSide, withRadio}
 use Rattle.model.specs.Claims.{Fit}
 use Rattle.refusals.specs.Call.{Call, handedIn}
@@ -48,13 +48,18 @@ unfoldable pub signals : List WireCall → List Noted
 signals [] = []
 signals (wireCall ∷ handed) = wireCall .signal ∷ signals handed
 
--- no call is refused for what it hands in: each reply buffer has at least 643 bytes, each byte sent is a byte
-abbrev pub isServed : Call → Bool
-isServed call = unlessRefused (judgement (argumentRules call)) (λ (refusal : Refusal). false) true
+-- a byte sent is a byte
+unfoldable pub sendsByte : Noted → Bool
+sendsByte NotedStart = true
+sendsByte (NotedSend x) = leb x 255
+sendsByte (NotedFetch ack) = true
+sendsByte NotedStop = true
+sendsByte NotedVccOff = true
 
+-- each reply buffer has at least 643 bytes, each byte sent is a byte
 unfoldable pub allServed : List WireCall → Bool
 allServed [] = true
-allServed (wireCall ∷ handed) = isServed (callBy (wireCall .signal) wireCall) && allServed handed
+allServed (wireCall ∷ handed) = leb replyBytes (length (wireCall .buffer)) && sendsByte (wireCall .signal) && allServed handed
 
 -- each answer with its call's reply buffer, which stays
 unfoldable pub answersOf : List WireAnswer → List WireCall → List CallAnswer
@@ -74,7 +79,7 @@ TransferServed = (d : Device) (handed : List WireCall)
 
 -- ---- till direction: a frame's call is the judge and the table of commands
 abbrev pub FrameServed : Type 0
-FrameServed = (t : Tag) (m o f : List ℕ) → Fit t m → isServed (handedIn o 8 0 f) ≡ true
+FrameServed = (t : Tag) (m o f : List ℕ) → Fit t m → replyBytes ≤ length o
     → stepOf t m (handedIn o 8 0 f)
     ≡ (let result = radioOf (radioSide t) (t .uid) (t .host .vcc) (transferOpen t) (t .host .programming) m f in
     stepResult (fromRadio (answerOf (result .reply))) (withRadio (result .side) t) (result .memory) (bufferOf (result .reply) o))

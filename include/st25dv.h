@@ -12,7 +12,7 @@ extern "C" {
 #endif
 
 /* ---- lengths of the buffers */
-#define ST25DV_STATE_BYTES 83u
+#define ST25DV_STATE_BYTES 84u
 #define ST25DV_UID_BYTES 8u
 #define ST25DV_MEMORY_BYTES 1024u
 #define ST25DV_REPLY_BYTES 643u /* at least */
@@ -64,31 +64,32 @@ extern "C" {
 #define ST25DV_AT_LAST_FETCHED 11u  /* bus 2: flag, the last byte of an RF message was fetched (else 0) */
 #define ST25DV_AT_HIGH_ADDRESS 12u  /* bus 4: the high address byte (else 0) */
 #define ST25DV_AT_PAGE_COUNT 13u    /* bus 5: two bytes, the page bytes (else 0) */
-#define ST25DV_AT_RF_MNGT 15u
-#define ST25DV_AT_RF_MNGT_DYN 16u
-#define ST25DV_AT_RFA1SS 17u
-#define ST25DV_AT_ENDA1 18u
-#define ST25DV_AT_RFA2SS 19u
-#define ST25DV_AT_ENDA2 20u
-#define ST25DV_AT_RFA3SS 21u
-#define ST25DV_AT_ENDA3 22u
-#define ST25DV_AT_RFA4SS 23u
-#define ST25DV_AT_I2CSS 24u
-#define ST25DV_AT_LOCK_CCFILE 25u
-#define ST25DV_AT_MB_MODE 26u
-#define ST25DV_AT_LOCK_CFG 27u
-#define ST25DV_AT_MB_EN 28u          /* flag */
-#define ST25DV_AT_HOST_PUT 29u       /* flag */
-#define ST25DV_AT_RF_PUT 30u         /* flag */
-#define ST25DV_AT_HOST_CURRENT 31u   /* flag */
-#define ST25DV_AT_RF_CURRENT 32u     /* flag */
-#define ST25DV_AT_MESSAGE_LENGTH 33u /* two bytes */
-#define ST25DV_AT_I2C_PASSWORD 35u   /* eight bytes, as a password leg sends them */
-#define ST25DV_AT_PASSWORD_0 43u     /* eight bytes, as a frame sends them; so for passwords 1 to 3 */
-#define ST25DV_AT_PASSWORD_1 51u
-#define ST25DV_AT_PASSWORD_2 59u
-#define ST25DV_AT_PASSWORD_3 67u
-#define ST25DV_AT_UID 75u            /* eight bytes, lowest first */
+#define ST25DV_AT_KEPT_RF_MNGT_DYN 15u /* bus 2 to 5, and 1 with its flag: RF_MNGT_Dyn as the transfer was opened (else 0) */
+#define ST25DV_AT_RF_MNGT 16u
+#define ST25DV_AT_RF_MNGT_DYN 17u
+#define ST25DV_AT_RFA1SS 18u
+#define ST25DV_AT_ENDA1 19u
+#define ST25DV_AT_RFA2SS 20u
+#define ST25DV_AT_ENDA2 21u
+#define ST25DV_AT_RFA3SS 22u
+#define ST25DV_AT_ENDA3 23u
+#define ST25DV_AT_RFA4SS 24u
+#define ST25DV_AT_I2CSS 25u
+#define ST25DV_AT_LOCK_CCFILE 26u
+#define ST25DV_AT_MB_MODE 27u
+#define ST25DV_AT_LOCK_CFG 28u
+#define ST25DV_AT_MB_EN 29u          /* flag */
+#define ST25DV_AT_HOST_PUT 30u       /* flag */
+#define ST25DV_AT_RF_PUT 31u         /* flag */
+#define ST25DV_AT_HOST_CURRENT 32u   /* flag */
+#define ST25DV_AT_RF_CURRENT 33u     /* flag */
+#define ST25DV_AT_MESSAGE_LENGTH 34u /* two bytes */
+#define ST25DV_AT_I2C_PASSWORD 36u   /* eight bytes, as a password leg sends them */
+#define ST25DV_AT_PASSWORD_0 44u     /* eight bytes, as a frame sends them; so for passwords 1 to 3 */
+#define ST25DV_AT_PASSWORD_1 52u
+#define ST25DV_AT_PASSWORD_2 60u
+#define ST25DV_AT_PASSWORD_3 68u
+#define ST25DV_AT_UID 76u            /* eight bytes, lowest first */
 
 /* values at ST25DV_AT_RADIO_STATE */
 #define ST25DV_READY 0u

@@ -158,21 +158,36 @@ static void start(void)
     step("Start", ST25DV_START, 0, ST25DV_NONE);
 }
 
+/* The select that opens a transfer keeps RF_MNGT_Dyn for it. */
+static void keep(void)
+{
+    set(ST25DV_AT_KEPT_RF_MNGT_DYN, due.state[ST25DV_AT_RF_MNGT_DYN % ROOM]);
+}
+
 /* A read leg up to its select. */
 static void select_for_reading(uint8_t select, uint32_t space)
 {
     start();
+    if (due.state[ST25DV_AT_TRANSFER_OPEN % ROOM] == 0)
+        keep();
     set(ST25DV_AT_TRANSFER_OPEN, 0);
     set(ST25DV_AT_BUS, ST25DV_BUS_READ_LEG);
     set(ST25DV_AT_SPACE, space);
     step("select for reading", ST25DV_SEND, select, ST25DV_ACK);
 }
 
-/* A read leg of user space in the transfer that is open. */
-static void read_on(void)
+/* The leg is over, the transfer still open; the Start is the next call. */
+static void leg_over(void)
 {
     set(ST25DV_AT_SPACE, 0);
     set(ST25DV_AT_TRANSFER_OPEN, 1);
+    set_word(ST25DV_AT_PAGE_COUNT, 0);
+}
+
+/* A read leg of user space in the transfer that is open. */
+static void read_on(void)
+{
+    leg_over();
     select_for_reading(0xA7, ST25DV_SPACE_USER);
 }
 
@@ -180,6 +195,9 @@ static void read_on(void)
 static void address(uint8_t select, uint32_t space, uint32_t at)
 {
     start();
+    if (due.state[ST25DV_AT_TRANSFER_OPEN % ROOM] == 0)
+        keep();
+    set(ST25DV_AT_TRANSFER_OPEN, 0);
     set(ST25DV_AT_BUS, ST25DV_BUS_WRITE_LEG);
     set(ST25DV_AT_SPACE, space);
     step("select for writing", ST25DV_SEND, select, ST25DV_ACK);
@@ -220,6 +238,7 @@ static void stop(const char *what)
     set(ST25DV_AT_BUS, ST25DV_BUS_IDLE);
     set(ST25DV_AT_SPACE, 0);
     set_word(ST25DV_AT_PAGE_COUNT, 0);
+    set(ST25DV_AT_KEPT_RF_MNGT_DYN, 0);
     step(what, ST25DV_STOP, 0, ST25DV_NONE);
 }
 
@@ -324,6 +343,30 @@ static void registers(void)
     set_word(ST25DV_AT_COUNTER, 0);
     set(ST25DV_AT_RF_MNGT_DYN, 0x02);
     step("VCC off", ST25DV_VCC, 0, ST25DV_NONE);
+}
+
+/* RF_MNGT_Dyn is written by a leg that a Start ends. Frames inside the transfer are judged by the value it was opened
+ * with, those after it by the new one. */
+static void repeated_starts(void)
+{
+    static const uint8_t sleep[1] = {0x02}, none[1] = {0x00}, read_block[3] = {0x02, 0x20, 0x00};
+    powered();
+    user(0x2003);
+    data(sleep, 1);
+    set(ST25DV_AT_RF_MNGT_DYN, 0x02);
+    read_on();
+    ask("frame in a transfer opened with 00h", read_block, sizeof read_block, ST25DV_REPLY + 4, 0x01);
+    stop("Stop of a read leg");
+    ask("frame after it", read_block, sizeof read_block, ST25DV_SILENCE, 0);
+    user(0x2003);
+    data(none, 1);
+    set(ST25DV_AT_RF_MNGT_DYN, 0x00);
+    leg_over();
+    start();
+    ask("frame in a transfer opened with 02h", read_block, sizeof read_block, ST25DV_SILENCE, 0);
+    set(ST25DV_AT_TRANSFER_OPEN, 0);
+    stop("Stop after a Start");
+    ask("frame after it", read_block, sizeof read_block, ST25DV_REPLY + 7, 0x00);
 }
 
 /* ---- the mailbox */
@@ -462,6 +505,9 @@ static void refused_values(void)
     refused_value("another radio session", ST25DV_AT_RADIO_SESSION, ST25DV_SESSION_PASSWORD_3 + 1);
     refused_value("another bus", ST25DV_AT_BUS, ST25DV_BUS_DATA_LEG + 1);
     refused_value("another space", ST25DV_AT_SPACE, ST25DV_SPACE_SYSTEM + 1);
+    refused_value("a value kept for no transfer", ST25DV_AT_KEPT_RF_MNGT_DYN, 1);
+    user(0x0000);
+    refused_value("an undefined bit kept", ST25DV_AT_KEPT_RF_MNGT_DYN, 4);
 }
 
 static void refused_signals(void)
@@ -547,6 +593,7 @@ int main(void)
     reads();
     writes();
     registers();
+    repeated_starts();
     mailbox();
     radio_states();
     radio_passwords();

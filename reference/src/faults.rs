@@ -124,6 +124,7 @@ fn break_state(dice: &mut Dice, state: &mut [u8]) {
         (at::BUS, 6),
         (at::SPACE, 2),
         (at::LAST_FETCHED, 2),
+        (at::KEPT_RF_MNGT_DYN, 4), // undefined bits, or not used
         (at::RFA1SS, 0x10),
         (at::ENDA1 + 4, 0x10), // ENDA3
         (at::LOCK_CFG, 2),
@@ -156,8 +157,36 @@ pub fn change(dice: &mut Dice, lent: &mut Lent, call: &mut Call) {
     }
 }
 
+/// What a state's kept RF_MNGT_Dyn is, by the rule of docs/LIBRARY.md.
+#[derive(Clone, Copy, PartialEq, Eq, PartialOrd, Ord, Debug)]
+pub enum Kept {
+    /// With a transfer open, its two bits alone.
+    InRange,
+    /// With a transfer open, other bits set.
+    Undefined,
+    /// With none open, and not 0.
+    Unused,
+    /// With none open.
+    Zero,
+}
+
+pub fn kept(state: &[u8]) -> Kept {
+    let open = match state[at::BUS] {
+        0 => false,
+        1 => state[at::TRANSFER_OPEN] == 1,
+        _ => true,
+    };
+    match (open, state[at::KEPT_RF_MNGT_DYN]) {
+        (true, 0..=3) => Kept::InRange,
+        (true, _) => Kept::Undefined,
+        (false, 0) => Kept::Zero,
+        (false, _) => Kept::Unused,
+    }
+}
+
 fn change_state(dice: &mut Dice, state: &mut [u8]) {
-    let place = dice.below(STATE_SIZE);
+    let any = dice.below(STATE_SIZE);
+    let place = dice.pick(&[at::KEPT_RF_MNGT_DYN, any, any, any, any, any, any, any]);
     let (now, any) = (state[place], dice.byte());
     let small = dice.below(7) as u8;
     let beside = [now.wrapping_add(1), now.wrapping_sub(1), now ^ 1];

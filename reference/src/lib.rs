@@ -1,4 +1,4 @@
-//! A plain reference model of the 512-byte ST25DV04K, written from document 01.
+//! A plain reference model of the 512-byte ST25DV04K, written from documents 01 and 02.
 //! D and a number in a comment is an entry of docs/DECISIONS.md.
 
 pub mod bench;

@@ -85,7 +85,7 @@ fn act(tag: &mut Tag, memory: &mut [u8], reply: &mut [u8], signal: Signal) -> An
     match signal.code {
         VCC => wire::vcc(tag, on),
         FIELD => radio::field(tag, on),
-        START => wire::start(tag),
+        START => wire::start(tag, memory),
         SEND if wire::send(tag, memory, signal.value as u8) => return Answer::Ack,
         SEND => return Answer::NoAck,
         FETCH => return Answer::Byte(wire::fetch(tag, memory, on)),
@@ -112,6 +112,7 @@ pub fn wire_in_range(tag: &Tag, memory: &[u8]) -> bool {
         && defined_bits_only(tag)
         && mailbox_in_range(&tag.mailbox)
         && supply_in_range(tag)
+        && transfer_in_range(tag)
         && !(tag.programming && tag.bus.transfer_open())
         && page_in_range(tag, memory)
 }
@@ -127,6 +128,7 @@ fn defined_bits_only(tag: &Tag) -> bool {
     let registers = &tag.registers;
     registers.rf_mngt & !defined_bits(RF_MNGT) == 0
         && tag.rf_mngt_dyn & !defined_bits(RF_MNGT) == 0
+        && tag.kept_rf_mngt_dyn & !defined_bits(RF_MNGT) == 0
         && registers
             .rfass
             .iter()
@@ -153,6 +155,11 @@ fn mailbox_in_range(mailbox: &Mailbox) -> bool {
 fn supply_in_range(tag: &Tag) -> bool {
     tag.vcc
         || (!tag.mailbox.enabled() && !tag.i2c_session && !tag.programming && tag.bus == Bus::Idle)
+}
+
+/// 01: "with no transfer open, whatever else the state keeps of a transfer or leg is 0".
+fn transfer_in_range(tag: &Tag) -> bool {
+    tag.bus.transfer_open() || tag.kept_rf_mngt_dyn == 0
 }
 
 /// 01: "page bytes 0 to 256 .. each one that would be Acked there".

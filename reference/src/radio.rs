@@ -78,7 +78,8 @@ pub fn frame(tag: &mut Tag, memory: &mut [u8], reply: &mut [u8], frame: &[u8]) -
 
 /// 01, Frames: the causes of "Silence and no change", in order.
 fn heard<'a>(tag: &Tag, frame: &'a [u8]) -> Option<Request<'a>> {
-    if !tag.field || tag.rf_mngt_dyn & RF_SLEEP != 0 || frame.len() < 4 || frame.len() > 270 {
+    let asleep = tag.rf_mngt_dyn_for_frames() & RF_SLEEP != 0;
+    if !tag.field || asleep || frame.len() < 4 || frame.len() > 270 {
         return None;
     }
     let (body, check) = frame.split_at(frame.len() - 2);
@@ -135,7 +136,7 @@ fn after_uid<'a>(tag: &Tag, flags: u8, command: u8, rest: &'a [u8]) -> Option<(b
 
 /// 01: "RF_MNGT_Dyn b0, a transfer open or programming".
 fn shut_out(tag: &Tag) -> bool {
-    tag.rf_mngt_dyn & RF_DISABLE != 0 || tag.bus.transfer_open() || tag.programming
+    tag.rf_mngt_dyn_for_frames() & RF_DISABLE != 0 || tag.bus.transfer_open() || tag.programming
 }
 
 /// 01: 01h unknown command, 03h flags, 02h wrong length, in this order.

@@ -79,6 +79,8 @@ pub fn long_script(seed: u64, size: usize) -> Script {
 struct Roughness {
     /// Something else before a line of a transfer.
     disturb: usize,
+    /// A frame there.
+    frames: usize,
     /// A leg that ends before its bytes do.
     short: usize,
     /// A transfer not ended by a Stop.
@@ -91,25 +93,26 @@ struct Roughness {
 
 const CALM: Roughness = Roughness {
     disturb: 0,
+    frames: 0,
     short: 0,
     broken: 0,
     changed: 0,
     wrong: 0,
 };
 
-const ACTIONS: usize = 16;
+const ACTIONS: usize = 17;
 
 /// How often each action comes in a scene, in the order of `act`: bytes read and written by wire,
-/// system, dynamic, password and mailbox legs, chains of legs; block, lock, config, message,
-/// password and state frames; supplies, noise, a look.
+/// system, dynamic, password and mailbox legs, chains of legs, dynamic legs ended by a Start;
+/// block, lock, config, message, password and state frames; supplies, noise, a look.
 const SCENES: [[usize; ACTIONS]; 7] = [
-    [4, 4, 5, 3, 3, 6, 2, 12, 3, 8, 12, 8, 8, 3, 3, 6], // of all
-    [0, 0, 0, 1, 0, 8, 1, 0, 0, 0, 20, 0, 0, 0, 1, 2],  // the mailbox
-    [0, 0, 0, 0, 0, 6, 0, 0, 0, 1, 20, 1, 0, 0, 0, 1],  // the mailbox, undisturbed
-    [2, 1, 2, 0, 0, 0, 0, 16, 3, 6, 0, 6, 0, 0, 0, 2],  // areas and rights
-    [8, 6, 6, 2, 2, 2, 3, 2, 0, 1, 0, 0, 0, 2, 4, 3],   // the wire
-    [0, 0, 0, 2, 0, 0, 0, 4, 1, 0, 0, 1, 16, 2, 1, 2],  // radio states
-    [1, 1, 1, 0, 4, 0, 0, 4, 0, 6, 0, 16, 0, 1, 0, 2],  // passwords
+    [4, 4, 5, 3, 3, 6, 2, 3, 12, 3, 8, 12, 8, 8, 3, 3, 6], // of all
+    [0, 0, 0, 1, 0, 8, 1, 1, 0, 0, 0, 20, 0, 0, 0, 1, 2],  // the mailbox
+    [0, 0, 0, 0, 0, 6, 0, 0, 0, 0, 1, 20, 1, 0, 0, 0, 1],  // the mailbox, undisturbed
+    [2, 1, 2, 0, 0, 0, 0, 0, 16, 3, 6, 0, 6, 0, 0, 0, 2],  // areas and rights
+    [8, 6, 6, 2, 2, 2, 3, 3, 2, 0, 1, 0, 0, 0, 2, 4, 3],   // the wire
+    [0, 0, 0, 2, 0, 0, 0, 2, 4, 1, 0, 0, 1, 16, 2, 1, 2],  // radio states
+    [1, 1, 1, 0, 4, 0, 0, 0, 4, 0, 6, 0, 16, 0, 1, 0, 2],  // passwords
 ];
 
 /// Something that brings the tag back to where it answers.
@@ -138,6 +141,7 @@ impl Author {
         let taste = [(); ACTIONS].map(|()| dice.pick(&[0, 1, 2, 2, 3, 6]));
         let roughness = Roughness {
             disturb: dice.pick(&[0, 200, 60, 20]),
+            frames: 0,
             short: dice.pick(&[0, 30, 12, 5]),
             broken: dice.pick(&[0, 30, 12, 5]),
             changed: dice.pick(&[0, 40, 16, 6]),
@@ -223,14 +227,15 @@ impl Author {
             4 => self.password_leg(),
             5 => self.mailbox_leg(),
             6 => self.chain_of_legs(),
-            7 => self.block_frame(),
-            8 => self.lock_frame(),
-            9 => self.config_frame(),
-            10 => self.message_frame(),
-            11 => self.password_frame(),
-            12 => self.state_frames(),
-            13 => self.supplies(),
-            14 => self.noise(),
+            7 => self.dynamic_legs(),
+            8 => self.block_frame(),
+            9 => self.lock_frame(),
+            10 => self.config_frame(),
+            11 => self.message_frame(),
+            12 => self.password_frame(),
+            13 => self.state_frames(),
+            14 => self.supplies(),
+            15 => self.noise(),
             _ => self.observe(),
         }
         if self.dice.one_in(24) {

@@ -1,9 +1,9 @@
-//! The tag's state as 83 bytes, by the table of docs/LIBRARY.md, and the library's calls over them.
+//! The tag's state as 84 bytes, by the table of docs/LIBRARY.md, and the library's calls over them.
 
 use crate::model::{self, Answer, Refusal, Signal};
 use crate::tag::*;
 
-pub const STATE_SIZE: usize = 83;
+pub const STATE_SIZE: usize = 84;
 
 // Refusals beside 01's four.
 pub const REFUSED_STATE_LENGTH: u32 = 13;
@@ -20,23 +20,27 @@ pub mod at {
     pub const COUNTER: usize = 6;
     pub const BUS: usize = 8;
     pub const SPACE: usize = 9;
+    /// With the bus started.
+    pub const TRANSFER_OPEN: usize = 10;
     pub const LAST_FETCHED: usize = 11;
-    pub const RF_MNGT: usize = 15;
-    pub const RF_MNGT_DYN: usize = 16;
+    /// The last byte of the bus.
+    pub const KEPT_RF_MNGT_DYN: usize = 15;
+    pub const RF_MNGT: usize = 16;
+    pub const RF_MNGT_DYN: usize = 17;
     /// RFAiSS and ENDAi take turns.
-    pub const RFA1SS: usize = 17;
-    pub const ENDA1: usize = 18;
-    pub const I2CSS: usize = 24;
-    pub const LOCK_CCFILE: usize = 25;
-    pub const MB_MODE: usize = 26;
-    pub const LOCK_CFG: usize = 27;
+    pub const RFA1SS: usize = 18;
+    pub const ENDA1: usize = 19;
+    pub const I2CSS: usize = 25;
+    pub const LOCK_CCFILE: usize = 26;
+    pub const MB_MODE: usize = 27;
+    pub const LOCK_CFG: usize = 28;
     /// The five flags of MB_CTRL_Dyn, from MB_EN on.
-    pub const MB_EN: usize = 28;
-    pub const MESSAGE_LENGTH: usize = 33;
-    pub const I2C_PASSWORD: usize = 35;
+    pub const MB_EN: usize = 29;
+    pub const MESSAGE_LENGTH: usize = 34;
+    pub const I2C_PASSWORD: usize = 36;
     /// Passwords 0 to 3, eight bytes each.
-    pub const PASSWORD_0: usize = 43;
-    pub const UID: usize = 75;
+    pub const PASSWORD_0: usize = 44;
+    pub const UID: usize = 76;
 }
 
 // Numbers of the bus.
@@ -47,17 +51,18 @@ const ADDRESS_HIGH: u8 = 3;
 const ADDRESS_LOW: u8 = 4;
 const DATA: u8 = 5;
 
-/// From the place of the bus on: its number, its space, two flags, the high address byte, the page bytes.
-type BusBytes = [u8; 7];
+/// From the place of the bus on: its number, its space, two flags, the high address byte, the page bytes, and
+/// RF_MNGT_Dyn as kept for an open transfer.
+type BusBytes = [u8; 8];
 
 fn space_byte(space: Space) -> u8 {
     u8::from(space == Space::System)
 }
 
-fn encode_bus(bus: Bus) -> BusBytes {
+fn encode_bus(bus: Bus, kept: u8) -> BusBytes {
     match bus {
-        Bus::Idle => [IDLE, 0, 0, 0, 0, 0, 0],
-        Bus::Started { open } => [STARTED, 0, open.into(), 0, 0, 0, 0],
+        Bus::Idle => [IDLE, 0, 0, 0, 0, 0, 0, kept],
+        Bus::Started { open } => [STARTED, 0, open.into(), 0, 0, 0, 0, kept],
         Bus::Read { space, over, last } => [
             READ_LEG,
             space_byte(space),
@@ -66,16 +71,18 @@ fn encode_bus(bus: Bus) -> BusBytes {
             0,
             0,
             0,
+            kept,
         ],
-        Bus::AddressHigh { space } => [ADDRESS_HIGH, space_byte(space), 0, 0, 0, 0, 0],
-        Bus::AddressLow { space, high } => [ADDRESS_LOW, space_byte(space), 0, 0, high, 0, 0],
+        Bus::AddressHigh { space } => [ADDRESS_HIGH, space_byte(space), 0, 0, 0, 0, 0, kept],
+        Bus::AddressLow { space, high } => [ADDRESS_LOW, space_byte(space), 0, 0, high, 0, 0, kept],
         Bus::Data {
             space,
             count,
             spoiled,
         } => {
             let [low, high] = count.to_le_bytes();
-            [DATA, space_byte(space), spoiled.into(), 0, 0, low, high]
+            let space = space_byte(space);
+            [DATA, space, spoiled.into(), 0, 0, low, high, kept]
         }
     }
 }
@@ -88,9 +95,9 @@ fn flag(byte: u8) -> Option<bool> {
     }
 }
 
-/// The bus that bytes stand for; a byte that it does not use must be 0.
-fn decode_bus(bytes: BusBytes) -> Option<Bus> {
-    let [number, space, first, last, high, low_count, high_count] = bytes;
+/// The bus that bytes stand for, and RF_MNGT_Dyn as it is kept; a byte that the bus does not use must be 0.
+fn decode_bus(bytes: BusBytes) -> Option<(Bus, u8)> {
+    let [number, space, first, last, high, low_count, high_count, kept] = bytes;
     let (first, last) = (flag(first)?, flag(last)?);
     let space = match space {
         0 => Space::User,
@@ -114,7 +121,8 @@ fn decode_bus(bytes: BusBytes) -> Option<Bus> {
         },
         _ => return None,
     };
-    (encode_bus(bus) == bytes).then_some(bus)
+    let used = bus.transfer_open() || kept == 0;
+    (used && encode_bus(bus, kept) == bytes).then_some((bus, kept))
 }
 
 /// The bytes of a value that starts at a place.
@@ -145,7 +153,7 @@ pub fn encode(tag: &Tag) -> [u8; STATE_SIZE] {
     put(at::I2C_SESSION, &[tag.i2c_session.into()]);
     put(at::PROGRAMMING, &[tag.programming.into()]);
     put(at::COUNTER, &tag.counter.to_le_bytes());
-    put(at::BUS, &encode_bus(tag.bus));
+    put(at::BUS, &encode_bus(tag.bus, tag.kept_rf_mngt_dyn));
     let r = &tag.registers;
     put(at::RF_MNGT, &[r.rf_mngt]);
     put(at::RF_MNGT_DYN, &[tag.rf_mngt_dyn]);
@@ -179,6 +187,7 @@ pub fn decode(bytes: &[u8; STATE_SIZE]) -> Option<Tag> {
             control |= bit;
         }
     }
+    let (bus, kept_rf_mngt_dyn) = decode_bus(run(bytes, at::BUS))?;
     Some(Tag {
         uid: run(bytes, at::UID),
         vcc: flag_at(at::VCC)?,
@@ -201,7 +210,8 @@ pub fn decode(bytes: &[u8; STATE_SIZE]) -> Option<Tag> {
         i2c_session: flag_at(at::I2C_SESSION)?,
         programming: flag_at(at::PROGRAMMING)?,
         counter: word(at::COUNTER),
-        bus: decode_bus(run(bytes, at::BUS))?,
+        bus,
+        kept_rf_mngt_dyn,
         radio_state: match byte(at::RADIO_STATE) {
             0 => RadioState::Ready,
             1 => RadioState::Quiet,

@@ -249,6 +249,8 @@ pub struct Tag {
     pub programming: bool,
     pub counter: u16,
     pub bus: Bus,
+    /// RF_MNGT_Dyn as at the select that opened the transfer; 0 with none open.
+    pub kept_rf_mngt_dyn: u8,
     pub radio_state: RadioState,
     /// 0 none, 1 to 4 for passwords 0 to 3.
     pub radio_session: u8,
@@ -275,6 +277,7 @@ impl Tag {
             programming: false,
             counter: 0,
             bus: Bus::Idle,
+            kept_rf_mngt_dyn: 0,
             radio_state: RadioState::Ready,
             radio_session: 0,
             radio_passwords: [[0; 8]; 4],
@@ -291,6 +294,16 @@ impl Tag {
         if address == MB_MODE && self.registers.mb_mode == 0 && self.mailbox.enabled() {
             // Datasheet, MB_EN falls with MB_MODE (D23).
             self.mailbox.switch_off();
+        }
+    }
+
+    /// RF_MNGT_Dyn as frames are judged by it. 01: "Inside a transfer RF_MNGT_Dyn counts as at
+    /// the transfer's start (house)".
+    pub fn rf_mngt_dyn_for_frames(&self) -> u8 {
+        if self.bus.transfer_open() {
+            self.kept_rf_mngt_dyn
+        } else {
+            self.rf_mngt_dyn
         }
     }
 

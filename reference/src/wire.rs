@@ -23,19 +23,27 @@ pub fn vcc(tag: &mut Tag, level: bool) {
     tag.rf_mngt_dyn = tag.registers.rf_mngt;
     if !level {
         tag.i2c_session = false;
-        tag.bus = Bus::Idle;
+        close_transfer(tag);
         tag.programming = false;
         tag.mailbox.switch_off();
         tag.counter = 0;
     }
 }
 
-/// 01: a Start ends the leg and drops its writes; without VCC it changes nothing.
-pub fn start(tag: &mut Tag) {
+/// The bus is idle, and what was kept of a transfer is gone.
+fn close_transfer(tag: &mut Tag) {
+    tag.bus = Bus::Idle;
+    tag.kept_rf_mngt_dyn = 0;
+}
+
+/// 01: a Start ends the leg and drops its writes, but for those of 02, Ask 1; without VCC it
+/// changes nothing.
+pub fn start(tag: &mut Tag, memory: &[u8]) {
     if !tag.vcc {
         return;
     }
     end_of_read_leg(tag);
+    end_of_dynamic_leg(tag, memory);
     tag.bus = Bus::Started {
         open: tag.bus.transfer_open(),
     };
@@ -45,6 +53,28 @@ pub fn start(tag: &mut Tag) {
 fn end_of_read_leg(tag: &mut Tag) {
     if let Bus::Read { last: true, .. } = tag.bus {
         tag.mailbox.control &= !RF_PUT;
+    }
+}
+
+/// 02, Ask 1: "an unspoiled leg that wrote RF_MNGT_Dyn or MB_CTRL_Dyn now takes effect when the
+/// leg ends in Start as well as in Stop".
+fn end_of_dynamic_leg(tag: &mut Tag, memory: &[u8]) {
+    if let Bus::Data {
+        space: Space::User,
+        count: 1,
+        spoiled: false,
+    } = tag.bus
+    {
+        write_dynamic(tag, tag.counter.wrapping_sub(1), memory[PAGE_PLACE]);
+    }
+}
+
+/// A leg's byte to the dynamic register at `address`; elsewhere in user space there is none.
+fn write_dynamic(tag: &mut Tag, address: u16, byte: u8) {
+    match address {
+        RF_MNGT_DYN => tag.rf_mngt_dyn = byte & defined_bits(RF_MNGT),
+        MB_CTRL_DYN => tag.write_mb_ctrl(byte),
+        _ => {}
     }
 }
 
@@ -73,8 +103,10 @@ pub fn send(tag: &mut Tag, memory: &mut [u8], byte: u8) -> bool {
 }
 
 /// 01: "Another select byte, or programming under way, or no VCC: NoAck",
-/// and "a select not Acked leaves the bus idle".
+/// and "a select not Acked leaves the bus idle". The Acked one that opens a transfer has
+/// RF_MNGT_Dyn kept.
 fn select(tag: &mut Tag, byte: u8) -> bool {
+    let open = tag.bus.transfer_open();
     let leg = match byte {
         USER_WRITE => Bus::AddressHigh { space: Space::User },
         SYSTEM_WRITE => Bus::AddressHigh {
@@ -92,12 +124,15 @@ fn select(tag: &mut Tag, byte: u8) -> bool {
         },
         _ => Bus::Idle,
     };
-    tag.bus = if tag.vcc && !tag.programming {
-        leg
-    } else {
-        Bus::Idle
-    };
-    tag.bus != Bus::Idle
+    if leg == Bus::Idle || !tag.vcc || tag.programming {
+        close_transfer(tag);
+        return false;
+    }
+    tag.bus = leg;
+    if !open {
+        tag.kept_rf_mngt_dyn = tag.rf_mngt_dyn;
+    }
+    true
 }
 
 /// 01: "Acked data byte k of a write leg goes to page place k"; the first NoAck spoils the leg.
@@ -212,7 +247,7 @@ pub fn stop(tag: &mut Tag, memory: &mut [u8]) {
             write_leg(tag, memory, space, usize::from(count));
         }
     }
-    tag.bus = Bus::Idle;
+    close_transfer(tag);
 }
 
 /// A leg's `count` page bytes go to their places.
@@ -221,8 +256,7 @@ fn write_leg(tag: &mut Tag, memory: &mut [u8], space: Space, count: usize) {
     let (lent, page) = memory.split_at_mut(PAGE_PLACE);
     let page = &page[..count];
     match (space, first) {
-        (Space::User, RF_MNGT_DYN) => tag.rf_mngt_dyn = page[0] & defined_bits(RF_MNGT),
-        (Space::User, MB_CTRL_DYN) => tag.write_mb_ctrl(page[0]),
+        (Space::User, RF_MNGT_DYN | MB_CTRL_DYN) => write_dynamic(tag, first, page[0]),
         (Space::User, MAILBOX_FIRST) => {
             lent[MAILBOX_PLACE..MAILBOX_PLACE + count].copy_from_slice(page);
             tag.mailbox.host_put(count as u16);

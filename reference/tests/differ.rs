@@ -2,9 +2,10 @@
 
 use std::collections::BTreeSet;
 
-use reference::bench;
+use reference::bench::{self, Bench};
 use reference::cut::cut;
 use reference::script::{script, text, Line};
+use reference::tag::*;
 
 fn answers(lines: &[Line], ended: bool) -> Vec<String> {
     let mut output = Vec::new();
@@ -67,6 +68,123 @@ fn scripts_reach_every_row() {
             assert!(reached.contains(&row), "{row:?}");
         }
     }
+}
+
+/// The register of the dynamic leg under way, and whether a second byte has spoiled it.
+fn dynamic_leg(tag: &Tag) -> Option<(u16, bool)> {
+    match tag.bus {
+        Bus::Data {
+            space: Space::User,
+            count: 1,
+            spoiled,
+        } => {
+            let register = tag.counter.wrapping_sub(1);
+            let dynamic = [RF_MNGT_DYN, MB_CTRL_DYN].contains(&register);
+            dynamic.then_some((register, spoiled))
+        }
+        _ => None,
+    }
+}
+
+/// What comes after the Start, once that is known.
+fn next_leg(before: &Tag, line: &[u8], after: &Tag) -> Option<&'static str> {
+    match (line, after.bus) {
+        (b"P", _) => Some("Stop"),
+        (b"V\t0", _) => Some("VCC off"),
+        (_, Bus::Idle) => Some("select not Acked"),
+        (_, Bus::Read { space, .. }) => Some(match space {
+            Space::User => "user read",
+            Space::System => "system read",
+        }),
+        (_, Bus::Data { space, .. }) if before.bus != after.bus => match (space, after.counter) {
+            (Space::System, PASSWORD_PLACE) => Some("password"),
+            (Space::System, _) => Some("system"),
+            (_, MAILBOX_FIRST) => Some("mailbox"),
+            (_, RF_MNGT_DYN) => Some("RF_MNGT_Dyn"),
+            (_, MB_CTRL_DYN) => Some("MB_CTRL_Dyn"),
+            (_, 0..=0x01FF) => Some("memory"),
+            _ => Some("nothing"),
+        },
+        _ => None,
+    }
+}
+
+/// Each dynamic register in a leg that a Start ends, spoiled and not, before each kind of leg. MB_EN before and after
+/// it. Frames in the transfer before the Start, after it and after the next select, the kept value and the register
+/// having each of their values.
+#[test]
+fn scripts_reach_legs_ended_by_a_start() {
+    let (mut legs, mut enables) = (BTreeSet::new(), BTreeSet::new());
+    let (mut frames, mut openings) = (BTreeSet::new(), BTreeSet::new());
+    for seed in 1..=200 {
+        let mut bench = Bench::fresh();
+        // The leg that the last Start ended, until it is known what comes next; whether one was in this transfer;
+        // RF_MNGT_Dyn at the last Start.
+        let (mut ended, mut changed, mut at_start) = (None, false, 0);
+        for line in script(seed, 2000).lines {
+            let before = bench.tag.clone();
+            bench.answer(Some(&line), &mut Vec::new()).unwrap();
+            let after = &bench.tag;
+            if line.starts_with(b"R\t") {
+                let place = match before.bus {
+                    _ if dynamic_leg(&before).is_some() => "in the leg",
+                    Bus::Started { .. } if changed => "after the Start",
+                    _ if changed => "after the select",
+                    _ => "",
+                };
+                frames.insert((place, after.kept_rf_mngt_dyn, after.rf_mngt_dyn));
+            } else if line == b"S" {
+                ended = dynamic_leg(&before);
+                if let Some(leg) = ended {
+                    enables.insert((leg, before.mailbox.enabled(), after.mailbox.enabled()));
+                    changed = true;
+                }
+                at_start = after.rf_mngt_dyn;
+            } else if let (Some(leg), Some(next)) = (ended, next_leg(&before, &line, after)) {
+                legs.insert((leg, next));
+                ended = None;
+            }
+            if after.bus.transfer_open() && !before.bus.transfer_open() {
+                openings.insert((at_start, after.kept_rf_mngt_dyn));
+            }
+            changed &= after.bus.transfer_open();
+        }
+    }
+    let kinds = [
+        "Stop",
+        "VCC off",
+        "select not Acked",
+        "user read",
+        "system read",
+        "password",
+        "system",
+        "mailbox",
+        "RF_MNGT_Dyn",
+        "MB_CTRL_Dyn",
+        "memory",
+    ];
+    for register in [RF_MNGT_DYN, MB_CTRL_DYN] {
+        for spoiled in [false, true] {
+            for next in kinds {
+                let leg = ((register, spoiled), next);
+                assert!(legs.contains(&leg), "{leg:x?}");
+            }
+        }
+    }
+    for change in [(false, true), (true, false), (false, false), (true, true)] {
+        let enable = ((MB_CTRL_DYN, false), change.0, change.1);
+        assert!(enables.contains(&enable), "{enable:x?}");
+    }
+    for kept in 0..4 {
+        for now in 0..4 {
+            for place in ["in the leg", "after the Start", "after the select"] {
+                let frame = (place, kept, now);
+                assert!(frames.contains(&frame), "{frame:?}");
+            }
+        }
+    }
+    // RF_MNGT written by radio between the Start and the select that opens the transfer.
+    assert!(openings.contains(&(0, 1)) && openings.contains(&(0, 2)));
 }
 
 /// A program that goes wrong at the second P after a D, told from one that does not.

@@ -4,8 +4,8 @@ use std::collections::BTreeSet;
 
 use reference::bench::UID;
 use reference::dice::Dice;
-use reference::faults::{chosen, make, several, Call, Lent, OF_FRESH, OF_STEP};
-use reference::state::{self, STATE_SIZE};
+use reference::faults::{change, chosen, kept, make, several, Call, Kept, Lent, OF_FRESH, OF_STEP};
+use reference::state::{self, at, STATE_SIZE};
 use reference::tag::{MEMORY_SIZE, REPLY_SIZE};
 
 fn right() -> (Lent, Call) {
@@ -84,4 +84,35 @@ fn every_pair_comes_up() {
         }
     }
     assert_eq!(pairs.len(), OF_STEP.len() * OF_STEP.len());
+}
+
+/// Changed states have another kept RF_MNGT_Dyn, in range, with undefined bits, and with no transfer open. The first
+/// is taken, the others are refused.
+#[test]
+fn the_kept_byte_comes_up() {
+    let mut dice = Dice::new(3);
+    let mut reached = BTreeSet::new();
+    for round in 0..20_000_u32 {
+        let (mut lent, mut call) = right();
+        lent.state[at::VCC] = 1;
+        lent.state[at::BUS] = (round % 6) as u8;
+        lent.state[at::TRANSFER_OPEN] = u8::from(round % 12 == 1);
+        let before = lent.clone();
+        change(&mut dice, &mut lent, &mut call);
+        if lent.state.len() == STATE_SIZE
+            && lent.state[at::KEPT_RF_MNGT_DYN] != before.state[at::KEPT_RF_MNGT_DYN]
+        {
+            let kind = kept(&lent.state);
+            reached.insert((kind, lent.state[at::BUS], step(&mut lent, &call) >= 0x100));
+        }
+    }
+    for bus in 1..6 {
+        assert!(reached.contains(&(Kept::InRange, bus, true)), "{bus}");
+        assert!(reached.contains(&(Kept::Undefined, bus, false)), "{bus}");
+    }
+    for bus in 0..2 {
+        assert!(reached.contains(&(Kept::Unused, bus, false)), "{bus}");
+    }
+    let refused = |&(kind, _, taken): &(Kept, u8, bool)| kind == Kept::InRange || !taken;
+    assert!(reached.iter().all(refused));
 }

@@ -1,4 +1,4 @@
-//! 01's listing, its twelve pairs, refusals and some ranges.
+//! 01's listing, its twelve pairs, refusals and some ranges; 02's Ask 1.
 
 use reference::bench::{self, UID};
 use reference::crc::crc;
@@ -497,6 +497,123 @@ fn state_bytes() {
             bytes[place] = before;
         }
     }
-    bytes[at::RF_MNGT - 1] = 1; // a page byte count with the bus idle
+    bytes[at::KEPT_RF_MNGT_DYN - 1] = 1; // a page byte count with the bus idle
     assert_eq!(state::decode(&bytes), None);
+}
+
+/// RF_MNGT_Dyn as kept: any value of an open transfer is a state, undefined bits break a range; with none open it
+/// is not used.
+#[test]
+fn kept_byte() {
+    let open: [&[u8]; 5] = [&[1, 0, 1], &[2], &[3], &[4], &[5]];
+    let none: [&[u8]; 2] = [&[0], &[1]];
+    let (tag, memory, _) = powered();
+    for kept in 0..=255 {
+        let decoded = |bus: &[u8]| {
+            let mut bytes = state::encode(&tag);
+            bytes[at::BUS..at::BUS + bus.len()].copy_from_slice(bus);
+            bytes[at::KEPT_RF_MNGT_DYN] = kept;
+            state::decode(&bytes)
+        };
+        for bus in open {
+            let tag = decoded(bus).expect("a transfer is open");
+            assert_eq!(tag.kept_rf_mngt_dyn, kept);
+            assert_eq!(model::in_range(&tag, &memory), kept < 4);
+        }
+        for bus in none {
+            assert_eq!(decoded(bus).is_some(), kept == 0);
+        }
+    }
+}
+
+/// A tag made by hand, not by bytes, that keeps a value with no transfer open.
+#[test]
+fn kept_without_a_transfer() {
+    let (mut tag, memory, _) = powered();
+    tag.kept_rf_mngt_dyn = 1;
+    assert!(!model::in_range(&tag, &memory));
+    tag.bus = Bus::Started { open: true };
+    assert!(model::in_range(&tag, &memory));
+}
+
+// 02, Ask 1.
+
+/// Legs without their Stop, as "send" has them after a Start.
+const SLEEP: [(&str, &str); 2] = [("S", "-"), ("send A6 20 03 02", "A A A A")];
+const ENABLE: [(&str, &str); 2] = [("S", "-"), ("send A6 20 06 01", "A A A A")];
+const MODE_ON: [(&str, &str); 2] = [PRESENT, ("leg AE 00 0D 01", LEG_4)];
+
+#[test]
+fn ask_1_frames_are_judged_by_the_opening_select() {
+    let rest = [("S", "-"), ("R 022000", "010F"), ("P", "-")];
+    from_powered(&[&SLEEP[..], &rest, &[("R 022000", "-")]].concat());
+    let off = [("leg A6 20 03 02", LEG_4), ("R 022000", "-"), ("S", "-")];
+    let back = [("send A6 20 03 00", "A A A A"), ("S", "-"), ("B A7", "A")];
+    let ends = [("R 022000", "-"), ("P", "-"), ("R 022000", "0000000000")];
+    from_powered(&[&off[..], &back, &ends].concat());
+    // Not by the Start before that select: a frame between the two still writes.
+    let write = [("R 02B302000000000000000000", "00"), ("S", "-")];
+    let between = [("R 02A1020302", "00"), ("B A6", "A"), ("R 022000", "-")];
+    from_powered(&[&write[..], &between].concat());
+}
+
+#[test]
+fn ask_1_a_fetch_gives_the_new_value() {
+    let read = [
+        ("S", "-"),
+        ("send A6 20 03", "A A A"),
+        ("S", "-"),
+        ("B A7", "A"),
+        ("G 1", "02"),
+        ("R 022000", "010F"),
+        ("P", "-"),
+    ];
+    from_powered(&[&SLEEP[..], &read].concat());
+}
+
+/// The customer's driver: MB_EN by a leg that a Start ends, the message by the next leg.
+#[test]
+fn ask_1_enable_and_put_in_one_transfer() {
+    let put = [("S", "-"), ("send A6 20 08 C1 C2", "A A A A A"), ("P", "-")];
+    let read = [("R 02AC020000", "00C1C2"), ("R 02AD020D", "0041")];
+    from_powered(&[&MODE_ON[..], &ENABLE, &put, &read].concat());
+    // The memory is closed by it at once, and opened again.
+    let closed = [("S", "-"), ("send A6 00 04 11", "A A A N")];
+    let clear = [("S", "-"), ("send A6 20 06 00", "A A A A")];
+    let opened = [("S", "-"), ("send A6 00 04 11", "A A A A"), ("P", "-")];
+    from_powered(&[&MODE_ON[..], &ENABLE, &closed, &clear, &opened].concat());
+}
+
+#[test]
+fn ask_1_no_effect() {
+    let asked = [("R 02AD020D", "0000")];
+    // A second byte spoils the leg; VCC off drops it; MB_MODE 0 lets nothing be set.
+    let spoiled = [("B 01", "N"), ("S", "-"), ("P", "-")];
+    from_powered(&[&MODE_ON[..], &ENABLE, &spoiled, &asked].concat());
+    let dropped = [("V 0", "-"), ("V 1", "-")];
+    from_powered(&[&MODE_ON[..], &ENABLE, &dropped, &asked].concat());
+    let ended = [("S", "-"), ("P", "-")];
+    from_powered(&[&ENABLE[..], &ended, &asked].concat());
+}
+
+#[test]
+fn ask_1_a_select_not_acked_comes_too_late() {
+    let ends = [("S", "-"), ("B A4", "N"), ("R 022000", "-"), ("P", "-")];
+    from_powered(&[&SLEEP[..], &ends].concat());
+}
+
+/// Memory, system, password and mailbox legs keep needing the Stop.
+#[test]
+fn ask_1_other_legs_are_dropped() {
+    let dropped = [("S", "-"), ("P", "-")];
+    let memory = [("S", "-"), ("send A6 00 04 11", "A A A A")];
+    let asked = [("R 022001", "0000000000")];
+    from_powered(&[&memory[..], &dropped, &asked].concat());
+    let system = [PRESENT, ("S", "-"), ("send AE 00 03 02", "A A A A")];
+    let asked = [("R 02A00203", "0000")];
+    from_powered(&[&system[..], &dropped, &asked].concat());
+    let on = [("leg A6 20 06 01", LEG_4), ("S", "-")];
+    let mailbox = [("send A6 20 08 C1", "A A A A")];
+    let asked = [("R 02AC020000", "010F")];
+    from_powered(&[&MODE_ON[..], &on, &mailbox, &dropped, &asked].concat());
 }

@@ -8,17 +8,21 @@ use reference::dice::Dice;
 use reference::pieces::{pieces, Style, STYLES};
 use reference::script::{long_script, text, Script};
 
-/// A source that gives a piece at each read.
+/// A source that gives a piece at each read, a large one in several.
 struct Pieces<'a> {
     text: &'a [u8],
     lengths: std::vec::IntoIter<usize>,
+    /// What is left of the piece.
+    left: usize,
 }
 
 impl Read for Pieces<'_> {
     fn read(&mut self, room: &mut [u8]) -> Result<usize> {
-        let Some(length) = self.lengths.next() else {
-            return Ok(0);
-        };
+        if self.left == 0 {
+            self.left = self.lengths.next().unwrap_or(0);
+        }
+        let length = self.left.min(room.len());
+        self.left -= length;
         let (piece, rest) = self.text.split_at(length);
         room[..length].copy_from_slice(piece);
         self.text = rest;
@@ -63,6 +67,7 @@ fn the_reference_reads_pieces_as_the_whole() {
             let source = Pieces {
                 text: &input,
                 lengths,
+                left: 0,
             };
             let mut output = Vec::new();
             bench::run(source, &mut output).unwrap();

@@ -1,3 +1,4 @@
 pub mod Frames
 pub mod Transfers
 pub mod Demand2
+pub mod RepeatedStart

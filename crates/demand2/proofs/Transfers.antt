@@ -9,6 +9,7 @@ use borrow.Author.Tests.{leb-true}
 use Rattle.parts.specs.Pick.{pick}
 use Rattle.parts.proofs.Bools.{and-left, and-right}
 use Rattle.bus.specs.declared.Bus.{Bus}
+use Rattle.bus.specs.declared.Transfer.the-variants.{Closed}
 use Rattle.bus.specs.declared.Bus.the-variants.{Started}
 use Rattle.tag.specs.declared.WireSide.{WireSide}
 use Rattle.tag.specs.Layout.{replyBytes}
@@ -101,5 +102,5 @@ transfer-served d ws r l b v p e h =
     let w = wireSide (d .tag) in
     run-notes ws d (record { range = r; size = l }) h
     ∙ ap (λ (q : TransferResult). left d q ws)
-    (ap (λ (w : WireSide). runOf w (d .tag .uid) (d .memory) (signals ws)) (sym (started w (Started false) b))
-    ∙ sym (transfer-by-signals (signals ws) e w (d .tag .uid) (d .memory) false (record { vcc = v; still = p; bytes = l })))
+    (ap (λ (w : WireSide). runOf w (d .tag .uid) (d .memory) (signals ws)) (sym (started w (Started Closed) b))
+    ∙ sym (transfer-by-signals (signals ws) e w (d .tag .uid) (d .memory) Closed (record { vcc = v; still = p; bytes = l })))

@@ -5,7 +5,9 @@ use mathlib.Core.List.{List, [], _∷_}
 use Prim.Native.Nat.{ℕ, _≤_}
 use lib.Dec.{leb}
 use lib.ListN.{length}
+use Rattle.bus.specs.declared.Transfer.the-variants.{Closed}
 use Rattle.bus.specs.declared.Bus.the-variants.{Started}
+use Rattle.bus.specs.Bus.{transferAt}
 use Rattle.tag.specs.declared.Tag.{Tag}
 use Rattle.tag.specs.Layout.{memoryBytes, replyBytes}
 use Rattle.signal.specs.declared.WireAnswer.{WireAnswer}
@@ -15,7 +17,7 @@ use Rattle.transfer.specs.Legs.{Noted, NotedStart, NotedSend, NotedFetch, Noted
 use Rattle.transfer.specs.Whole.{transferOf}
 use Rattle.reply.specs.Reply.{bufferOf, answerOf}
 use Rattle.radio.specs.Radio.{radioOf}
-use Rattle.model.specs.Step.{stepResult, fromWire, fromRadio, transferOpen, stepOf}
+use Rattle.model.specs.Step.{stepResult, fromWire, fromRadio, stepOf}
 use Rattle.refusals.specs.Refusals.{tagInRange}
 use Rattle.reply.specs.Outcome.{radioSide, withRadio}
 use Rattle.model.specs.Claims.{Fit}
@@ -71,7 +73,7 @@ abbrev pub TransferServed : Type 0
 TransferServed = (d : Device) (handed : List WireCall)
     → tagInRange (d .tag) (d .memory) ≡ true → length (d .memory) ≡ memoryBytes
     -- the bus is started and no transfer open, and a select would be Acked
-    → d .tag .host .bus ≡ Started false → d .tag .host .vcc ≡ true → d .tag .host .programming ≡ false
+    → d .tag .host .bus ≡ Started Closed → d .tag .host .vcc ≡ true → d .tag .host .programming ≡ false
     → finished true (signals handed) ≡ true → allServed handed ≡ true
     → runBy entry d (wireCalls handed)
     ≡ (let result = transferOf (wireSide (d .tag)) (d .tag .uid) (d .memory) (signals handed) in
@@ -81,7 +83,7 @@ TransferServed = (d : Device) (handed : List WireCall)
 abbrev pub FrameServed : Type 0
 FrameServed = (t : Tag) (m o f : List ℕ) → Fit t m → replyBytes ≤ length o
     → stepOf t m (handedIn o 8 0 f)
-    ≡ (let result = radioOf (radioSide t) (t .uid) (t .host .vcc) (transferOpen t) (t .host .programming) m f in
+    ≡ (let result = radioOf (radioSide t) (t .uid) (t .host .vcc) (transferAt (t .host .bus)) (t .host .programming) m f in
     stepResult (fromRadio (answerOf (result .reply))) (withRadio (result .side) t) (result .memory) (bufferOf (result .reply) o))
 
 -- ---- both

@@ -2,7 +2,8 @@
 use mathlib.Core.Path.{_≡_, refl, sym, ap, _∙_}
 use mathlib.Core.Bool.{Bool, true, false, not, _&&_, false≢true}
 use Rattle.parts.proofs.Bools.{and-left, and-right}
-use Rattle.wire_claims.proofs.Line.{registers-stay}
+use Rattle.wire_claims.specs.Claims.{sideCounted}
+use Rattle.wire_claims.proofs.Line.{counted-stays}
 use Rattle.rule_list.specs.RuleList.{anyHolds}
 use Rattle.refusals.specs.declared.Refusal.{Refusal}
 use Rattle.refusals.specs.declared.Judgement.the-variants.{RefusedBy}
@@ -15,14 +16,20 @@ use Rattle.signal_table.specs.declared.Signal.{Signal}
 use Rattle.signal_table.specs.declared.Signal.the-variants.{Wire, Field, Frame}
 use Rattle.signal_table.specs.Table.{signalBy}
 use Rattle.model.specs.Step.{transferOpen, actOf, isRefused}
+use Rattle.register_types.specs.declared.RfMngt.{RfMngt}
+use Rattle.tag.specs.declared.Tag.{Tag}
 use Rattle.tag.specs.Parts.{wireSide}
 use Rattle.refusals.specs.Call.{Call}
 use Rattle.calls.specs.Calls.{Device, DeviceResult, deviceResult, entry, callReply}
-use Rattle.demand3.specs.Demand3.{refusedByState, isFrame, struck, shutReply}
+use Rattle.demand3.specs.Demand3.{refusedByState, isFrame, struck}
 use Rattle.calls.proofs.Laws.{Fits, actedBy, found, call-case, supplied}
-use Rattle.waiting.proofs.Frames.{frame-shut}
+use Rattle.waiting.proofs.Frames.{shutBy, frame-shut}
 
 -- ---- a struck call
+-- RF_MNGT_Dyn as it counts for a frame
+abbrev pub tagCounted : Tag → RfMngt
+tagCounted t = sideCounted (wireSide t)
+
 of-frame : (x : Signal) → isFrame x ≡ true → x ≡ Frame
 unfolding isFrame
 of-frame (Wire s) h = absurd (false≢true h)
@@ -30,13 +37,13 @@ of-frame (Field on) h = absurd (false≢true h)
 of-frame Frame h = refl
 
 pub struck-is : (d : Device) (c : Call) → Fits d → struck entry d c ≡ true
-    → entry d c ≡ deviceResult (callReply (shutReply (d .tag) (d .tag .air) (c .frame)) (c .buffer)) d
+    → entry d c ≡ deviceResult (callReply (shutBy (c .frame) (d .tag .air) (d .tag .uid) (tagCounted (d .tag))) (c .buffer)) d
 unfolding struck isRefused
 struck-is d c f h =
     let opened = transferOpen (d .tag) in
     let frame = isFrame (signalBy (c .code) (c .value)) in
     let both = and-left (opened && frame) (not (isRefused (entry d c .says .answer))) h in
-    call-case (λ (e : DeviceResult). not (isRefused (e .says .answer)) ≡ true → e ≡ deviceResult (callReply (shutReply (d .tag) (d .tag .air) (c .frame)) (c .buffer)) d) d c f
+    call-case (λ (e : DeviceResult). not (isRefused (e .says .answer)) ≡ true → e ≡ deviceResult (callReply (shutBy (c .frame) (d .tag .air) (d .tag .uid) (tagCounted (d .tag))) (c .buffer)) d) d c f
     (λ r found n. absurd (false≢true n))
     (λ n. ap (λ (x : Signal). actedBy x d c) (of-frame _ (and-right opened frame both)) ∙ frame-shut d c (and-left opened frame both))
     (and-right (opened && frame) (not (isRefused (entry d c .says .answer))) h)
@@ -44,18 +51,18 @@ struck-is d c f h =
 -- ---- what a call that leaves a transfer open keeps
 pub record Stays (d : Device) (e : DeviceResult) : Type 0 where
   pub uid : e .device .tag .uid ≡ d .tag .uid
-  pub registers : transferOpen (e .device .tag) ≡ true → e .device .tag .core .registers ≡ d .tag .core .registers
+  pub counted : transferOpen (e .device .tag) ≡ true → tagCounted (e .device .tag) ≡ tagCounted (d .tag)
 
 act-stays : (x : Signal) (d : Device) (c : Call) → Fits d → Stays d (actedBy x d c)
 unfolding actOf
 act-stays (Wire x) d c f =
-    record { uid = refl; registers = registers-stay (wireSide (d .tag)) (d .tag .uid) (d .memory) x (supplied (d .tag) (d .memory) f) }
-act-stays (Field on) d c f = record { uid = refl; registers = λ h. refl }
-act-stays Frame d c f = record { uid = refl; registers = λ h. ap (λ (e : DeviceResult). e .device .tag .core .registers) (frame-shut d c h) }
+    record { uid = refl; counted = counted-stays (wireSide (d .tag)) (d .tag .uid) (d .memory) x (supplied (d .tag) (d .memory) f) }
+act-stays (Field on) d c f = record { uid = refl; counted = λ h. refl }
+act-stays Frame d c f = record { uid = refl; counted = λ h. ap (λ (e : DeviceResult). tagCounted (e .device .tag)) (frame-shut d c h) }
 
 pub call-stays : (d : Device) (c : Call) → Fits d → Stays d (entry d c)
 call-stays d c f =
-    call-case (Stays d) d c f (λ r found. record { uid = refl; registers = λ h. refl })
+    call-case (Stays d) d c f (λ r found. record { uid = refl; counted = λ h. refl })
     (act-stays (signalBy (c .code) (c .value)) d c f)
 
 -- ---- its answer is not refusal 1 or 4

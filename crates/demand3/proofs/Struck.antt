@@ -5,7 +5,8 @@ use mathlib.Core.Bool.{Bool, true, false, _||_}
 use mathlib.Core.List.{List, [], _∷_}
 use Rattle.parts.specs.Pick.{pick}
 use Rattle.parts.proofs.Picks.{pick-case}
-use Rattle.registers.specs.declared.Registers.{Registers}
+use Rattle.register_types.specs.declared.RfMngt.{RfMngt}
+use Rattle.bus.specs.Bus.{isOpen, transferAt}
 use Rattle.keys.specs.declared.Uid.{Uid}
 use Rattle.tag.specs.declared.Tag.{Tag}
 use Rattle.model.specs.Step.{transferOpen}
@@ -13,30 +14,34 @@ use Rattle.refusals.specs.Call.{Call}
 use Rattle.calls.specs.Calls.{CallAnswer, Device, DeviceResult, RunResult, runResult, entry, runBy, framesFit, callReply}
 use Rattle.demand3.specs.Demand3.{stateRefused, struck, others, otherAnswers, Shut, startAfter, EachStruck, AllShut, RepliesShut}
 use Rattle.calls.proofs.Laws.{Fits, first-fits, rest-fits, fits-next}
+use Rattle.wire_claims.proofs.Line.{closed-counted}
 use Rattle.waiting.proofs.Frames.{shutBy}
-use Rattle.demand3.proofs.OneCall.{struck-is, Stays, call-stays, call-judged}
+use Rattle.demand3.proofs.OneCall.{tagCounted, struck-is, Stays, call-stays, call-judged}
 
 -- ---- one call
--- the start of the open transfer has the tag's UID and registers
+-- the start of the open transfer has the tag's UID, and the RF_MNGT_Dyn that counts; with none open the tag is its own start
 pub record Since (start t : Tag) : Type 0 where
   pub uid : start .uid ≡ t .uid
-  pub registers : start .core .registers ≡ t .core .registers
+  pub counted : start .core .registers .dynamic ≡ tagCounted t
 
 shut-reply : (start : Tag) (d : Device) (c : Call) → Fits d → Since start (d .tag) → struck entry d c ≡ true → RepliesShut entry start d c
 shut-reply start d c f s h =
     ap (λ (e : DeviceResult). e .says) (struck-is d c f h)
-    ∙ ap (λ (u : Uid). callReply (shutBy (c .frame) (d .tag .air) u (d .tag .core .registers .dynamic)) (c .buffer)) (sym (s .uid))
-    ∙ ap (λ (g : Registers). callReply (shutBy (c .frame) (d .tag .air) (start .uid) (g .dynamic)) (c .buffer)) (sym (s .registers))
+    ∙ ap (λ (u : Uid). callReply (shutBy (c .frame) (d .tag .air) u (tagCounted (d .tag))) (c .buffer)) (sym (s .uid))
+    ∙ ap (λ (x : RfMngt). callReply (shutBy (c .frame) (d .tag .air) (start .uid) x) (c .buffer)) (sym (s .counted))
 
 shut-call : (start : Tag) (d : Device) (c : Call) → Fits d → Since start (d .tag) → struck entry d c ≡ true → Shut entry start d c
 shut-call start d c f s h = record { unchanged = ap (λ (e : DeviceResult). e .device) (struck-is d c f h); reply = shut-reply start d c f s h }
 
 -- with none open the tag itself is the start
 since-after : (start t : Tag) → (transferOpen t ≡ true → Since start t) → Since (startAfter start t) t
-since-after start t h = pick-case (λ (x : Tag). Since x t) (transferOpen t) start t h (λ n. record { uid = refl; registers = refl })
+unfolding isOpen
+since-after start t h =
+    pick-case (λ (x : Tag). Since x t) (transferOpen t) start t h
+    (λ n. record { uid = refl; counted = sym (closed-counted (transferAt (t .host .bus)) (t .core .registers .dynamic) n) })
 
 since-next : (start : Tag) (d : Device) (e : DeviceResult) → Stays d e → Since start (d .tag) → transferOpen (e .device .tag) ≡ true → Since start (e .device .tag)
-since-next start d e k s h = record { uid = s .uid ∙ sym (k .uid); registers = s .registers ∙ sym (k .registers h) }
+since-next start d e k s h = record { uid = s .uid ∙ sym (k .uid); counted = s .counted ∙ sym (k .counted h) }
 
 -- `rest` are the calls left of the others, `callAnswer` their answers
 abbrev pub RunsTo : Device → List Call → List CallAnswer → Device → Type 0

@@ -10,11 +10,12 @@ use Rattle.parts.specs.Pick.{pick}
 use Rattle.parts.proofs.Picks.{pick-true, pick-false, pick-case}
 use Rattle.parts.proofs.Bools.{and-left, and-right}
 use Rattle.bus.specs.declared.Space.the-variants.{User, System}
+use Rattle.register_types.specs.declared.RfMngt.{RfMngt}
 use Rattle.air.specs.declared.Air.{Air}
 use Rattle.bus.specs.declared.Bus.{Bus}
 use Rattle.bus.specs.declared.Bus.the-variants.{Idle, Started, ReadLeg, WriteLeg, LowAddress, DataLeg}
 use Rattle.tag.specs.declared.Tag.{Tag}
-use Rattle.bus.specs.Bus.{isOpen, pageBytes}
+use Rattle.bus.specs.Bus.{keptOf, transferAt, isOpenTransfer, isOpen, pageBytes}
 use Rattle.ranges.specs.Ranges.{airInRange, hostInRange}
 use Rattle.signal_table.specs.Table.{signalBy}
 use Rattle.model.specs.Step.{transferOpen, isRefused}
@@ -24,7 +25,7 @@ use Rattle.calls.specs.Calls.{CallAnswer, Device, DeviceResult, entry, runBy, f
 use Rattle.calls.specs.Examples.{_but_, radioSession, onBus, fieldIs}
 use Rattle.waiting.specs.Waiting.{noTransfer}
 use Rattle.demand3.specs.Demand3.{isFrame, struck, shutReply, startAfter, EachStruck, Same, EveryList, Unchanged, RepliesShut}
-use Rattle.wrong_tags.specs.Pinned.{behind, sessionShown, sessionRaised, mark, isMarked, isUserWriteLeg, withoutMark, frameMarked, inFieldAgain, fieldHidden}
+use Rattle.wrong_tags.specs.Pinned.{behind, sessionShown, sessionRaised, mark, keptBy, isMarked, isUserWriteLeg, withoutMark, frameMarked, inFieldAgain, fieldHidden}
 use Rattle.demand3_parts.specs.OnlyTells.{OnlyTagTells, OnlyUnchangedTells, OnlyReplyTells}
 use Rattle.calls.proofs.Laws.{Fits, first-fits, rest-fits, fits-next}
 use Rattle.demand3.proofs.OneCall.{struck-is}
@@ -123,18 +124,18 @@ unmarked : (d : Device) → Fits d → isMarked d ≡ false
 unfolding hostInRange
 unmarked d f =
     let bus = d .tag .host .bus in
-    let page = and-left (leb (pageBytes bus) 256) _ (range-parts (d .tag) (d .memory) (f .range) .host) in
+    let page = and-left (leb (pageBytes bus) 256) _ (and-left (leb (pageBytes bus) 256 && _) _ (range-parts (d .tag) (d .memory) (f .range) .host)) in
     ne-eqb (pageBytes bus) 300 (λ e. absurd (omega (arith, leb-true (pageBytes bus) 256 page, e)))
 
-is-user-write-leg : (b : Bus) → isUserWriteLeg b ≡ true → b ≡ WriteLeg User
-unfolding isUserWriteLeg
-is-user-write-leg Idle h = absurd (false≢true h)
-is-user-write-leg (Started o) h = absurd (false≢true h)
-is-user-write-leg (ReadLeg s o l) h = absurd (false≢true h)
-is-user-write-leg (WriteLeg User) h = refl
-is-user-write-leg (WriteLeg System) h = absurd (false≢true h)
-is-user-write-leg (LowAddress s x) h = absurd (false≢true h)
-is-user-write-leg (DataLeg s n x) h = absurd (false≢true h)
+is-user-write-leg : (b : Bus) (dynamic : RfMngt) → isUserWriteLeg b ≡ true → b ≡ WriteLeg (keptOf (transferAt b) dynamic) User
+unfolding isUserWriteLeg keptOf transferAt
+is-user-write-leg Idle dynamic h = absurd (false≢true h)
+is-user-write-leg (Started o) dynamic h = absurd (false≢true h)
+is-user-write-leg (ReadLeg kept s o l) dynamic h = absurd (false≢true h)
+is-user-write-leg (WriteLeg kept User) dynamic h = refl
+is-user-write-leg (WriteLeg kept System) dynamic h = absurd (false≢true h)
+is-user-write-leg (LowAddress kept s x) dynamic h = absurd (false≢true h)
+is-user-write-leg (DataLeg kept s n x) dynamic h = absurd (false≢true h)
 
 shown-in-range : (d other : Device) → Fits d → pick (isMarked d) other d ≡ d
 shown-in-range d other f = sym (pick-false other d d (isMarked d) (unmarked d f) refl)
@@ -165,54 +166,54 @@ only-tag-tells = answers-behind sessionShown sessionRaised session-in-range sess
 
 -- ---- the two tags with a mark
 mark-undone : (c : Call) (d : Device) → Fits d → withoutMark (frameMarked c d) ≡ d
-unfolding pick pageBytes
+unfolding pick pageBytes keptOf transferAt
 mark-undone c d f =
     let b = d .tag .host .bus in
-    pick-case (λ (x : Device). withoutMark x ≡ d) (eqb (c .code) 8 && isUserWriteLeg b) (d but onBus mark) d
-    (λ h. ap (λ (b : Bus). d but onBus b) (sym (is-user-write-leg b (and-right (eqb (c .code) 8) (isUserWriteLeg b) h))))
-    (λ h. shown-in-range d (d but onBus (WriteLeg User)) f)
+    pick-case (λ (x : Device). withoutMark x ≡ d) (eqb (c .code) 8 && isUserWriteLeg b) (d but onBus (mark (keptBy d))) d
+    (λ h. ap (λ (b : Bus). d but onBus b) (sym (is-user-write-leg b (d .tag .core .registers .dynamic) (and-right (eqb (c .code) 8) (isUserWriteLeg b) h))))
+    (λ h. shown-in-range d (d but onBus (WriteLeg (keptBy d) User)) f)
 
 field-undone : (c : Call) (d : Device) → Fits d → inFieldAgain (fieldHidden c d) ≡ d
-unfolding pick pageBytes
+unfolding pick pageBytes keptOf transferAt
 field-undone c d f =
     let b = d .tag .host .bus in
     let on = d .tag .air .field in
-    pick-case (λ (x : Device). inFieldAgain x ≡ d) (on && isUserWriteLeg b) (d but onBus mark but fieldIs false) d
+    pick-case (λ (x : Device). inFieldAgain x ≡ d) (on && isUserWriteLeg b) (d but onBus (mark (keptBy d)) but fieldIs false) d
     (λ h.
-    ap (λ (b : Bus). d but onBus b but fieldIs true) (sym (is-user-write-leg b (and-right on (isUserWriteLeg b) h)))
+    ap (λ (b : Bus). d but onBus b but fieldIs true) (sym (is-user-write-leg b (d .tag .core .registers .dynamic) (and-right on (isUserWriteLeg b) h)))
     ∙ ap (λ (on : Bool). d but fieldIs on) (sym (and-left on (isUserWriteLeg b) h)))
-    (λ h. shown-in-range d (d but onBus (WriteLeg User) but fieldIs true) f)
+    (λ h. shown-in-range d (d but onBus (WriteLeg (keptBy d) User) but fieldIs true) f)
 
 marked-open : (b : Bus) → eqb (pageBytes b) 300 ≡ true → isOpen b ≡ true
-unfolding pageBytes isOpen
+unfolding pageBytes isOpen transferAt isOpenTransfer
 marked-open Idle h = absurd (false≢true h)
 marked-open (Started o) h = absurd (false≢true h)
-marked-open (ReadLeg s o l) h = refl
-marked-open (WriteLeg s) h = refl
-marked-open (LowAddress s x) h = refl
-marked-open (DataLeg s n x) h = refl
+marked-open (ReadLeg kept s o l) h = refl
+marked-open (WriteLeg kept s) h = refl
+marked-open (LowAddress kept s x) h = refl
+marked-open (DataLeg kept s n x) h = refl
 
 shown-open : (d other : Device) → transferOpen (other .tag) ≡ true → transferOpen (d .tag) ≡ transferOpen (pick (isMarked d) other d .tag)
 shown-open d other o =
     pick-case (λ (x : Device). transferOpen (d .tag) ≡ transferOpen (x .tag)) (isMarked d) other d (λ h. marked-open (d .tag .host .bus) h ∙ sym o) (λ h. refl)
 
 field-kept : (c : Call) (d : Device) → transferOpen (d .tag) ≡ false → fieldHidden c d ≡ d
-unfolding isOpen
+unfolding isOpen transferAt isOpenTransfer
 field-kept c d o =
     let b = d .tag .host .bus in
     let on = d .tag .air .field in
-    pick-case (λ (x : Device). x ≡ d) (on && isUserWriteLeg b) (d but onBus mark but fieldIs false) d
-    (λ h. absurd (false≢true (sym o ∙ ap isOpen (is-user-write-leg b (and-right on (isUserWriteLeg b) h)))))
+    pick-case (λ (x : Device). x ≡ d) (on && isUserWriteLeg b) (d but onBus (mark (keptBy d)) but fieldIs false) d
+    (λ h. absurd (false≢true (sym o ∙ ap isOpen (is-user-write-leg b (d .tag .core .registers .dynamic) (and-right on (isUserWriteLeg b) h)))))
     (λ h. refl)
 
 abbrev selectedAgain : Device → Device
-selectedAgain d = d but onBus (WriteLeg User)
+selectedAgain d = d but onBus (WriteLeg (keptBy d) User)
 
 abbrev fieldAgain : Device → Device
-fieldAgain d = d but onBus (WriteLeg User) but fieldIs true
+fieldAgain d = d but onBus (WriteLeg (keptBy d) User) but fieldIs true
 
 pub only-unchanged-tells : OnlyUnchangedTells
-unfolding isOpen
+unfolding isOpen transferAt isOpenTransfer
 only-unchanged-tells =
     let shown : (d : Device) → Fits d → withoutMark d ≡ d = λ d f. shown-in-range d (selectedAgain d) f in
     let shut : (d : Device) → transferOpen (withoutMark d .tag) ≡ false → withoutMark d ≡ d = λ d. shown-shut d (selectedAgain d) refl in (
@@ -226,7 +227,7 @@ only-unchanged-tells =
     )
 
 pub only-reply-tells : OnlyReplyTells
-unfolding isOpen
+unfolding isOpen transferAt isOpenTransfer
 only-reply-tells =
     let shown : (d : Device) → Fits d → inFieldAgain d ≡ d = λ d f. shown-in-range d (fieldAgain d) f in
     let shut : (d : Device) → transferOpen (inFieldAgain d .tag) ≡ false → inFieldAgain d ≡ d = λ d. shown-shut d (fieldAgain d) refl in (

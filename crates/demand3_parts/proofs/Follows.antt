@@ -21,7 +21,8 @@ use Rattle.calls.specs.Calls.{CallAnswer, Device, DeviceResult, deviceResult, S
 use Rattle.demand3.specs.Demand3.{stateRefused, isFrame, struck, others, otherAnswers, shutReply, startAfter, EachStruck, Same, EveryList, RepliesShut}
 use Rattle.demand3_parts.specs.Follows.{JudgedFollows, StrikingFollows, AnswersShut, BytesFollow}
 use Rattle.calls.proofs.Laws.{frames-first, Fits, first-fits, rest-fits, fits-next}
-use Rattle.demand3.proofs.OneCall.{struck-is}
+use Rattle.waiting.proofs.Frames.{shutBy}
+use Rattle.demand3.proofs.OneCall.{tagCounted, struck-is}
 use Rattle.demand3.proofs.Struck.{RunsTo, by-test}
 use Rattle.waiting.proofs.Follow.{now, answers}
 use Rattle.demand3.proofs.Demand3.{agreed, ends-shut, ends-alike}
@@ -112,7 +113,7 @@ module _ (step : Step) where
       (ap (λ (a : CallAnswer). not (isRefused (a .answer))) (sym (says c cs s d b)) ∙ and-right (transferOpen (s .tag) && frame) unrefused h)
 
   struck-call : (c : Call) (cs : List Call) (s d : Device) → Beside s d (c ∷ cs) → struck step s c ≡ true
-      → entry d c ≡ deviceResult (callReply (shutReply (d .tag) (d .tag .air) (c .frame)) (c .buffer)) d
+      → entry d c ≡ deviceResult (callReply (shutBy (c .frame) (d .tag .air) (d .tag .uid) (tagCounted (d .tag))) (c .buffer)) d
   struck-call c cs s d b h = struck-is d c (b .fits) (is-struck c cs s d b h)
 
   -- ---- frames may be struck out

@@ -1,8 +1,8 @@
-// What a write leg's bytes do at its Stop, and what the fetch of a message's last byte does.
+// What a write leg's bytes do at its end, and what the fetch of a message's last byte does.
 ghost use mathlib.Core.Path.{_≡_};
 ghost use Rattle.tag.specs.Layout.{page};
 ghost use Rattle.effect.specs.Effect.{legResult};
-ghost use Rattle.leg.specs.Leg.{legWritten, lastFetched};
+ghost use Rattle.leg.specs.Leg.{legWritten, actsAtStart, lastFetched};
 use bus::Space;
 use tag::WireSide;
 
@@ -13,6 +13,16 @@ pub fn leg_written(space: Space, w: WireSide, m: &mut [u8], first: u16, k: u16) 
     match space {
         Space::User => user_leg::user_written(w, m, first, k),
         Space::System => system_leg::system_written(w, m, first, k),
+    }
+}
+
+// Whether a leg's bytes take effect at a Start as well as at a Stop.
+pub fn acts_at_start(space: Space, first: u16) -> bool
+    ensures { λ r. ⌜ r ≡ actsAtStart space first ⌝ }
+{
+    match space {
+        Space::User => dynamic::host_writes(first),
+        Space::System => false,
     }
 }
 

@@ -10,14 +10,15 @@ use Rattle.parts.specs.Pick.{pick}
 use Rattle.parts.proofs.Bools.{and-left, and-right, and-both}
 use Rattle.tag.specs.declared.Tag.{Tag}
 use Rattle.state.specs.Layout.{bytesOf, tagOf}
-use Rattle.reply.specs.Reply.{nothing, body, answerOf}
+use Rattle.errors.specs.declared.RadioError.the-variants.{ShutOut}
+use Rattle.reply.specs.Reply.{nothing, body, fault, answerOf}
 use Rattle.signal_table.specs.Table.{signalBy}
 use Rattle.model.specs.Step.{fromRadio, transferOpen, isRefused}
 use Rattle.capi.specs.Interface.{answerNumber}
 use Rattle.refusals.specs.Call.{Call}
 use Rattle.calls.specs.Calls.{Device, device, DeviceResult, entry, runBy, framesFit, callReply}
 use Rattle.waiting.specs.Waiting.{noTransfer, waitRun}
-use Rattle.demand3.specs.Demand3.{isClosed, isFrame, struck, shutReply, startAfter}
+use Rattle.demand3.specs.Demand3.{isClosed, isFrame, struck, startAfter}
 use Rattle.calls.proofs.Laws.{first-fits, rest-fits, frames-first, Fits, fits-next}
 use Rattle.demand3.proofs.OneCall.{struck-is}
 use Rattle.demand3.proofs.Demand3.{demand-3, ends-alike}
@@ -97,8 +98,13 @@ module _ (step : LibraryStep) where
         (ap not (sym (refusal-number d c)) ∙ ap (λ (a : LibraryAnswer). not (ltb (a .number) 0x100)) (sym answer-is)
         ∙ and-right (transferOpen (tagOf s) && frame) unrefused h)
 
-    shut-answer : libraryStruck step s m c ≡ true → answerBy (step s m c) ≡ inNumber (callReply (shutReply (d .tag) (d .tag .air) (c .frame)) (c .buffer))
-    shut-answer h = answer-is ∙ ap (λ (e : DeviceResult). inNumber (e .says)) (struck-is d c (b .fits) (is-struck h))
+    -- and answers with silence or error 0Fh
+    record ShutAnswer : Type 0 where
+      silent : Bool
+      is : answerBy (step s m c) ≡ inNumber (callReply (pick silent nothing (fault ShutOut)) (c .buffer))
+
+    shut-answer : libraryStruck step s m c ≡ true → ShutAnswer
+    shut-answer h = record { silent = _; is = answer-is ∙ ap (λ (e : DeviceResult). inNumber (e .says)) (struck-is d c (b .fits) (is-struck h)) }
 
   buffers : (cs : List Call) (start : Tag) (s m : List ℕ) (d : Device) → Beside s m d cs
       → EachLibraryStruck step (NumberShut step) start s m cs → EachLibraryStruck step (AnswerShut step) start s m cs
@@ -107,7 +113,7 @@ module _ (step : LibraryStep) where
   buffers (c ∷ cs) start s m d b (h, hs) = (
     λ t.
         let e = shut-answer c cs s m d b t in
-        e ∙ by-number _ _ _ (c .buffer) (ap (λ (a : LibraryAnswer). a .number) (sym e) ∙ h t),
+        e .is ∙ by-number (e .silent) _ _ (c .buffer) (ap (λ (a : LibraryAnswer). a .number) (sym (e .is)) ∙ h t),
     buffers cs (startAfter start (tagOf s)) (step s m c .state) (step s m c .memory) (entry d c .device) (next c cs s m d b) hs,
   )
 

@@ -13,12 +13,12 @@ use Rattle.parts.proofs.Below.{bytes-below}
 use Rattle.registers.specs.Fresh.{freshRegisters}
 use Rattle.tag.specs.declared.Tag.{Tag}
 use Rattle.tag.specs.Layout.{memoryBytes}
-use Rattle.bus.specs.Bus.{isOpen}
+use Rattle.bus.specs.Bus.{isOpenTransfer, transferAt, isOpen}
 use Rattle.keys.specs.Keys.{uidAt, freshPasswords}
 use Rattle.tag.specs.Supply.{freshTag}
 use Rattle.registers.specs.Map.{registerBytes}
 use Rattle.state.specs.Layout.{bytesOf}
-use Rattle.state.specs.Claims.{busFits, Fits}
+use Rattle.state.specs.Claims.{transferFits, legFits, busFits, Fits}
 use Rattle.state.proofs.There.{decodes-encoded}
 use Rattle.state.proofs.AreBytes.{encodes-bytes}
 use Rattle.state.proofs.Decoded.{eight-run}
@@ -63,7 +63,7 @@ fresh-is u m s =
 
 -- ---- its tag fits
 fresh-tag-fits : (u : List ℕ) → areBytes u ≡ true → Fits (fresh u)
-unfolding freshTag freshRegisters freshPasswords areBytes registerBytes busFits
+unfolding freshTag freshRegisters freshPasswords areBytes registerBytes transferAt transferFits legFits busFits
 fresh-tag-fits u h = record {
   session = refl;
   counter = refl;
@@ -79,7 +79,7 @@ unfolding areBytes
 zeros-are = refl
 
 shut : (u : List ℕ) → transferOpen (fresh u) ≡ false
-unfolding freshTag isOpen
+unfolding freshTag transferAt isOpenTransfer isOpen
 shut u = refl
 
 starts : (u : List ℕ) → areBytes u ≡ true → Starts (bytesOf (fresh u)) zeros

@@ -11,25 +11,28 @@ use lib.Pow.{pow-pos, pow-mono}
 use borrow.Author.Tests.{eqb-true, leb-true, ltb-true, ltb-false, lt-ltb}
 use Rattle.parts.specs.Bytes.{areBytes}
 use Rattle.parts.proofs.Below.{are-below}
-use Rattle.parts.proofs.Bools.{and-left, and-right}
+use Rattle.parts.proofs.Bools.{and-left, and-right, and-both}
 use Rattle.registers.specs.declared.Registers.{Registers}
+use Rattle.register_types.specs.Types.{rfMngtBits}
 use Rattle.register_table.specs.Table.{registerCount, placeBits}
 use Rattle.register_table.proofs.Rows.{eight-bits}
 use Rattle.defined_bits.specs.Defined.{onlyBits, definedTo, definedOnly}
 use Rattle.defined_bits.proofs.Defined.{defined-at}
 use Rattle.areas.specs.Ends.{endsInRange}
+use Rattle.bus.specs.declared.Transfer.{Transfer}
+use Rattle.bus.specs.declared.Transfer.the-variants.{Closed, Open}
 use Rattle.bus.specs.declared.Bus.{Bus}
 use Rattle.bus.specs.declared.Bus.the-variants.{Idle, Started, ReadLeg, WriteLeg, LowAddress, DataLeg}
 use Rattle.mailbox.specs.declared.Mailbox.{Mailbox}
 use Rattle.tag.specs.declared.Tag.{Tag}
-use Rattle.bus.specs.Bus.{isOpen, pageBytes}
+use Rattle.bus.specs.Bus.{transferAt, isOpen, pageBytes}
 use Rattle.tag.specs.Parts.{wireSide}
-use Rattle.ranges.specs.Ranges.{registersInRange, airInRange, putCurrent, mailboxInRange, suppliedInRange, hostInRange, coreInRange, wireInRange, inRange}
+use Rattle.ranges.specs.Ranges.{registersInRange, airInRange, putCurrent, mailboxInRange, suppliedInRange, transferInRange, hostInRange, coreInRange, wireInRange, inRange}
 use Rattle.page.specs.PageRange.{busInRange}
 use Rattle.refusals.specs.Refusals.{tagInRange}
 use Rattle.registers.specs.Map.{registerBytes}
 use Rattle.registers.proofs.Bytes.{bytes-count}
-use Rattle.state.specs.Claims.{isByte, isWord, busFits, PasswordsFit, areEight, Fits}
+use Rattle.state.specs.Claims.{isWord, transferFits, legFits, busFits, PasswordsFit, areEight, Fits}
 use Rattle.library_demand3.proofs.WireKept.{highByteOf}
 
 -- ---- registers
@@ -61,14 +64,23 @@ message-is b h =
     let small = and-left n c (and-left (n && c) p (and-left (n && c && p) q (and-left (n && c && p && q) l (and-left (n && c && p && q && l) e h)))) in
     lt-ltb (b .length) 65536 (omega (arith, leb-true (b .length) 256 small))
 
-bus-is : (b : Bus) → leb (pageBytes b) 256 ≡ true → highByteOf b < 256 → busFits b ≡ true
-unfolding pageBytes highByteOf busFits
-bus-is Idle h x = refl
-bus-is (Started transfer) h x = refl
-bus-is (ReadLeg space over last) h x = refl
-bus-is (WriteLeg space) h x = refl
-bus-is (LowAddress space high) h x = lt-ltb high 256 x
-bus-is (DataLeg space count spoiled) h x = lt-ltb count 65536 (omega (arith, leb-true count 256 h))
+transfer-is : (transfer : Transfer) → transferInRange transfer ≡ true → transferFits transfer ≡ true
+unfolding transferInRange transferFits
+transfer-is Closed h = refl
+transfer-is (Open kept) h = lt-ltb (kept .dynamic .bits) 256 (bits-below rfMngtBits (kept .dynamic .bits) (omega arith) h)
+
+leg-is : (b : Bus) → leb (pageBytes b) 256 ≡ true → highByteOf b < 256 → legFits b ≡ true
+unfolding pageBytes highByteOf legFits
+leg-is Idle h x = refl
+leg-is (Started transfer) h x = refl
+leg-is (ReadLeg kept space over last) h x = refl
+leg-is (WriteLeg kept space) h x = refl
+leg-is (LowAddress kept space high) h x = lt-ltb high 256 x
+leg-is (DataLeg kept space count spoiled) h x = lt-ltb count 65536 (omega (arith, leb-true count 256 h))
+
+bus-is : (b : Bus) → leb (pageBytes b) 256 ≡ true → transferInRange (transferAt b) ≡ true → highByteOf b < 256 → busFits b ≡ true
+unfolding busFits
+bus-is b h k x = and-both (transferFits (transferAt b)) (legFits b) (transfer-is (transferAt b) k) (leg-is b h x)
 
 -- ---- a tag in range fits, if what the ranges do not say does
 pub fits-in-range : (t : Tag) (m : List ℕ) → tagInRange t m ≡ true → t .host .counter < 65536 → highByteOf (t .host .bus) < 256
@@ -87,10 +99,12 @@ fits-in-range t m h counter high passwords uid =
     let r = registersInRange (t .core .registers) in
     let b = mailboxInRange (t .core .mailbox) in
     let n = leb (pageBytes (t .host .bus)) 256 in
+    let o = not (t .host .programming && isOpen (t .host .bus)) in
+    let x = transferInRange (transferAt (t .host .bus)) in
     record {
       session = lt-ltb (t .air .session) 256 (omega (arith, leb-true (t .air .session) 4 air));
       counter = lt-ltb (t .host .counter) 65536 counter;
-      bus = bus-is (t .host .bus) (and-left n (not (t .host .programming && isOpen (t .host .bus))) host) high;
+      bus = bus-is (t .host .bus) (and-left n o (and-left (n && o) x host)) (and-right (n && o) x host) high;
       registers = registers-are (t .core .registers) (and-left r b core);
       message = message-is (t .core .mailbox) (and-right r b core);
       passwords = passwords;
@@ -98,11 +112,15 @@ fits-in-range t m h counter high passwords uid =
     }
 
 -- and one that fits has that
+leg-below : (b : Bus) → legFits b ≡ true → highByteOf b < 256
+unfolding highByteOf legFits
+leg-below Idle h = omega arith
+leg-below (Started transfer) h = omega arith
+leg-below (ReadLeg kept space over last) h = omega arith
+leg-below (WriteLeg kept space) h = omega arith
+leg-below (LowAddress kept space high) h = ltb-true high 256 h
+leg-below (DataLeg kept space count spoiled) h = omega arith
+
 pub high-below : (b : Bus) → busFits b ≡ true → highByteOf b < 256
-unfolding highByteOf busFits
-high-below Idle h = omega arith
-high-below (Started transfer) h = omega arith
-high-below (ReadLeg space over last) h = omega arith
-high-below (WriteLeg space) h = omega arith
-high-below (LowAddress space high) h = ltb-true high 256 h
-high-below (DataLeg space count spoiled) h = omega arith
+unfolding busFits
+high-below b h = leg-below b (and-right (transferFits (transferAt b)) (legFits b) h)

@@ -7,12 +7,13 @@ use borrow.Author.Tests.{ltb-true}
 use Rattle.parts.specs.Bytes.{areBytes}
 use Rattle.parts.proofs.Below.{Below, bytes-below, are-below}
 use Rattle.tag.specs.declared.Tag.{Tag}
+use Rattle.bus.specs.Bus.{transferAt}
 use Rattle.tag.specs.Parts.{wireSide}
 use Rattle.reply.specs.Outcome.{radioSide}
 use Rattle.signal_table.specs.declared.Signal.{Signal}
 use Rattle.signal_table.specs.declared.Signal.the-variants.{Wire, Field, Frame}
 use Rattle.signal_table.proofs.Laws.{sent, sent-below}
-use Rattle.model.specs.Step.{StepResult, transferOpen, actOf, stepOf}
+use Rattle.model.specs.Step.{StepResult, actOf, stepOf}
 use Rattle.model.specs.Claims.{Fit}
 use Rattle.refusals.proofs.Laws.{judged-case}
 use Rattle.model.proofs.Acts.{signalOfCall, size-of, range-of, acts}
@@ -45,7 +46,7 @@ module _ (t : Tag) (m o f : List ℕ) (fits : Fits t) (h : Below m) where
       )
   act-fits (Field on) s b k = (fits-in-range _ _ (k .range) counter high (fits .passwords) (fits .uid), are-below m h)
   act-fits Frame s b k =
-      let r = radio-sound (radioSide t) (t .uid) (t .host .vcc) (transferOpen t) (t .host .programming) m f (fits .passwords) h b in
+      let r = radio-sound (radioSide t) (t .uid) (t .host .vcc) (transferAt (t .host .bus)) (t .host .programming) m f (fits .passwords) h b in
       (fits-in-range _ _ (k .range) counter high (r .passwords) (fits .uid), are-below _ (r .memory))
 
 -- ---- a call

@@ -5,6 +5,7 @@ use mathlib.Core.List.{List}
 use Prim.Native.Nat.{ℕ}
 use Rattle.parts.proofs.Below.{Below}
 use Rattle.parts.proofs.Picks.{pick-case}
+use Rattle.bus.specs.declared.Transfer.{Transfer}
 use Rattle.keys.specs.declared.Uid.{Uid}
 use Rattle.keys.specs.declared.Passwords.{Passwords}
 use Rattle.keys.specs.Keys.{passwordAt, withRadioPassword}
@@ -33,7 +34,7 @@ pub record Sound (d : CommandResult) : Type 0 where
   pub passwords : PasswordsFit (d .side .core .passwords)
   pub memory : Below (d .memory)
 
-pub radio-sound : (v : RadioSide) (u : Uid) (vcc transfer programming : Bool) (m f : List ℕ) → PasswordsFit (v .core .passwords) → Below m → Below f
+pub radio-sound : (v : RadioSide) (u : Uid) (vcc : Bool) (transfer : Transfer) (programming : Bool) (m f : List ℕ) → PasswordsFit (v .core .passwords) → Below m → Below f
     → Sound (radioOf v u vcc transfer programming m f)
 radio-sound v u vcc transfer programming m f p h b =
     let k = frame-behaves v vcc m f u transfer programming in

@@ -9,19 +9,19 @@ use Rattle.parts.proofs.Below.{Below, run-below}
 use Rattle.parts.proofs.Picks.{pick-case}
 use Rattle.bus.specs.declared.Space.{Space}
 use Rattle.bus.specs.declared.Space.the-variants.{User, System}
+use Rattle.bus.specs.declared.OpenTransfer.{OpenTransfer}
 use Rattle.bus.specs.declared.Bus.{Bus}
 use Rattle.bus.specs.declared.Bus.the-variants.{Idle, Started, ReadLeg, WriteLeg, LowAddress, DataLeg}
 use Rattle.keys.specs.declared.Passwords.{Passwords}
 use Rattle.tag.specs.declared.WireSide.{WireSide}
 use Rattle.keys.specs.declared.Uid.{Uid}
-use Rattle.bus.specs.Bus.{isOpen}
+use Rattle.bus.specs.Bus.{keptOf, transferAt}
 use Rattle.keys.specs.Keys.{passwordAt, samePassword, withI2cPassword}
 use Rattle.tag.specs.Supply.{vccAt}
-use Rattle.tag.specs.Layout.{page}
 use Rattle.select.specs.declared.Choice.{Choice}
 use Rattle.select.specs.declared.Choice.the-variants.{NotAcked, Reading, Writing}
 use Rattle.effect.specs.Effect.{LegResult}
-use Rattle.leg.specs.Leg.{Due, nothingDue, clears, writes, started, stopped, settle, legWritten}
+use Rattle.leg.specs.Leg.{Due, nothingDue, clears, writes, started, stopped, actsAtStart, settle, legWritten}
 use Rattle.user_leg.specs.UserLeg.{userWritten}
 use Rattle.system_leg.specs.SystemLeg.{systemWritten, passwordWritten}
 use Rattle.signal_table.specs.declared.WireSignal.{WireSignal}
@@ -37,10 +37,10 @@ use Rattle.wire_claims.proofs.Cases.{signal-case}
 unfoldable pub highByteOf : Bus → ℕ
 highByteOf Idle = 0
 highByteOf (Started transfer) = 0
-highByteOf (ReadLeg space over last) = 0
-highByteOf (WriteLeg space) = 0
-highByteOf (LowAddress space high) = high
-highByteOf (DataLeg space count spoiled) = 0
+highByteOf (ReadLeg kept space over last) = 0
+highByteOf (WriteLeg kept space) = 0
+highByteOf (LowAddress kept space high) = high
+highByteOf (DataLeg kept space count spoiled) = 0
 
 pub record Sound (w : WireSide) : Type 0 where
   pub high : highByteOf (w .host .bus) < 256
@@ -49,6 +49,21 @@ pub record Sound (w : WireSide) : Type 0 where
 -- the I2C password replaced
 i2c-fits : (p : Passwords) (s : List ℕ) (at : ℕ) → Below s → PasswordsFit p → PasswordsFit (withI2cPassword (passwordAt s at) p)
 i2c-fits p s at h f = record { i2c = eight-run s at h; rf0 = f .rf0; rf1 = f .rf1; rf2 = f .rf2; rf3 = f .rf3 }
+
+-- ---- what is due at a leg's end writes bytes
+unfoldable DueBelow : Due → Type 0
+DueBelow nothingDue = Unit {0}
+DueBelow clears = Unit {0}
+DueBelow (writes space at bs) = Below bs
+
+due-below : (b : Bus) (c : ℕ) (m : List ℕ) → Below m → DueBelow (dueOf b c m)
+unfolding DueBelow dueOf
+due-below Idle c m h = tt
+due-below (Started transfer) c m h = tt
+due-below (ReadLeg kept s over last) c m h = pick-case DueBelow last clears nothingDue (λ t. tt) (λ t. tt)
+due-below (WriteLeg kept s) c m h = tt
+due-below (LowAddress kept s y) c m h = tt
+due-below (DataLeg kept s n spoiled) c m h = pick-case DueBelow _ nothingDue _ (λ t. tt) (λ t. run-below m 768 n h)
 
 -- ---- the end of a leg: the bus stays
 abbrev L : LegResult → Type 0
@@ -75,22 +90,17 @@ module _ (w : WireSide) (m : List ℕ) (f : Sound w) where
   leg-sound User at bs b = user-sound at bs
   leg-sound System at bs b = pick-case L (eqb at 0x0900) _ _ (λ h. password-sound bs b) (λ h. record { high = f .high; passwords = f .passwords })
 
-  start-sound : (d : Due) → L (settle started d w m)
-  unfolding settle
-  start-sound nothingDue = f
-  start-sound clears = record { high = f .high; passwords = f .passwords }
-  start-sound (writes s at bs) = f
+  start-sound : (d : Due) → DueBelow d → L (settle started d w m)
+  unfolding DueBelow settle
+  start-sound nothingDue b = f
+  start-sound clears b = record { high = f .high; passwords = f .passwords }
+  start-sound (writes s at bs) b = pick-case L (actsAtStart s at) _ _ (λ t. leg-sound s at bs b) (λ t. f)
 
-  stop-sound : (b : Bus) (c : ℕ) → Below m → L (settle stopped (dueOf b c m) w m)
-  unfolding dueOf settle
-  stop-sound Idle c h = f
-  stop-sound (Started o) c h = f
-  stop-sound (ReadLeg s over last) c h =
-      pick-case (λ (d : Due). L (settle stopped d w m)) last clears nothingDue (λ t. record { high = f .high; passwords = f .passwords }) (λ t. f)
-  stop-sound (WriteLeg s) c h = f
-  stop-sound (LowAddress s y) c h = f
-  stop-sound (DataLeg s n spoiled) c h =
-      pick-case (λ (d : Due). L (settle stopped d w m)) _ nothingDue _ (λ t. f) (λ t. leg-sound s _ (page n m) (run-below m 768 n h))
+  stop-sound : (d : Due) → DueBelow d → L (settle stopped d w m)
+  unfolding DueBelow settle
+  stop-sound nothingDue b = f
+  stop-sound clears b = record { high = f .high; passwords = f .passwords }
+  stop-sound (writes s at bs) b = leg-sound s at bs b
 
 -- ---- a signal
 abbrev E : WireResult → Type 0
@@ -101,33 +111,33 @@ module _ (w : WireSide) (m : List ℕ) (f : Sound w) where
   on-bus : (b : Bus) → highByteOf b < 256 → Sound (sideBus b w)
   on-bus b h = record { high = h; passwords = f .passwords }
 
-  select-sound : (c : Choice) → E (selectBy c w m)
+  select-sound : (c : Choice) (kept : OpenTransfer) → E (selectBy c kept w m)
   unfolding selectBy highByteOf
-  select-sound NotAcked = on-bus Idle (omega arith)
-  select-sound (Reading s) = on-bus (ReadLeg s false false) (omega arith)
-  select-sound (Writing s) = on-bus (WriteLeg s) (omega arith)
+  select-sound NotAcked kept = on-bus Idle (omega arith)
+  select-sound (Reading s) kept = on-bus (ReadLeg kept s false false) (omega arith)
+  select-sound (Writing s) kept = on-bus (WriteLeg kept s) (omega arith)
 
-  data-sound : (s : Space) (n x : ℕ) → E (dataOf s n w m x)
+  data-sound : (kept : OpenTransfer) (s : Space) (n x : ℕ) → E (dataOf kept s n w m x)
   unfolding dataOf highByteOf
-  data-sound s n x = pick-case E _ _ _ (λ t. record { high = omega arith; passwords = f .passwords }) (λ t. on-bus (DataLeg s n true) (omega arith))
+  data-sound kept s n x = pick-case E _ _ _ (λ t. record { high = omega arith; passwords = f .passwords }) (λ t. on-bus (DataLeg kept s n true) (omega arith))
 
   send-sound : (b : Bus) (x : ℕ) → x < 256 → E (sendAt b w m x)
   unfolding sendAt highByteOf
   send-sound Idle x p = f
-  send-sound (Started o) x p = select-sound _
-  send-sound (ReadLeg s o l) x p = f
-  send-sound (WriteLeg s) x p = on-bus (LowAddress s x) p
-  send-sound (LowAddress s y) x p = record { high = omega arith; passwords = f .passwords }
-  send-sound (DataLeg s n spoiled) x p = pick-case E spoiled _ _ (λ t. f) (λ t. data-sound s n x)
+  send-sound (Started transfer) x p = select-sound _ (keptOf transfer (w .core .registers .dynamic))
+  send-sound (ReadLeg kept s over last) x p = f
+  send-sound (WriteLeg kept s) x p = on-bus (LowAddress kept s x) p
+  send-sound (LowAddress kept s y) x p = record { high = omega arith; passwords = f .passwords }
+  send-sound (DataLeg kept s n spoiled) x p = pick-case E spoiled _ _ (λ t. f) (λ t. data-sound kept s n x)
 
   fetch-sound : (b : Bus) (u : Uid) (ack : Bool) → E (fetchAt b w u m ack)
   unfolding fetchAt highByteOf
   fetch-sound Idle u ack = f
-  fetch-sound (Started o) u ack = f
-  fetch-sound (ReadLeg s over last) u ack = pick-case E over _ _ (λ t. f) (λ t. record { high = omega arith; passwords = f .passwords })
-  fetch-sound (WriteLeg s) u ack = f
-  fetch-sound (LowAddress s y) u ack = f
-  fetch-sound (DataLeg s n spoiled) u ack = f
+  fetch-sound (Started transfer) u ack = f
+  fetch-sound (ReadLeg kept s over last) u ack = pick-case E over _ _ (λ t. f) (λ t. record { high = omega arith; passwords = f .passwords })
+  fetch-sound (WriteLeg kept s) u ack = f
+  fetch-sound (LowAddress kept s y) u ack = f
+  fetch-sound (DataLeg kept s n spoiled) u ack = f
 
   vcc-sound : (on : Bool) → Sound (vccAt on w)
   unfolding vccAt highByteOf
@@ -138,12 +148,15 @@ module _ (w : WireSide) (m : List ℕ) (f : Sound w) where
 pub wire-sound : (w : WireSide) (u : Uid) (m : List ℕ) (s : WireSignal) → sentByte s < 256 → Below m → Sound w → Sound (signalOf w u m s .side)
 unfolding startOf startAt stopAt sentByte highByteOf
 wire-sound w u m s p h f =
+    let b = w .host .bus in
+    let d = dueOf b (w .host .counter) m in
+    let bytes = due-below b (w .host .counter) m h in
     signal-case (λ (s : WireSignal) (e : WireResult). sentByte s < 256 → E e) w u m
     (λ _. pick-case E (w .host .vcc) _ _
-    (λ v. start-sound (sideBus (Started (isOpen (w .host .bus))) w) m (on-bus w m f (Started (isOpen (w .host .bus))) (omega arith)) (dueOf (w .host .bus) (w .host .counter) m)) (λ v. f))
-    (send-sound w m f (w .host .bus))
-    (λ ack _. fetch-sound w m f (w .host .bus) u ack)
-    (λ _. stop-sound (sideBus Idle w) m (on-bus w m f Idle (omega arith)) (w .host .bus) (w .host .counter) h)
+    (λ v. start-sound (sideBus (Started (transferAt b)) w) m (on-bus w m f (Started (transferAt b)) (omega arith)) d bytes) (λ v. f))
+    (send-sound w m f b)
+    (λ ack _. fetch-sound w m f b u ack)
+    (λ _. stop-sound (sideBus Idle w) m (on-bus w m f Idle (omega arith)) d bytes)
     (λ on _. vcc-sound w m f on)
     (λ _ on _. record { high = f .high; passwords = f .passwords })
     s p

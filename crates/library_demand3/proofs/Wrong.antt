@@ -8,6 +8,7 @@ use lib.Dec.{ltb, eqb}
 use lib.ListN.{length, getD}
 use Rattle.parts.specs.Bytes.{areBytes}
 use Rattle.air.specs.declared.RadioState.the-variants.{Selected}
+use Rattle.bus.specs.declared.Transfer.the-variants.{Closed}
 use Rattle.bus.specs.declared.Bus.the-variants.{Started}
 use Rattle.tag.specs.declared.Tag.{Tag}
 use Rattle.tag.specs.Layout.{memoryBytes}
@@ -15,7 +16,7 @@ use Rattle.bus.specs.Bus.{isActive}
 use Rattle.air.specs.Radio.{isSelected}
 use Rattle.tag.specs.Supply.{freshTag}
 use Rattle.registers.specs.Map.{registerBytes}
-use Rattle.state.specs.Layout.{flagByte, radioNumber, radioStateOf, spaceNumber, spaceOf, airBytes, airDecodes, airAt, busBytes, isBus, busOf, busDecodes, busAt, hostBytes, hostDecodes, hostAt, registersAt, mailboxBytes, mailboxDecodes, mailboxAt, passwordBytes, passwordsAt, bytesOf, decodes, tagOf}
+use Rattle.state.specs.Layout.{flagByte, radioNumber, radioStateOf, spaceNumber, spaceOf, airBytes, airDecodes, airAt, transferByte, busBytes, isBus, busOf, busDecodes, busAt, hostBytes, hostDecodes, hostAt, registersAt, mailboxBytes, mailboxDecodes, mailboxAt, passwordBytes, passwordsAt, bytesOf, decodes, tagOf}
 use Rattle.model.specs.Step.{transferOpen, isRefused}
 use Rattle.refusals.specs.Refusals.{tagInRange}
 use Rattle.transfer.specs.Legs.{selectRefused, ends, fresher, isEmpty, finished, push, parse}
@@ -34,7 +35,7 @@ use Rattle.library_demand3.specs.Wrong.{LibraryRefuted, acksStop, refuse
 
 -- all that a run of the library's calls, and the waiting tag's, computes with
 unfoldable runs : Unit {0}
-unfolding computes flagByte radioNumber radioStateOf spaceNumber spaceOf airBytes airDecodes airAt busBytes isBus busOf busDecodes busAt hostBytes hostDecodes hostAt registerBytes registersAt mailboxBytes mailboxDecodes mailboxAt passwordBytes passwordsAt bytesOf decodes tagOf selectRefused ends fresher isEmpty finished push parse bytesSent replies accepted writeLeg selectedLeg legOf lastLeg legsOf transferOf answerNumber isRefused stateAfter stepCall fill answered isStarted ackedSelect notesOf opens whenClosed note notes frameAnswer whenOpen waitAct waitStep waitRun framesFit isFrame isClosed exported libraryRun inNumbers inBytes libraryStruck EachLibraryStruck
+unfolding computes flagByte radioNumber radioStateOf spaceNumber spaceOf airBytes airDecodes airAt transferByte busBytes isBus busOf busDecodes busAt hostBytes hostDecodes hostAt registerBytes registersAt mailboxBytes mailboxDecodes mailboxAt passwordBytes passwordsAt bytesOf decodes tagOf selectRefused ends fresher isEmpty finished push parse bytesSent replies accepted writeLeg selectedLeg legOf lastLeg legsOf transferOf answerNumber isRefused stateAfter stepCall fill answered isStarted ackedSelect notesOf opens whenClosed note notes frameAnswer whenOpen waitAct waitStep waitRun framesFit isFrame isClosed exported libraryRun inNumbers inBytes libraryStruck EachLibraryStruck
 runs = tt
 
 -- ---- what is compared: of the last answer its number, and byte i of its buffer
@@ -68,7 +69,7 @@ starts a b c d e f = record { state = a; whole = b; memory = c; size = d; range 
 
 -- a tag whose bus is started: the next byte sent is a select
 abbrev awaiting : Device
-awaiting = powered but onBus (Started false)
+awaiting = powered but onBus (Started Closed)
 
 -- a frame between a select and its Stop
 abbrev framed : List Call

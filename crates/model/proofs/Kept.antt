@@ -16,7 +16,7 @@ use Rattle.bus.specs.declared.Bus.{Bus}
 use Rattle.bus.specs.declared.Bus.the-variants.{Idle, Started, ReadLeg, WriteLeg, LowAddress, DataLeg}
 use Rattle.tag.specs.declared.Core.{Core}
 use Rattle.tag.specs.declared.Tag.{Tag}
-use Rattle.bus.specs.Bus.{isOpen, isActive}
+use Rattle.bus.specs.Bus.{countedDynamic, transferAt, isOpenTransfer, isOpen, isActive}
 use Rattle.air.specs.Radio.{fieldAt}
 use Rattle.tag.specs.Supply.{freshTag}
 use Rattle.tag.specs.Parts.{wireSide, withTagAir}
@@ -92,23 +92,24 @@ field-kept on t m o s f =
 -- the page bytes stay Acked: with a transfer open nothing changes, else there are none
 bus-kept : (b : Bus) (n : ℕ) (c c′ : Core) (o : Bool) (m m′ : List ℕ) → (isOpen b ≡ true → (c′ ≡ c) × (m′ ≡ m))
     → busInRange b n c o m ≡ true → busInRange b n c′ o m′ ≡ true
-unfolding busInRange isOpen
+unfolding busInRange isOpen transferAt isOpenTransfer
 bus-kept Idle n c c′ o m m′ e h = refl
 bus-kept (Started t) n c c′ o m m′ e h = refl
-bus-kept (ReadLeg s over last) n c c′ o m m′ e h = refl
-bus-kept (WriteLeg s) n c c′ o m m′ e h = refl
-bus-kept (LowAddress s x) n c c′ o m m′ e h = refl
-bus-kept (DataLeg s k spoiled) n c c′ o m m′ e h = rw (e refl .0, e refl .1) h
+bus-kept (ReadLeg kept s over last) n c c′ o m m′ e h = refl
+bus-kept (WriteLeg kept s) n c c′ o m m′ e h = refl
+bus-kept (LowAddress kept s x) n c c′ o m m′ e h = refl
+bus-kept (DataLeg kept s k spoiled) n c c′ o m m′ e h = rw (e refl .0, e refl .1) h
 
 module _ (t : Tag) (m s : List ℕ) (f : Fits t m) (b : (i : ℕ) → getD s i 0 < 256) where
   abbrev r : CommandResult
-  r = radioOf (radioSide t) (t .uid) (t .host .vcc) (transferOpen t) (t .host .programming) m s
+  r = radioOf (radioSide t) (t .uid) (t .host .vcc) (transferAt (t .host .bus)) (t .host .programming) m s
 
   nothing-changed : transferOpen t ≡ true → (r .side .core ≡ t .core) × (r .memory ≡ m)
+  unfolding isOpen
   nothing-changed h =
       ⊎-elim (λ e. (ap (λ (d : CommandResult). d .side .core) e, ap (λ (d : CommandResult). d .memory) e)) (λ e. (ap (λ (d : CommandResult). d .side .core) e, ap (λ (d : CommandResult). d .memory) e))
-      (shut-out (radioSide t) (t .uid) (t .host .vcc) (transferOpen t) (t .host .programming) m s
-      (or-second (isSet 1 (t .core .registers .dynamic .bits)) (transferOpen t || t .host .programming) (or-first (transferOpen t) (t .host .programming) h)))
+      (shut-out (radioSide t) (t .uid) (t .host .vcc) (transferAt (t .host .bus)) (t .host .programming) m s
+      (or-second (isSet 1 (countedDynamic (transferAt (t .host .bus)) (t .core .registers .dynamic) .bits)) (transferOpen t || t .host .programming) (or-first (transferOpen t) (t .host .programming) h)))
 
   frame-kept : Fits (withRadio (r .side) t) (r .memory)
   unfolding suppliedInRange
@@ -116,7 +117,7 @@ module _ (t : Tag) (m s : List ℕ) (f : Fits t m) (b : (i : ℕ) → getD s i 0
       let v = t .host .vcc in
       let e = t .core .mailbox .enabled in
       let x = supplied-first v e (t .host .session) (t .host .programming) (isActive (t .host .bus)) (f .parts .supplied) in
-      let k = radio-keeps (radioSide t) (t .uid) v (transferOpen t) (t .host .programming) m s b (rw (f .parts .air, f .parts .core, x)) in
+      let k = radio-keeps (radioSide t) (t .uid) v (transferAt (t .host .bus)) (t .host .programming) m s b (rw (f .parts .air, f .parts .core, x)) in
       let a = airInRange (r .side .air) in
       let c = coreInRange (r .side .core) in
       let e′ = r .side .core .mailbox .enabled in

@@ -3,7 +3,9 @@ use mathlib.Core.Path.{_≡_, refl}
 use mathlib.Core.Bool.{false}
 use mathlib.Core.List.{List}
 use Prim.Native.Nat.{ℕ}
+use Rattle.bus.specs.Bus.{transferAt}
 use Rattle.tag.specs.declared.Tag.{Tag}
+use Rattle.bus.specs.Bus.{transferAt}
 use Rattle.signal.specs.declared.WireAnswer.{WireAnswer}
 use Rattle.signal.specs.declared.WireAnswer.the-variants.{Nothing as WireNothing, Ack as WireAck, NoAck as WireNoAck, Byte as WireByte}
 use Rattle.wire.specs.Wire.{signalOf}
@@ -11,7 +13,7 @@ use Rattle.reply.specs.Reply.{ReplyBody, nothing, body, answerOf}
 use Rattle.radio.specs.Radio.{radioOf}
 use Rattle.signal_table.specs.declared.Signal.{Signal}
 use Rattle.signal_table.specs.declared.Signal.the-variants.{Wire, Field, Frame}
-use Rattle.model.specs.Step.{isRefused, fromWire, fromRadio, transferOpen, actOf}
+use Rattle.model.specs.Step.{isRefused, fromWire, fromRadio, actOf}
 use Rattle.reply.specs.Outcome.{radioSide}
 use Rattle.tag.specs.Parts.{wireSide}
 
@@ -31,4 +33,4 @@ pub act-served : (x : Signal) (t : Tag) (m o f : List ℕ) → isRefused (actOf 
 unfolding actOf isRefused
 act-served (Wire x) t m o f = wire-served (signalOf (wireSide t) (t .uid) m x .answer)
 act-served (Field on) t m o f = refl
-act-served Frame t m o f = radio-served (radioOf (radioSide t) (t .uid) (t .host .vcc) (transferOpen t) (t .host .programming) m f .reply)
+act-served Frame t m o f = radio-served (radioOf (radioSide t) (t .uid) (t .host .vcc) (transferAt (t .host .bus)) (t .host .programming) m f .reply)

@@ -7,7 +7,7 @@ use Rattle.keys.specs.declared.Uid.{Uid}
 use Rattle.tag.specs.declared.Tag.{Tag}
 use Rattle.tag.specs.Layout.{memoryBytes}
 use Rattle.tag.specs.Parts.{withTagAir, wireSide, withWire}
-use Rattle.bus.specs.Bus.{isOpen}
+use Rattle.bus.specs.Bus.{transferAt, isOpen}
 use Rattle.air.specs.Radio.{fieldAt}
 use Rattle.tag.specs.Supply.{freshTag}
 use Rattle.signal_table.specs.declared.Signal.{Signal}
@@ -80,7 +80,7 @@ actOf (Wire signal) t m o f =
     stepResult (fromWire (result .answer)) (withWire (result .side) t) (result .memory) o
 actOf (Field on) t m o f = stepResult Nothing (withTagAir (fieldAt on (t .air)) t) m o
 actOf Frame t m o f =
-    let result = radioOf (radioSide t) (t .uid) (t .host .vcc) (transferOpen t) (t .host .programming) m f in
+    let result = radioOf (radioSide t) (t .uid) (t .host .vcc) (transferAt (t .host .bus)) (t .host .programming) m f in
     stepResult (fromRadio (answerOf (result .reply))) (withRadio (result .side) t) (result .memory) (bufferOf (result .reply) o)
 
 -- ---- the two entry points

@@ -91,7 +91,7 @@ fn by_frame(t: Tag, m: &mut [u8], out: &mut [u8], frame: &[u8]) -> Outcome
     let core = t.core;
     let host = t.host;
     let bus = host.bus;
-    let transfer = bus::is_open(bus);
+    let transfer = bus::transfer_at(bus);
     let o = radio::radio(
         RadioSide { air, core },
         t.uid,

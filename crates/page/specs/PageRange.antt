@@ -20,7 +20,7 @@ pageAcked space c session first m (suc k) = pageAcked space c session first m k 
 unfoldable pub busInRange : Bus → ℕ → Core → Bool → List ℕ → Bool
 busInRange Idle counter c session m = true
 busInRange (Started transfer) counter c session m = true
-busInRange (ReadLeg space over last) counter c session m = true
-busInRange (WriteLeg space) counter c session m = true
-busInRange (LowAddress space high) counter c session m = true
-busInRange (DataLeg space count spoiled) counter c session m = pageAcked space c session (firstOf counter count) m count
+busInRange (ReadLeg kept space over last) counter c session m = true
+busInRange (WriteLeg kept space) counter c session m = true
+busInRange (LowAddress kept space high) counter c session m = true
+busInRange (DataLeg kept space count spoiled) counter c session m = pageAcked space c session (firstOf counter count) m count

@@ -58,10 +58,16 @@ pub fn bus_in_range(b: Bus, counter: u16, c: Core, session: bool, m: &[u8]) -> b
     match b {
         Bus::Idle => true,
         Bus::Started(transfer) => true,
-        Bus::ReadLeg { space, over, last } => true,
-        Bus::WriteLeg(space) => true,
-        Bus::LowAddress { space, high } => true,
+        Bus::ReadLeg {
+            kept,
+            space,
+            over,
+            last,
+        } => true,
+        Bus::WriteLeg { kept, space } => true,
+        Bus::LowAddress { kept, space, high } => true,
         Bus::DataLeg {
+            kept,
             space,
             count,
             spoiled,

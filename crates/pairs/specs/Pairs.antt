@@ -6,6 +6,8 @@ use Prim.Native.Nat.{ℕ}
 use lib.ListN.{replicate, take}
 use Rattle.air.specs.declared.RadioState.the-variants.{Ready}
 use Rattle.bus.specs.declared.Space.the-variants.{User}
+use Rattle.register_types.specs.Types.{rfMngt}
+use Rattle.bus.specs.declared.OpenTransfer.{OpenTransfer}
 use Rattle.bus.specs.declared.Bus.the-variants.{WriteLeg, DataLeg}
 use Rattle.tag.specs.Layout.{memoryBytes}
 use Rattle.tag.specs.Supply.{freshTag}
@@ -113,6 +115,10 @@ at select high low = start ∷ send select ∷ send high ∷ send low ∷ []
 abbrev pub acks : List Value
 acks = noAnswer ∷ ack ∷ ack ∷ ack ∷ []
 
+-- a transfer that began with RF_MNGT_Dyn 0
+abbrev pub begun : OpenTransfer
+begun = record { dynamic = rfMngt 0 }
+
 -- ---- 1. "CRC of ASCII 123456789 is 906Eh."
 abbrev pub pair1 : Pair
 pair1 = crcIs (0x31 ∷ 0x32 ∷ 0x33 ∷ 0x34 ∷ 0x35 ∷ 0x36 ∷ 0x37 ∷ 0x38 ∷ 0x39 ∷ []) 0x906E
@@ -188,7 +194,7 @@ abbrev pub pageFull : Device
 pageFull = powered but counterAt 0x0100 but bytes [] [] (replicate 256 0x5A)
 
 abbrev pub fillPage : Part
-fillPage = part (at 0xA6 0x00 0x00 ++ sends (replicate 256 0x5A)) (acks ++ replicate 256 ack) (pageFull but onBus (DataLeg User 256 false))
+fillPage = part (at 0xA6 0x00 0x00 ++ sends (replicate 256 0x5A)) (acks ++ replicate 256 ack) (pageFull but onBus (DataLeg begun User 256 false))
 
 abbrev pub pair9 : Pair
 pair9 = goes (fillPage
@@ -198,7 +204,7 @@ pair9 = goes (fillPage
 -- spoiled: nothing written
 abbrev pub pair9more : Pair
 pair9more = goes (fillPage
-    ∷ part (send 0x5A ∷ []) (noAck ∷ []) (pageFull but onBus (DataLeg User 256 true))
+    ∷ part (send 0x5A ∷ []) (noAck ∷ []) (pageFull but onBus (DataLeg begun User 256 true))
     ∷ part (stop ∷ []) (noAnswer ∷ []) pageFull
     ∷ [])
 
@@ -234,7 +240,7 @@ abbrev pub stayQuiet : Call
 stayQuiet = frame (0x22 ∷ 0x02 ∷ (uid .bytes))
 
 abbrev pub pair12 : Pair
-pair12 = goes (part (start ∷ send 0xA6 ∷ stayQuiet ∷ []) (noAnswer ∷ ack ∷ silence ∷ []) (powered but radioState Ready but onBus (WriteLeg User))
+pair12 = goes (part (start ∷ send 0xA6 ∷ stayQuiet ∷ []) (noAnswer ∷ ack ∷ silence ∷ []) (powered but radioState Ready but onBus (WriteLeg begun User))
     ∷ part (stop ∷ readBlock 0 ∷ []) (noAnswer ∷ block ∷ []) powered
     ∷ [])
 

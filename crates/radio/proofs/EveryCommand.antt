@@ -30,6 +30,7 @@ use Rattle.keys.specs.declared.Passwords.{Passwords}
 use Rattle.keys.specs.declared.Uid.{Uid}
 use Rattle.keys.specs.Keys.{passwordAt, withRadioPassword}
 use Rattle.air.specs.declared.Air.{Air}
+use Rattle.bus.specs.declared.Transfer.{Transfer}
 use Rattle.air.specs.Radio.{deselected}
 use Rattle.mailbox.specs.declared.Mailbox.{Mailbox}
 use Rattle.mailbox.specs.Mailbox.{enabled, controlled}
@@ -45,7 +46,6 @@ use Rattle.commands.specs.Table.{CodedRow, commandTable, commandOf}
 use Rattle.frame.specs.Fields.{command}
 use Rattle.judge.specs.declared.Verdict.{Verdict}
 use Rattle.judge.specs.declared.Verdict.the-variants.{Silence, Error, Request}
-use Rattle.judge.specs.Judge.{judge}
 use Rattle.blocks.specs.Blocks.{readOf}
 use Rattle.blocks.proofs.Runs.{blocks-le}
 use Rattle.blocks.proofs.Cases.{read-case}
@@ -70,7 +70,7 @@ use Rattle.request.specs.declared.RequestFields.{RequestFields}
 use Rattle.request.specs.Request.{requestOf}
 use Rattle.serve.specs.Commands.{serveCommand, serveCode, serveOf}
 use Rattle.radio.specs.Claims.{replySize}
-use Rattle.radio.specs.Radio.{verdictResult, radioOf}
+use Rattle.radio.specs.Radio.{verdictResult, verdictOf, radioOf}
 
 -- ---- what is proved of a result
 -- the ranges as facts
@@ -356,6 +356,6 @@ module _ (v : RadioSide) (vcc : Bool) (m f : List ℕ) where
   answer-behaves u (Error error) = fail (requestOf f u) v vcc m f error
   answer-behaves u Request = request-behaves u
 
-  pub frame-behaves : (u : Uid) (transfer programming : Bool) → F (requestOf f u) (radioOf v u vcc transfer programming m f)
+  pub frame-behaves : (u : Uid) (transfer : Transfer) (programming : Bool) → F (requestOf f u) (radioOf v u vcc transfer programming m f)
   unfolding radioOf
-  frame-behaves u transfer programming = answer-behaves u (judge f (v .air) u (v .core .registers .dynamic) _)
+  frame-behaves u transfer programming = answer-behaves u (verdictOf v u transfer programming f)

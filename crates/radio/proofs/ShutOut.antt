@@ -4,6 +4,7 @@ use mathlib.Core.Bool.{Bool, _||_}
 use mathlib.Core.List.{List}
 use mathlib.Core.Logic.{_⊎_, inl, inr, ⊎-elim}
 use Prim.Native.Nat.{ℕ}
+use Rattle.bus.specs.Bus.{isOpenTransfer, countedDynamic}
 use Rattle.keys.specs.declared.Uid.{Uid}
 use Rattle.reply.specs.declared.RadioSide.{RadioSide}
 use Rattle.judge.specs.declared.Verdict.{Verdict}
@@ -14,7 +15,7 @@ use Rattle.radio.specs.Radio.{verdictResult, radioOf}
 pub shut-out : ShutOutChangesNothing
 unfolding radioOf verdictResult
 shut-out t u vcc transfer programming m s h =
-    let d = t .core .registers .dynamic in
-    let e = shut-out-decides s (t .air) u d (transfer || programming) h in
+    let d = countedDynamic transfer (t .core .registers .dynamic) in
+    let e = shut-out-decides s (t .air) u d (isOpenTransfer transfer || programming) h in
     ⊎-elim (λ p. inl (ap (λ (v : Verdict). verdictResult v t u vcc m s) (e ∙ p))) (λ p. inr (ap (λ (v : Verdict). verdictResult v t u vcc m s) (e ∙ p)))
     (shut-out-answers s (t .air) u d)

@@ -8,6 +8,8 @@ use lib.ListN.{length, getD}
 use Rattle.parts.specs.Bits.{isSet}
 use Rattle.ranges.specs.Ranges.{airInRange, mailboxInRange, coreInRange}
 use Rattle.keys.specs.declared.Uid.{Uid}
+use Rattle.bus.specs.declared.Transfer.{Transfer}
+use Rattle.bus.specs.Bus.{isOpenTransfer, countedDynamic}
 use Rattle.tag.specs.Layout.{replyBytes}
 use Rattle.errors.specs.declared.RadioError.the-variants.{ShutOut}
 use Rattle.reply.specs.declared.RadioSide.{RadioSide}
@@ -17,8 +19,8 @@ use Rattle.radio.specs.Radio.{radioOf}
 
 -- while shut out a frame changes nothing, and its answer is silence or 0Fh
 abbrev pub ShutOutChangesNothing : Type 0
-ShutOutChangesNothing = (v : RadioSide) (u : Uid) (vcc transfer programming : Bool) (m f : List ℕ)
-    → (isSet 1 (v .core .registers .dynamic .bits) || (transfer || programming)) ≡ true
+ShutOutChangesNothing = (v : RadioSide) (u : Uid) (vcc : Bool) (transfer : Transfer) (programming : Bool) (m f : List ℕ)
+    → (isSet 1 (countedDynamic transfer (v .core .registers .dynamic) .bits) || (isOpenTransfer transfer || programming)) ≡ true
     → (radioOf v u vcc transfer programming m f ≡ commandResult nothing v m) ⊎ (radioOf v u vcc transfer programming m f ≡ commandResult (fault ShutOut) v m)
 
 -- the ranges of what a request may change; MB_EN only with VCC
@@ -27,7 +29,7 @@ radioInRange v vcc = airInRange (v .air) && coreInRange (v .core) && (vcc || not
 
 -- every frame keeps them, and the memory's length; a frame's bytes are below 256
 abbrev pub FrameKeepsRange : Type 0
-FrameKeepsRange = (v : RadioSide) (u : Uid) (vcc transfer programming : Bool) (m f : List ℕ)
+FrameKeepsRange = (v : RadioSide) (u : Uid) (vcc : Bool) (transfer : Transfer) (programming : Bool) (m f : List ℕ)
     → ((i : ℕ) → getD f i 0 < 256) → radioInRange v vcc ≡ true
     → (radioInRange (radioOf v u vcc transfer programming m f .side) vcc ≡ true) × (length (radioOf v u vcc transfer programming m f .memory) ≡ length m)
 
@@ -38,5 +40,5 @@ replySize (body s) = length s + 2
 
 -- with the mailbox in range, every reply has room in the 643 bytes of the reply buffer
 abbrev pub RepliesFit : Type 0
-RepliesFit = (v : RadioSide) (u : Uid) (vcc transfer programming : Bool) (m f : List ℕ)
+RepliesFit = (v : RadioSide) (u : Uid) (vcc : Bool) (transfer : Transfer) (programming : Bool) (m f : List ℕ)
     → mailboxInRange (v .core .mailbox) ≡ true → replySize (radioOf v u vcc transfer programming m f .reply) ≤ replyBytes

@@ -3,6 +3,8 @@ use mathlib.Core.Bool.{Bool, _||_}
 use mathlib.Core.List.{List}
 use Prim.Native.Nat.{ℕ}
 use Rattle.keys.specs.declared.Uid.{Uid}
+use Rattle.bus.specs.declared.Transfer.{Transfer}
+use Rattle.bus.specs.Bus.{isOpenTransfer, countedDynamic}
 use Rattle.reply.specs.declared.RadioSide.{RadioSide}
 use Rattle.reply.specs.Reply.{nothing}
 use Rattle.reply.specs.Outcome.{CommandResult, commandResult, fails}
@@ -18,8 +20,12 @@ verdictResult Silence v u vcc m f = commandResult nothing v m
 verdictResult (Error error) v u vcc m f = fails error v m
 verdictResult Request v u vcc m f = serveOf (requestOf f u) v vcc m f
 
--- the frame f, for the tag's radio side v with UID u, VCC, a transfer open, programming, and memory m.
+-- what the frame is judged to be: by RF_MNGT_Dyn as it counts
+abbrev pub verdictOf : RadioSide → Uid → Transfer → Bool → List ℕ → Verdict
+verdictOf v u transfer programming f =
+    judge f (v .air) u (countedDynamic transfer (v .core .registers .dynamic)) (isOpenTransfer transfer || programming)
+
+-- the frame f, for the tag's radio side v with UID u, VCC, the transfer open or not, programming, and memory m.
 -- It holds for memory of every length: a byte past its end reads 0, a store past it changes nothing.
-unfoldable pub radioOf : RadioSide → Uid → Bool → Bool → Bool → List ℕ → List ℕ → CommandResult
-radioOf v u vcc transfer programming m f =
-    verdictResult (judge f (v .air) u (v .core .registers .dynamic) (transfer || programming)) v u vcc m f
+unfoldable pub radioOf : RadioSide → Uid → Bool → Transfer → Bool → List ℕ → List ℕ → CommandResult
+radioOf v u vcc transfer programming m f = verdictResult (verdictOf v u transfer programming f) v u vcc m f

@@ -2,6 +2,7 @@
 ghost use mathlib.Core.Path.{_≡_};
 ghost use Rattle.reply.specs.Outcome.{radioResult, finish};
 ghost use Rattle.radio.specs.Radio.{radioOf};
+use bus::Transfer;
 use judge::Verdict;
 use keys::Uid;
 use reply::RadioAnswer;
@@ -13,7 +14,7 @@ pub fn radio(
     v: RadioSide,
     u: Uid,
     vcc: bool,
-    transfer: bool,
+    transfer: Transfer,
     programming: bool,
     m: &mut [u8],
     out: &mut [u8],
@@ -21,8 +22,10 @@ pub fn radio(
 ) -> RadioOutcome
     ensures { λ r. ⌜ radioResult r (now (m .exit)) (now (out .exit)) ≡ finish (radioOf v u vcc transfer programming (now (m .entry)) (now (f .entry))) (now (out .entry)) ⌝ }
 {
-    let d = v.core.registers.dynamic;
-    match judge::judge(f, v.air, u, d, transfer | programming) {
+    let dynamic = v.core.registers.dynamic;
+    let d = bus::counted_dynamic(transfer, dynamic);
+    let open = bus::is_open_transfer(transfer);
+    match judge::judge(f, v.air, u, d, open | programming) {
         Verdict::Silence => RadioOutcome {
             answer: RadioAnswer::Silence,
             side: v,

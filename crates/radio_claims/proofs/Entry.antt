@@ -1,6 +1,5 @@
 -- At the entry: what a call leaves that is answered by an error reply. Assumes nothing.
 use mathlib.Core.Path.{_≡_, sym, ap, subst, _∙_}
-use mathlib.Core.Bool.{_||_}
 use mathlib.Core.List.{List, _∷_}
 use Prim.Native.Nat.{ℕ, _<_, _≤_}
 use native.Mathlib.Omega.{arith}
@@ -9,6 +8,7 @@ use lib.Seq.{sets, getD-set-same}
 use Rattle.parts.proofs.Picks.{pick-case}
 use Rattle.parts.proofs.Lists.{getD-sets-before}
 use Rattle.crc.specs.Crc.{crcBytes, closedAt}
+use Rattle.bus.specs.Bus.{transferAt}
 use Rattle.tag.specs.declared.Tag.{Tag}
 use Rattle.reply.specs.declared.RadioSide.{RadioSide}
 use Rattle.reply.specs.Reply.{ReplyBody, body, answerOf, bufferOf}
@@ -23,7 +23,7 @@ use Rattle.model.specs.declared.Answer.{Answer}
 use Rattle.model.specs.declared.Answer.the-variants.{Refused, Nothing, Ack, NoAck, Byte, Silence, Reply}
 use Rattle.signal_table.specs.declared.Signal.{Signal}
 use Rattle.signal_table.proofs.Laws.{frame-code}
-use Rattle.model.specs.Step.{StepResult, fromRadio, transferOpen, actOf, stepOf}
+use Rattle.model.specs.Step.{StepResult, fromRadio, actOf, stepOf}
 use Rattle.radio_claims.specs.Claims.{errorLeaves, ErrorCallsLeave}
 use Rattle.radio_claims.proofs.Errors.{frame-leaves}
 
@@ -62,12 +62,12 @@ told-leaves t m o after r n l (failed e h) a b = (ap (λ (x : CommandResult). wi
 pub error-calls-leave : ErrorCallsLeave
 unfolding stepOf actOf
 error-calls-leave t m o s n =
-    let busy = transferOpen t || t .host .programming in
-    let after = errorLeaves (radioSide t) (t .uid) busy s in
+    let transfer = transferAt (t .host .bus) in
+    let after = errorLeaves (radioSide t) (t .uid) transfer (t .host .programming) s in
     let P : StepResult → Type 0 = λ (x : StepResult). x .answer ≡ Reply n → getD (x .reply) 0 0 ≡ 0x01 → (x .tag ≡ withRadio after t) × (x .memory ≡ m) in
     judged-case P _ _ _ (λ r h a b. absurd (refused-not r n a))
     (λ none.
     let room : 643 ≤ length o = room-of t m (handedIn o 8 0 s) none in
     subst (λ (x : Signal). P (actOf x t m o s)) (sym frame-code)
-    (told-leaves t m o after (radioOf (radioSide t) (t .uid) (t .host .vcc) (transferOpen t) (t .host .programming) m s) n (omega arith)
-    (frame-leaves (radioSide t) (t .uid) (t .host .vcc) (transferOpen t) (t .host .programming) m s)))
+    (told-leaves t m o after (radioOf (radioSide t) (t .uid) (t .host .vcc) transfer (t .host .programming) m s) n (omega arith)
+    (frame-leaves (radioSide t) (t .uid) (t .host .vcc) transfer (t .host .programming) m s)))

@@ -1,6 +1,6 @@
 -- An error reply changes nothing but by B3, and B3 closes a session at most. Assumes nothing.
 use mathlib.Core.Path.{_≡_, refl, sym, ap, _∙_}
-use mathlib.Core.Bool.{Bool, true, false, not, _&&_, _||_, false≢true}
+use mathlib.Core.Bool.{Bool, true, false, not, _&&_, false≢true}
 use mathlib.Core.List.{List, [], _∷_}
 use mathlib.Core.Logic.{⊎-elim}
 use Prim.Native.Nat.{ℕ, _+_}
@@ -11,6 +11,7 @@ use borrow.Author.Tests.{eq-eqb, eqb-true, lt-leb, le-leb}
 use Rattle.parts.specs.Pick.{pick}
 use Rattle.parts.proofs.Picks.{pick-true, pick-false}
 use Rattle.rule_list.specs.RuleList.{firstSays}
+use Rattle.bus.specs.declared.Transfer.{Transfer}
 use Rattle.keys.specs.declared.Uid.{Uid}
 use Rattle.keys.specs.Keys.{passwordAt, samePassword, radioPassword}
 use Rattle.errors.specs.declared.RadioError.{RadioError}
@@ -21,13 +22,12 @@ use Rattle.commands.specs.Table.{commandTable, commandOf}
 use Rattle.frame.specs.Fields.{command, paramPlace, param}
 use Rattle.judge.specs.declared.Verdict.{Verdict}
 use Rattle.judge.specs.declared.Verdict.the-variants.{Silence, Error, Request}
-use Rattle.judge.specs.Judge.{judge}
 use Rattle.password.specs.Password.{presentOf}
 use Rattle.password.proofs.Cases.{present-case}
 use Rattle.request.specs.Request.{requestOf}
 use Rattle.serve.specs.Commands.{serveCommand, serveOf}
 use Rattle.serve.proofs.Rows.{known-row}
-use Rattle.radio.specs.Radio.{verdictResult, radioOf}
+use Rattle.radio.specs.Radio.{verdictResult, verdictOf, radioOf}
 use Rattle.radio.proofs.EveryCommand.{Shape, silent, served, failed, request-behaves, frame-behaves}
 use Rattle.radio_claims.specs.Claims.{ErrorsChangeNothing, isRequest, presentsWrong, sessionClosed, errorLeaves, ErrorsLeave}
 
@@ -85,11 +85,10 @@ module _ (v : RadioSide) (u : Uid) (vcc : Bool) (m f : List ℕ) where
   answer-leaves (Error e) = failed e refl
   answer-leaves Request = request-shape (eqb (command f) 0xB3) refl
 
-pub frame-leaves : (v : RadioSide) (u : Uid) (vcc transfer programming : Bool) (m f : List ℕ)
-    → Shape (errorLeaves v u (transfer || programming) f) m (radioOf v u vcc transfer programming m f)
+pub frame-leaves : (v : RadioSide) (u : Uid) (vcc : Bool) (transfer : Transfer) (programming : Bool) (m f : List ℕ)
+    → Shape (errorLeaves v u transfer programming f) m (radioOf v u vcc transfer programming m f)
 unfolding radioOf
-frame-leaves v u vcc transfer programming m f =
-    answer-leaves v u vcc m f (judge f (v .air) u (v .core .registers .dynamic) (transfer || programming))
+frame-leaves v u vcc transfer programming m f = answer-leaves v u vcc m f (verdictOf v u transfer programming f)
 
 pub errors-leave : ErrorsLeave
 errors-leave v u vcc transfer programming m f rest h =

@@ -17,6 +17,7 @@ use Rattle.registers.specs.declared.Registers.{Registers}
 use Rattle.rights.specs.declared.Side.the-variants.{Radio}
 use Rattle.areas.specs.Ends.{areaOfBlock}
 use Rattle.rights.specs.Rights.{mayWrite}
+use Rattle.bus.specs.declared.Transfer.{Transfer}
 use Rattle.keys.specs.declared.Uid.{Uid}
 use Rattle.errors.specs.declared.RadioError.the-variants.{WriteForbidden}
 use Rattle.reply.specs.declared.RadioSide.{RadioSide}
@@ -213,14 +214,14 @@ module _ (t : RadioSide) (u : Uid) (vcc : Bool) (m s : List ℕ) where
   unfolding commandOf commandTable firstSays pick serveCommand
   read-more-row h = known-row (requestOf s u) t vcc m s _ (ap commandOf h)
 
-module _ (t : RadioSide) (u : Uid) (vcc transfer programming : Bool) (m : List ℕ) where
-  asked : (c : ℕ) (s : List ℕ) → Asks t u (transfer || programming) c s
+module _ (t : RadioSide) (u : Uid) (vcc : Bool) (transfer : Transfer) (programming : Bool) (m : List ℕ) where
+  asked : (c : ℕ) (s : List ℕ) → Asks t u transfer programming c s
       → radioOf t u vcc transfer programming m s ≡ serveOf (requestOf s u) t vcc m s
   unfolding radioOf verdictResult
   asked c s a = ap (λ (v : Verdict). verdictResult v t u vcc m s) (a .judged)
 
   -- 21 on a block of the memory, and the block's status
-  write-asked : (w : List ℕ) (block : ℕ) → Asks t u (transfer || programming) 0x21 w → param w 0 ≡ block → block < 128
+  write-asked : (w : List ℕ) (block : ℕ) → Asks t u transfer programming 0x21 w → param w 0 ≡ block → block < 128
       → StatusAgrees (statusOf (t .core .registers) (t .air .session) block) (radioOf t u vcc transfer programming m w .reply)
   write-asked w block a e l =
       let wrote = asked 0x21 w a ∙ write-row t u vcc m w (a .named) ∙ ap (λ (n : ℕ). writeOf t m n 0 w (paramPlace w + 1)) e in
@@ -229,7 +230,7 @@ module _ (t : RadioSide) (u : Uid) (vcc transfer programming : Bool) (m : List �
 
   -- a read with the option, of more + 1 blocks
   read-asked : (s w data- : List ℕ) (first more k : ℕ) → readOf t m true first more .reply ≡ good data- → 5 * k < length data-
-      → Asks t u (transfer || programming) 0x21 w → param w 0 ≡ first + k
+      → Asks t u transfer programming 0x21 w → param w 0 ≡ first + k
       → StatusAgrees (getD data- (5 * k) 0) (radioOf t u vcc transfer programming m w .reply)
   read-asked s w data- first more k h l b e =
       let r = t .core .registers in

@@ -5,11 +5,11 @@ use Rattle.register_table.specs.Table.{placeBits}
 use Rattle.registers.specs.Fresh.{freshRegisters}
 use Rattle.registers.specs.Map.{registerBytes}
 use Rattle.areas.specs.Ends.{endsInRange}
-use Rattle.bus.specs.Bus.{isOpen, isActive, pageBytes}
+use Rattle.bus.specs.Bus.{isOpenTransfer, transferAt, isOpen, isActive, pageBytes}
 use Rattle.tag.specs.Supply.{freshTag}
 use Rattle.ranges.specs.Claims.{FreshInRange}
-use Rattle.ranges.specs.Ranges.{registersInRange, airInRange, mailboxInRange, suppliedInRange, hostInRange, coreInRange, wireInRange, inRange}
+use Rattle.ranges.specs.Ranges.{registersInRange, airInRange, mailboxInRange, suppliedInRange, transferInRange, hostInRange, coreInRange, wireInRange, inRange}
 
 pub fresh-in-range : FreshInRange
-unfolding inRange airInRange wireInRange coreInRange registersInRange mailboxInRange hostInRange suppliedInRange endsInRange definedTo definedOnly placeBits registerBytes isOpen isActive pageBytes freshTag freshRegisters
+unfolding inRange airInRange wireInRange coreInRange registersInRange mailboxInRange hostInRange transferInRange suppliedInRange endsInRange definedTo definedOnly placeBits registerBytes transferAt isOpenTransfer isOpen isActive pageBytes freshTag freshRegisters
 fresh-in-range u = refl

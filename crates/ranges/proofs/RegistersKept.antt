@@ -139,3 +139,8 @@ unfolding definedOnly placeBits registerBytes
 reload-kept r h =
     let f = fits r h in
     in-range (withDynamic (r .mngt) r) (dynamic-is r (r .mngt) f (defined-at registerCount (registerBytes r) (f .defined) mngtPlace (omega arith)))
+
+-- RF_MNGT_Dyn of registers in range, which an open transfer keeps
+pub dynamic-defined : (r : Registers) → registersInRange r ≡ true → onlyBits rfMngtBits (r .dynamic .bits) ≡ true
+unfolding definedOnly placeBits registerBytes
+dynamic-defined r h = defined-at registerCount (registerBytes r) (fits r h .defined) dynamicPlace (omega arith)

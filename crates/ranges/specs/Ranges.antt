@@ -1,8 +1,9 @@
 -- 01's sentence "Ranges", but for the page bytes that "would be Acked there". What the types hold is listed in docs/DECISIONS.md.
-use mathlib.Core.Bool.{Bool, not, _&&_, _||_}
+use mathlib.Core.Bool.{Bool, true, not, _&&_, _||_}
 use lib.Dec.{leb, ltb, eqb}
 use Rattle.registers.specs.declared.Registers.{Registers}
-use Rattle.defined_bits.specs.Defined.{definedOnly}
+use Rattle.register_types.specs.Types.{rfMngtBits}
+use Rattle.defined_bits.specs.Defined.{onlyBits, definedOnly}
 use Rattle.areas.specs.Ends.{endsInRange}
 use Rattle.air.specs.declared.Air.{Air}
 use Rattle.tag.specs.declared.Host.{Host}
@@ -12,7 +13,9 @@ use Rattle.tag.specs.declared.Core.{Core}
 use Rattle.tag.specs.declared.WireSide.{WireSide}
 use Rattle.tag.specs.declared.Tag.{Tag}
 use Rattle.tag.specs.Parts.{wireSide}
-use Rattle.bus.specs.Bus.{isOpen, isActive, pageBytes}
+use Rattle.bus.specs.declared.Transfer.{Transfer}
+use Rattle.bus.specs.declared.Transfer.the-variants.{Closed, Open}
+use Rattle.bus.specs.Bus.{transferAt, isOpen, isActive, pageBytes}
 
 -- "ends as under Areas"; "undefined register bits 0"
 unfoldable pub registersInRange : Registers → Bool
@@ -41,9 +44,14 @@ mailboxInRange mailbox =
 unfoldable pub suppliedInRange : Host → Bool → Bool
 suppliedInRange h mailbox = h .vcc || not (mailbox || h .session || h .programming || isActive (h .bus))
 
+-- "undefined register bits 0", of what is kept of an open transfer
+unfoldable pub transferInRange : Transfer → Bool
+transferInRange Closed = true
+transferInRange (Open kept) = onlyBits rfMngtBits (kept .dynamic .bits)
+
 -- "page bytes 0 to 256"; "never programming and a transfer open together"
 unfoldable pub hostInRange : Host → Bool
-hostInRange h = leb (pageBytes (h .bus)) 256 && not (h .programming && isOpen (h .bus))
+hostInRange h = leb (pageBytes (h .bus)) 256 && not (h .programming && isOpen (h .bus)) && transferInRange (transferAt (h .bus))
 
 -- of what both sides share
 unfoldable pub coreInRange : Core → Bool

@@ -1,9 +1,11 @@
 // The ranges of a tag's state, decided for every state that can be handed in.
 ghost use mathlib.Core.Path.{_≡_};
 ghost use mathlib.Core.Bool.{Bool};
-ghost use Rattle.ranges.specs.Ranges.{registersInRange, airInRange, mailboxInRange, suppliedInRange, hostInRange, coreInRange, wireInRange, inRange};
+ghost use Rattle.ranges.specs.Ranges.{registersInRange, airInRange, mailboxInRange, suppliedInRange, transferInRange, hostInRange, coreInRange, wireInRange, inRange};
 use air::Air;
+use bus::Transfer;
 use mailbox::Mailbox;
+use register_types::RfMngt;
 use registers::Registers;
 use tag::Core;
 use tag::Host;
@@ -41,11 +43,23 @@ fn supplied_in_range(h: Host, mailbox: bool) -> bool
     h.vcc | !(mailbox | h.session | h.programming | bus::is_active(bus))
 }
 
+// Whether what is kept of an open transfer has defined bits only.
+fn transfer_in_range(transfer: Transfer) -> bool
+    ensures { λ b. ⌜ b ≡ transferInRange transfer ⌝ }
+{
+    match transfer {
+        Transfer::Closed => true,
+        Transfer::Open(kept) => RfMngt::keep(kept.dynamic.bits) == kept.dynamic.bits,
+    }
+}
+
 fn host_in_range(h: Host) -> bool
     ensures { λ b. ⌜ b ≡ hostInRange h ⌝ }
 {
     let bus = h.bus;
-    (bus::page_bytes(bus) <= 256) & !(h.programming & bus::is_open(bus))
+    (bus::page_bytes(bus) <= 256)
+        & !(h.programming & bus::is_open(bus))
+        & transfer_in_range(bus::transfer_at(bus))
 }
 
 fn core_in_range(c: Core) -> bool

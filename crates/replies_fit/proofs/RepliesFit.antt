@@ -5,6 +5,7 @@ use mathlib.Core.List.{List}
 use Prim.Native.Nat.{ℕ, _≤_}
 use borrow.Author.Tests.{le-leb, leb-true}
 use Rattle.parts.proofs.Bools.{and-right}
+use Rattle.bus.specs.Bus.{transferAt}
 use Rattle.tag.specs.declared.Tag.{Tag}
 use Rattle.keys.specs.declared.Uid.{Uid}
 use Rattle.ranges.specs.Ranges.{registersInRange, mailboxInRange, coreInRange}
@@ -22,7 +23,7 @@ use Rattle.model.specs.declared.Answer.{Answer}
 use Rattle.model.specs.declared.Answer.the-variants.{Reply}
 use Rattle.signal_table.specs.declared.Signal.{Signal}
 use Rattle.signal_table.specs.declared.Signal.the-variants.{Wire, Field, Frame}
-use Rattle.model.specs.Step.{StepResult, fromWire, fromRadio, transferOpen, actOf, stepOf, FreshResult, freshOf}
+use Rattle.model.specs.Step.{StepResult, fromWire, fromRadio, actOf, stepOf, FreshResult, freshOf}
 use Rattle.replies_fit.specs.Claims.{replyFits, StepRepliesFit}
 use Rattle.reply.specs.Outcome.{radioSide}
 use Rattle.tag.specs.Parts.{wireSide}
@@ -49,8 +50,8 @@ unfolding actOf replyFits
 act-fits (Wire x) t m o f h = wire-fits (signalOf (wireSide t) (t .uid) m x .answer)
 act-fits (Field on) t m o f h = refl
 act-fits Frame t m o f h =
-    radio-fits (radioOf (radioSide t) (t .uid) (t .host .vcc) (transferOpen t) (t .host .programming) m f .reply)
-    (replies-fit (radioSide t) (t .uid) (t .host .vcc) (transferOpen t) (t .host .programming) m f (mailbox-fits t m h))
+    radio-fits (radioOf (radioSide t) (t .uid) (t .host .vcc) (transferAt (t .host .bus)) (t .host .programming) m f .reply)
+    (replies-fit (radioSide t) (t .uid) (t .host .vcc) (transferAt (t .host .bus)) (t .host .programming) m f (mailbox-fits t m h))
 
 pub steps-fit : StepRepliesFit
 unfolding stepOf replyFits

@@ -16,6 +16,7 @@ use Rattle.parts.proofs.Bools.{and-left, and-right, and-both, or-cases}
 use Rattle.parts.proofs.Picks.{pick-case}
 use Rattle.crc.specs.Crc.{crcOf, crcBytes, closed, closedAt}
 use Rattle.crc.proofs.Below.{crc-below}
+use Rattle.bus.specs.Bus.{transferAt}
 use Rattle.tag.specs.declared.Tag.{Tag}
 use Rattle.tag.specs.Layout.{replyBytes}
 use Rattle.tag.specs.Supply.{freshTag}
@@ -29,7 +30,7 @@ use Rattle.signal_table.specs.Table.{signalTable, signalFound, isFound, signalI
 use Rattle.signal_table.proofs.Laws.{byte-known, frame-known}
 use Rattle.refusals.specs.declared.Judgement.the-variants.{NoRefusal}
 use Rattle.refusals.specs.Call.{Call, handedIn}
-use Rattle.model.specs.Step.{StepResult, FreshResult, freshResult, transferOpen, actOf, stepOf, freshOf, isRefused}
+use Rattle.model.specs.Step.{StepResult, FreshResult, freshResult, actOf, stepOf, freshOf, isRefused}
 use Rattle.refusals.specs.Refusals.{argumentRules, judgement, unlessRefused}
 use Rattle.keys.specs.declared.Uid.{Uid}
 use Rattle.rule_list.specs.RuleList.{firstSays}
@@ -150,7 +151,7 @@ act-room : (x : Signal) (t : Tag) (m o s : List ℕ) → length (actOf x t m o s
 unfolding actOf
 act-room (Wire x) t m o s = refl
 act-room (Field on) t m o s = refl
-act-room Frame t m o s = buffer-room (radioOf (radioSide t) (t .uid) (t .host .vcc) (transferOpen t) (t .host .programming) m s .reply) o
+act-room Frame t m o s = buffer-room (radioOf (radioSide t) (t .uid) (t .host .vcc) (transferAt (t .host .bus)) (t .host .programming) m s .reply) o
 
 step-room : (t : Tag) (m : List ℕ) (c : Call) → length (stepOf t m c .reply) ≡ length (c .buffer)
 unfolding stepOf

@@ -7,6 +7,7 @@ ghost use Rattle.signal.specs.declared.WireAnswer.the-variants.{NoAck};
 ghost use Rattle.signal.specs.Signal.{wireResult, sideLine};
 ghost use Rattle.send.specs.Send.{selectBy, dataOf, sendAt};
 use bus::Bus;
+use bus::OpenTransfer;
 use bus::Space;
 use select::Choice;
 use signal::WireAnswer;
@@ -14,8 +15,8 @@ use signal::WireOutcome;
 use tag::WireSide;
 
 // The first byte sent after a Start.
-fn select(w: WireSide, m: &[u8], x: u8) -> WireOutcome
-    ensures { λ r. ⌜ wireResult (r .answer) (r .side) (now (m .entry)) ≡ selectBy (choose (w .host .vcc) (w .host .programming) x) w (now (m .entry)) ⌝ }
+fn select(kept: OpenTransfer, w: WireSide, m: &[u8], x: u8) -> WireOutcome
+    ensures { λ r. ⌜ wireResult (r .answer) (r .side) (now (m .entry)) ≡ selectBy (choose (w .host .vcc) (w .host .programming) x) kept w (now (m .entry)) ⌝ }
 {
     match select::choose(w.host.vcc, w.host.programming, x) {
         Choice::NotAcked => WireOutcome {
@@ -27,6 +28,7 @@ fn select(w: WireSide, m: &[u8], x: u8) -> WireOutcome
             side: signal::with_bus(
                 w,
                 Bus::ReadLeg {
+                    kept: kept,
                     space: space,
                     over: false,
                     last: false,
@@ -35,14 +37,20 @@ fn select(w: WireSide, m: &[u8], x: u8) -> WireOutcome
         },
         Choice::Writing(space) => WireOutcome {
             answer: WireAnswer::Ack,
-            side: signal::with_bus(w, Bus::WriteLeg(space)),
+            side: signal::with_bus(
+                w,
+                Bus::WriteLeg {
+                    kept: kept,
+                    space: space,
+                },
+            ),
         },
     }
 }
 
 // A data byte of a leg that is not spoiled.
-fn data(space: Space, k: u16, w: WireSide, m: &mut [u8], x: u8) -> WireOutcome
-    ensures { λ r. ⌜ wireResult (r .answer) (r .side) (now (m .exit)) ≡ dataOf space k w (now (m .entry)) x ⌝ }
+fn data(kept: OpenTransfer, space: Space, k: u16, w: WireSide, m: &mut [u8], x: u8) -> WireOutcome
+    ensures { λ r. ⌜ wireResult (r .answer) (r .side) (now (m .exit)) ≡ dataOf kept space k w (now (m .entry)) x ⌝ }
 {
     let counter = w.host.counter;
     let first = select::first_of(counter, k);
@@ -51,6 +59,7 @@ fn data(space: Space, k: u16, w: WireSide, m: &mut [u8], x: u8) -> WireOutcome
         let next = bus::next_address(counter);
         let count = k + 1;
         let leg = Bus::DataLeg {
+            kept: kept,
             space: space,
             count: count,
             spoiled: false,
@@ -61,6 +70,7 @@ fn data(space: Space, k: u16, w: WireSide, m: &mut [u8], x: u8) -> WireOutcome
         };
     }
     let spoiled = Bus::DataLeg {
+        kept: kept,
         space: space,
         count: k,
         spoiled: true,
@@ -72,8 +82,16 @@ fn data(space: Space, k: u16, w: WireSide, m: &mut [u8], x: u8) -> WireOutcome
 }
 
 // A data byte, NoAcked in a spoiled leg.
-fn send_data(space: Space, k: u16, spoiled: bool, w: WireSide, m: &mut [u8], x: u8) -> WireOutcome
-    ensures { λ r. ⌜ wireResult (r .answer) (r .side) (now (m .exit)) ≡ sendAt (DataLeg space k spoiled) w (now (m .entry)) x ⌝ }
+fn send_data(
+    kept: OpenTransfer,
+    space: Space,
+    k: u16,
+    spoiled: bool,
+    w: WireSide,
+    m: &mut [u8],
+    x: u8,
+) -> WireOutcome
+    ensures { λ r. ⌜ wireResult (r .answer) (r .side) (now (m .exit)) ≡ sendAt (DataLeg kept space k spoiled) w (now (m .entry)) x ⌝ }
 {
     if spoiled {
         return WireOutcome {
@@ -81,7 +99,7 @@ fn send_data(space: Space, k: u16, spoiled: bool, w: WireSide, m: &mut [u8], x: 
             side: w,
         };
     }
-    data(space, k, w, m, x)
+    data(kept, space, k, w, m, x)
 }
 
 fn no_ack(w: WireSide) -> WireOutcome
@@ -94,10 +112,11 @@ fn no_ack(w: WireSide) -> WireOutcome
 }
 
 // The second byte of an address.
-fn low_address(space: Space, high: u8, w: WireSide, x: u8) -> WireSide
-    ensures { λ r. ⌜ r ≡ sideLine (address high x) (DataLeg space 0 false) w ⌝ }
+fn low_address(kept: OpenTransfer, space: Space, high: u8, w: WireSide, x: u8) -> WireSide
+    ensures { λ r. ⌜ r ≡ sideLine (address high x) (DataLeg kept space 0 false) w ⌝ }
 {
     let leg = Bus::DataLeg {
+        kept: kept,
         space: space,
         count: 0,
         spoiled: false,
@@ -111,26 +130,33 @@ pub fn send_at(b: Bus, w: WireSide, m: &mut [u8], x: u8) -> WireOutcome
 {
     match b {
         Bus::Idle => no_ack(w),
-        Bus::Started(transfer) => select(w, m, x),
-        Bus::ReadLeg { space, over, last } => no_ack(w),
-        Bus::WriteLeg(space) => WireOutcome {
+        Bus::Started(transfer) => select(bus::kept_of(transfer, w.core.registers.dynamic), w, m, x),
+        Bus::ReadLeg {
+            kept,
+            space,
+            over,
+            last,
+        } => no_ack(w),
+        Bus::WriteLeg { kept, space } => WireOutcome {
             answer: WireAnswer::Ack,
             side: signal::with_bus(
                 w,
                 Bus::LowAddress {
+                    kept: kept,
                     space: space,
                     high: x,
                 },
             ),
         },
-        Bus::LowAddress { space, high } => WireOutcome {
+        Bus::LowAddress { kept, space, high } => WireOutcome {
             answer: WireAnswer::Ack,
-            side: low_address(space, high, w, x),
+            side: low_address(kept, space, high, w, x),
         },
         Bus::DataLeg {
+            kept,
             space,
             count,
             spoiled,
-        } => send_data(space, count, spoiled, w, m, x),
+        } => send_data(kept, space, count, spoiled, w, m, x),
     }
 }

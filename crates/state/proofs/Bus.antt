@@ -1,6 +1,6 @@
 -- The bus in the state, at any place: its length, its bytes, there and back. Assumes nothing.
-use mathlib.Core.Path.{_≡_, refl}
-use mathlib.Core.Bool.{true, _&&_, _||_}
+use mathlib.Core.Path.{_≡_, refl, _∙_}
+use mathlib.Core.Bool.{Bool, true, false, _&&_, _||_}
 use mathlib.Core.List.{List, [], _∷_}
 use Prim.Native.Nat.{ℕ, zero, suc, _+_, _<_}
 use native.Mathlib.Omega.{arith}
@@ -12,50 +12,61 @@ use Rattle.parts.specs.Bytes.{bytesAt, areBytes}
 use Rattle.parts.proofs.Below.{Below}
 use Rattle.parts.proofs.Bools.{and-left, and-right}
 use Rattle.parts.proofs.Picks.{pick-case}
+use Rattle.bus.specs.declared.Transfer.{Transfer}
+use Rattle.bus.specs.declared.Transfer.the-variants.{Closed, Open}
 use Rattle.bus.specs.declared.Bus.{Bus}
 use Rattle.bus.specs.declared.Bus.the-variants.{Idle, Started, ReadLeg, WriteLeg, LowAddress, DataLeg}
-use Rattle.state.specs.Layout.{busLength, isFlag, flagOf, wordOf, spaceOf, usedOr0, busBytes, isBus, busOf, busDecodes, busAt}
-use Rattle.state.specs.Claims.{busFits}
+use Rattle.bus.specs.Bus.{isOpenTransfer, transferAt}
+use Rattle.state.specs.Layout.{busLength, flagByte, isFlag, flagOf, wordOf, spaceOf, transferByte, busBytes, usedOr0, isBus, openTransferOf, busOf, busDecodes, busAt}
+use Rattle.state.specs.Claims.{isByte, isWord, transferFits, legFits, busFits}
 use Rattle.state.proofs.Numbers.{flag-byte, space-byte, low-byte, high-byte, byte-fits, word-fits, flag-fits, flag-back, flag-again, space-fits, space-back, space-again, word-back, low-again, high-again}
 
 pub bus-length : (b : Bus) → length (busBytes b) ≡ busLength
 unfolding busBytes
 bus-length Idle = refl
-bus-length (Started open-) = refl
-bus-length (ReadLeg space over last) = refl
-bus-length (WriteLeg space) = refl
-bus-length (LowAddress space high) = refl
-bus-length (DataLeg space count spoiled) = refl
+bus-length (Started transfer) = refl
+bus-length (ReadLeg kept space over last) = refl
+bus-length (WriteLeg kept space) = refl
+bus-length (LowAddress kept space high) = refl
+bus-length (DataLeg kept space count spoiled) = refl
 
 pub bus-decodes : (b : Bus) → busDecodes (busBytes b) 0 ≡ true
-unfolding busDecodes busBytes isBus
+unfolding busDecodes busBytes transferByte isOpenTransfer flagByte pick isBus
 bus-decodes Idle = refl
-bus-decodes (Started open-) = rw (flag-fits open-)
-bus-decodes (ReadLeg space over last) = rw (space-fits space, flag-fits over, flag-fits last)
-bus-decodes (WriteLeg space) = rw (space-fits space)
-bus-decodes (LowAddress space high) = rw (space-fits space)
-bus-decodes (DataLeg space count spoiled) = rw (space-fits space, flag-fits spoiled)
+bus-decodes (Started Closed) = refl
+bus-decodes (Started (Open kept)) = refl
+bus-decodes (ReadLeg kept space over last) = rw (space-fits space, flag-fits over, flag-fits last)
+bus-decodes (WriteLeg kept space) = rw (space-fits space)
+bus-decodes (LowAddress kept space high) = rw (space-fits space)
+bus-decodes (DataLeg kept space count spoiled) = rw (space-fits space, flag-fits spoiled)
 
 pub bus-back : (b : Bus) → busAt (busBytes b) 0 ≡ b
-unfolding busAt busBytes busOf pick
+unfolding busAt busBytes transferByte isOpenTransfer busOf flagByte pick
 bus-back Idle = refl
-bus-back (Started open-) = rw (flag-back open-)
-bus-back (ReadLeg space over last) = rw (space-back space, flag-back over, flag-back last)
-bus-back (WriteLeg space) = rw (space-back space)
-bus-back (LowAddress space high) = rw (space-back space)
-bus-back (DataLeg space count spoiled) = rw (space-back space, flag-back spoiled, word-back count)
+bus-back (Started Closed) = refl
+bus-back (Started (Open kept)) = refl
+bus-back (ReadLeg kept space over last) = rw (space-back space, flag-back over, flag-back last)
+bus-back (WriteLeg kept space) = rw (space-back space)
+bus-back (LowAddress kept space high) = rw (space-back space)
+bus-back (DataLeg kept space count spoiled) = rw (space-back space, flag-back spoiled, word-back count)
+
+transfer-byte : (transfer : Transfer) → transferFits transfer ≡ true → isByte (transferByte transfer) ≡ true
+unfolding transferFits transferByte
+transfer-byte Closed h = refl
+transfer-byte (Open kept) h = h
 
 pub are-bus : (b : Bus) → busFits b ≡ true → areBytes (busBytes b) ≡ true
-unfolding areBytes busBytes busFits
+unfolding areBytes busBytes transferFits legFits busFits transferAt
 are-bus Idle h = refl
-are-bus (Started open-) h = rw (flag-byte open-)
-are-bus (ReadLeg space over last) h = rw (space-byte space, flag-byte over, flag-byte last)
-are-bus (WriteLeg space) h = rw (space-byte space)
-are-bus (LowAddress space high) h = rw (space-byte space, h)
-are-bus (DataLeg space count spoiled) h = rw (space-byte space, flag-byte spoiled, low-byte count, high-byte count h)
+are-bus (Started transfer) h = rw (flag-byte (isOpenTransfer transfer), transfer-byte transfer (and-left (transferFits transfer) true h))
+are-bus (ReadLeg kept space over last) h = rw (space-byte space, flag-byte over, flag-byte last, and-left (isByte (kept .dynamic .bits)) true h)
+are-bus (WriteLeg kept space) h = rw (space-byte space, and-left (isByte (kept .dynamic .bits)) true h)
+are-bus (LowAddress kept space high) h = rw (space-byte space, and-left (isByte (kept .dynamic .bits)) (isByte high) h, and-right (isByte (kept .dynamic .bits)) (isByte high) h)
+are-bus (DataLeg kept space count spoiled) h =
+    rw (space-byte space, flag-byte spoiled, low-byte count, and-left (isByte (kept .dynamic .bits)) (isWord count) h, high-byte count (and-right (isByte (kept .dynamic .bits)) (isWord count) h))
 
 -- ---- from its bytes
-record Bused (kind space flag last high low top : ℕ) : Type 0 where
+record Bused (kind space flag last high low top dynamic : ℕ) : Type 0 where
   number : leb kind 5 ≡ true
   space-is : isFlag space ≡ true
   space-used : usedOr0 (leb 2 kind) space ≡ true
@@ -66,10 +77,11 @@ record Bused (kind space flag last high low top : ℕ) : Type 0 where
   high-used : usedOr0 (eqb kind 4) high ≡ true
   low-used : usedOr0 (eqb kind 5) low ≡ true
   top-used : usedOr0 (eqb kind 5) top ≡ true
+  dynamic-used : usedOr0 (leb 2 kind || (eqb kind 1 && flagOf flag)) dynamic ≡ true
 
-bused : (kind space flag last high low top : ℕ) → isBus kind space flag last high low top ≡ true → Bused kind space flag last high low top
+bused : (kind space flag last high low top dynamic : ℕ) → isBus kind space flag last high low top dynamic ≡ true → Bused kind space flag last high low top dynamic
 unfolding isBus
-bused kind space flag last high low top h =
+bused kind space flag last high low top dynamic h =
     let n = leb kind 5 in
     let s = isFlag space && usedOr0 (leb 2 kind) space in
     let f = isFlag flag && usedOr0 (eqb kind 1 || eqb kind 2 || eqb kind 5) flag in
@@ -77,7 +89,9 @@ bused kind space flag last high low top h =
     let h4 = usedOr0 (eqb kind 4) high in
     let h5 = usedOr0 (eqb kind 5) low in
     let h6 = usedOr0 (eqb kind 5) top in
-    let p6 = and-left (n && s && f && l && h4 && h5) h6 h in
+    let h7 = usedOr0 (leb 2 kind || (eqb kind 1 && flagOf flag)) dynamic in
+    let p7 = and-left (n && s && f && l && h4 && h5 && h6) h7 h in
+    let p6 = and-left (n && s && f && l && h4 && h5) h6 p7 in
     let p5 = and-left (n && s && f && l && h4) h5 p6 in
     let p4 = and-left (n && s && f && l) h4 p5 in
     let p3 = and-left (n && s && f) l p4 in
@@ -95,39 +109,48 @@ bused kind space flag last high low top h =
       last-used = and-right (isFlag last) _ il;
       high-used = and-right (n && s && f && l) h4 p5;
       low-used = and-right (n && s && f && l && h4) h5 p6;
-      top-used = and-right (n && s && f && l && h4 && h5) h6 h;
+      top-used = and-right (n && s && f && l && h4 && h5) h6 p7;
+      dynamic-used = and-right (n && s && f && l && h4 && h5 && h6) h7 h;
     }
 
--- the seven bytes again, kind by kind
-module _ (space flag last high low top : ℕ) (l : low < 256) where
+-- the eight bytes again, kind by kind
+module _ (space flag last high low top dynamic : ℕ) (l : low < 256) where
   abbrev Again : ℕ → Type 0
-  Again kind = busBytes (busOf kind (spaceOf space) (flagOf flag) (flagOf last) high (wordOf low top)) ≡ kind ∷ space ∷ flag ∷ last ∷ high ∷ low ∷ top ∷ []
+  Again kind = busBytes (busOf kind (openTransferOf dynamic) (spaceOf space) (flagOf flag) (flagOf last) high (wordOf low top)) ≡ kind ∷ space ∷ flag ∷ last ∷ high ∷ low ∷ top ∷ dynamic ∷ []
 
-  again-0 : Bused 0 space flag last high low top → Again 0
+  again-0 : Bused 0 space flag last high low top dynamic → Again 0
   unfolding busBytes busOf pick
-  again-0 b = rw (eqb-true space 0 (b .space-used), eqb-true flag 0 (b .flag-used), eqb-true last 0 (b .last-used), eqb-true high 0 (b .high-used), eqb-true low 0 (b .low-used), eqb-true top 0 (b .top-used))
+  again-0 b = rw (eqb-true space 0 (b .space-used), eqb-true flag 0 (b .flag-used), eqb-true last 0 (b .last-used), eqb-true high 0 (b .high-used), eqb-true low 0 (b .low-used), eqb-true top 0 (b .top-used), eqb-true dynamic 0 (b .dynamic-used))
 
-  again-1 : Bused 1 space flag last high low top → Again 1
-  unfolding busBytes busOf pick
-  again-1 b = rw (eqb-true space 0 (b .space-used), flag-again flag (b .flag-is), eqb-true last 0 (b .last-used), eqb-true high 0 (b .high-used), eqb-true low 0 (b .low-used), eqb-true top 0 (b .top-used))
+  -- a started bus keeps the byte only with a transfer open
+  started-again : (open- : Bool) → usedOr0 open- dynamic ≡ true → busBytes (Started (pick open- (Open (openTransferOf dynamic)) Closed)) ≡ 1 ∷ 0 ∷ flagByte open- ∷ 0 ∷ 0 ∷ 0 ∷ 0 ∷ dynamic ∷ []
+  unfolding busBytes transferByte isOpenTransfer pick
+  started-again true h = refl
+  started-again false h = rw (eqb-true dynamic 0 h)
 
-  again-2 : Bused 2 space flag last high low top → Again 2
+  again-1 : Bused 1 space flag last high low top dynamic → Again 1
+  unfolding busOf pick
+  again-1 b =
+      started-again (flagOf flag) (b .dynamic-used)
+      ∙ rw (eqb-true space 0 (b .space-used), flag-again flag (b .flag-is), eqb-true last 0 (b .last-used), eqb-true high 0 (b .high-used), eqb-true low 0 (b .low-used), eqb-true top 0 (b .top-used))
+
+  again-2 : Bused 2 space flag last high low top dynamic → Again 2
   unfolding busBytes busOf pick
   again-2 b = rw (space-again space (b .space-is), flag-again flag (b .flag-is), flag-again last (b .last-is), eqb-true high 0 (b .high-used), eqb-true low 0 (b .low-used), eqb-true top 0 (b .top-used))
 
-  again-3 : Bused 3 space flag last high low top → Again 3
+  again-3 : Bused 3 space flag last high low top dynamic → Again 3
   unfolding busBytes busOf pick
   again-3 b = rw (space-again space (b .space-is), eqb-true flag 0 (b .flag-used), eqb-true last 0 (b .last-used), eqb-true high 0 (b .high-used), eqb-true low 0 (b .low-used), eqb-true top 0 (b .top-used))
 
-  again-4 : Bused 4 space flag last high low top → Again 4
+  again-4 : Bused 4 space flag last high low top dynamic → Again 4
   unfolding busBytes busOf pick
   again-4 b = rw (space-again space (b .space-is), eqb-true flag 0 (b .flag-used), eqb-true last 0 (b .last-used), eqb-true low 0 (b .low-used), eqb-true top 0 (b .top-used))
 
-  again-5 : Bused 5 space flag last high low top → Again 5
+  again-5 : Bused 5 space flag last high low top dynamic → Again 5
   unfolding busBytes busOf pick
   again-5 b = rw (space-again space (b .space-is), flag-again flag (b .flag-is), eqb-true last 0 (b .last-used), eqb-true high 0 (b .high-used), low-again low top l, high-again low top l)
 
-  again : (kind : ℕ) → Bused kind space flag last high low top → Again kind
+  again : (kind : ℕ) → Bused kind space flag last high low top dynamic → Again kind
   again zero b = again-0 b
   again (suc zero) b = again-1 b
   again (suc (suc zero)) b = again-2 b
@@ -145,13 +168,14 @@ module _ (s : List ℕ) (at : ℕ) where
   pub bus-again : Below s → busDecodes s at ≡ true → busBytes (busAt s at) ≡ bytesAt s at busLength
   unfolding busDecodes busAt bytesAt
   bus-again h d =
-      again (getD s (at + 1) 0) (getD s (at + 2) 0) (getD s (at + 3) 0) (getD s (at + 4) 0) (getD s (at + 5) 0) (getD s (at + 6) 0) (h (at + 5)) (getD s (at + 0) 0) (bused (getD s (at + 0) 0) (getD s (at + 1) 0) (getD s (at + 2) 0) (getD s (at + 3) 0) (getD s (at + 4) 0) (getD s (at + 5) 0) (getD s (at + 6) 0) d)
+      again (getD s (at + 1) 0) (getD s (at + 2) 0) (getD s (at + 3) 0) (getD s (at + 4) 0) (getD s (at + 5) 0) (getD s (at + 6) 0) (getD s (at + 7) 0) (h (at + 5)) (getD s (at + 0) 0) (bused (getD s (at + 0) 0) (getD s (at + 1) 0) (getD s (at + 2) 0) (getD s (at + 3) 0) (getD s (at + 4) 0) (getD s (at + 5) 0) (getD s (at + 6) 0) (getD s (at + 7) 0) d)
 
   pub bus-fits : Below s → busFits (busAt s at) ≡ true
-  unfolding busAt busOf busFits
+  unfolding busAt busOf transferFits legFits busFits transferAt
   bus-fits h =
       let P : Bus → Type 0 = λ b. busFits b ≡ true in
-      pick-case P _ _ _ (λ _. refl)
-      (λ _. pick-case P _ _ _ (λ _. refl)
-      (λ _. pick-case P _ _ _ (λ _. refl)
-      (λ _. pick-case P _ _ _ (λ _. byte-fits s h _) (λ _. pick-case P _ _ _ (λ _. word-fits s h _ _) (λ _. refl)))))
+      let kept = byte-fits s h (at + 7) in
+      pick-case P _ _ _ (λ _. pick-case (λ (x : Transfer). P (Started x)) _ _ _ (λ _. rw kept) (λ _. refl))
+      (λ _. pick-case P _ _ _ (λ _. rw kept)
+      (λ _. pick-case P _ _ _ (λ _. rw kept)
+      (λ _. pick-case P _ _ _ (λ _. rw (kept, byte-fits s h (at + 4))) (λ _. pick-case P _ _ _ (λ _. rw (kept, word-fits s h (at + 5) (at + 6))) (λ _. refl)))))

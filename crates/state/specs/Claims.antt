@@ -6,11 +6,14 @@ use Prim.Native.Nat.{ℕ}
 use lib.Dec.{ltb, eqb}
 use lib.ListN.{length}
 use Rattle.parts.specs.Bytes.{areBytes}
+use Rattle.bus.specs.declared.Transfer.{Transfer}
+use Rattle.bus.specs.declared.Transfer.the-variants.{Closed, Open}
 use Rattle.bus.specs.declared.Bus.{Bus}
 use Rattle.bus.specs.declared.Bus.the-variants.{Idle, Started, ReadLeg, WriteLeg, LowAddress, DataLeg}
 use Rattle.keys.specs.declared.Passwords.{Passwords}
 use Rattle.tag.specs.declared.Tag.{Tag}
 use Rattle.registers.specs.Map.{registerBytes}
+use Rattle.bus.specs.Bus.{transferAt}
 use Rattle.state.specs.Layout.{bytesOf, decodes, tagOf}
 
 -- ---- each number of a tag fits its type
@@ -25,14 +28,22 @@ isWord n = ltb n 65536
 abbrev pub areEight : List ℕ → Bool
 areEight s = eqb (length s) 8 && areBytes s
 
+-- RF_MNGT_Dyn at the start of an open transfer
+unfoldable pub transferFits : Transfer → Bool
+transferFits Closed = true
+transferFits (Open kept) = isByte (kept .dynamic .bits)
+
 -- the high address byte; the page bytes
+unfoldable pub legFits : Bus → Bool
+legFits Idle = true
+legFits (Started transfer) = true
+legFits (ReadLeg kept space over last) = true
+legFits (WriteLeg kept space) = true
+legFits (LowAddress kept space high) = isByte high
+legFits (DataLeg kept space count spoiled) = isWord count
+
 unfoldable pub busFits : Bus → Bool
-busFits Idle = true
-busFits (Started open-) = true
-busFits (ReadLeg space over last) = true
-busFits (WriteLeg space) = true
-busFits (LowAddress space high) = isByte high
-busFits (DataLeg space count spoiled) = isWord count
+busFits b = transferFits (transferAt b) && legFits b
 
 pub record PasswordsFit (p : Passwords) : Type 0 where
   pub i2c : areEight (p .i2c .bytes) ≡ true

@@ -17,8 +17,12 @@ use Rattle.mailbox.specs.declared.Mailbox.{Mailbox}
 use Rattle.keys.specs.declared.Passwords.{Passwords}
 use Rattle.bus.specs.declared.Space.{Space}
 use Rattle.bus.specs.declared.Space.the-variants.{User, System}
+use Rattle.bus.specs.declared.OpenTransfer.{OpenTransfer}
+use Rattle.bus.specs.declared.Transfer.{Transfer}
+use Rattle.bus.specs.declared.Transfer.the-variants.{Closed, Open}
 use Rattle.bus.specs.declared.Bus.{Bus}
 use Rattle.bus.specs.declared.Bus.the-variants.{Idle, Started, ReadLeg, WriteLeg, LowAddress, DataLeg}
+use Rattle.bus.specs.Bus.{isOpenTransfer}
 use Rattle.tag.specs.declared.Host.{Host}
 use Rattle.tag.specs.declared.Tag.{Tag}
 use Rattle.keys.specs.Keys.{passwordAt, uidAt}
@@ -32,7 +36,7 @@ abbrev pub busOffset : ℕ
 busOffset = 5
 
 abbrev pub busLength : ℕ
-busLength = 7
+busLength = 8
 
 abbrev pub hostPartLength : ℕ
 hostPartLength = busOffset + busLength
@@ -120,23 +124,28 @@ unfoldable pub airAt : List ℕ → ℕ → Air
 airAt s at = record { field = flagOf (getD s (at + 0) 0); radio = radioStateOf (getD s (at + 1) 0); session = getD s (at + 2) 0 }
 
 -- ---- the bus
+-- "with a transfer open: RF_MNGT_Dyn at its start"
+unfoldable pub transferByte : Transfer → ℕ
+transferByte Closed = 0
+transferByte (Open kept) = kept .dynamic .bits
+
 -- "bus: 0 idle, 1 started, 2 read leg, 3 write leg before its address, 4 write leg after the high address byte, 5 write leg past its address"; "space of the leg";
 -- "bus 1: transfer open; bus 2: the host has NoAcked; bus 5: the leg is spoiled"; "bus 2: the last byte of an RF message was fetched"; "bus 4: the high address byte"; "bus 5: page bytes, low byte first"
 unfoldable pub busBytes : Bus → List ℕ
-busBytes Idle = 0 ∷ 0 ∷ 0 ∷ 0 ∷ 0 ∷ 0 ∷ 0 ∷ []
-busBytes (Started open-) = 1 ∷ 0 ∷ flagByte open- ∷ 0 ∷ 0 ∷ 0 ∷ 0 ∷ []
-busBytes (ReadLeg space over last) = 2 ∷ spaceNumber space ∷ flagByte over ∷ flagByte last ∷ 0 ∷ 0 ∷ 0 ∷ []
-busBytes (WriteLeg space) = 3 ∷ spaceNumber space ∷ 0 ∷ 0 ∷ 0 ∷ 0 ∷ 0 ∷ []
-busBytes (LowAddress space high) = 4 ∷ spaceNumber space ∷ 0 ∷ 0 ∷ high ∷ 0 ∷ 0 ∷ []
-busBytes (DataLeg space count spoiled) = 5 ∷ spaceNumber space ∷ flagByte spoiled ∷ 0 ∷ 0 ∷ lowByte count ∷ highByte count ∷ []
+busBytes Idle = 0 ∷ 0 ∷ 0 ∷ 0 ∷ 0 ∷ 0 ∷ 0 ∷ 0 ∷ []
+busBytes (Started transfer) = 1 ∷ 0 ∷ flagByte (isOpenTransfer transfer) ∷ 0 ∷ 0 ∷ 0 ∷ 0 ∷ transferByte transfer ∷ []
+busBytes (ReadLeg kept space over last) = 2 ∷ spaceNumber space ∷ flagByte over ∷ flagByte last ∷ 0 ∷ 0 ∷ 0 ∷ kept .dynamic .bits ∷ []
+busBytes (WriteLeg kept space) = 3 ∷ spaceNumber space ∷ 0 ∷ 0 ∷ 0 ∷ 0 ∷ 0 ∷ kept .dynamic .bits ∷ []
+busBytes (LowAddress kept space high) = 4 ∷ spaceNumber space ∷ 0 ∷ 0 ∷ high ∷ 0 ∷ 0 ∷ kept .dynamic .bits ∷ []
+busBytes (DataLeg kept space count spoiled) = 5 ∷ spaceNumber space ∷ flagByte spoiled ∷ 0 ∷ 0 ∷ lowByte count ∷ highByte count ∷ kept .dynamic .bits ∷ []
 
 -- "every byte .. that the bus does not use is 0"
 abbrev pub usedOr0 : Bool → ℕ → Bool
 usedOr0 used x = used || eqb x 0
 
--- the seven bytes are a bus
-unfoldable pub isBus : ℕ → ℕ → ℕ → ℕ → ℕ → ℕ → ℕ → Bool
-isBus kind space flag last high low top =
+-- the eight bytes are a bus
+unfoldable pub isBus : ℕ → ℕ → ℕ → ℕ → ℕ → ℕ → ℕ → ℕ → Bool
+isBus kind space flag last high low top dynamic =
     leb kind 5
     && (isFlag space && usedOr0 (leb 2 kind) space)
     && (isFlag flag && usedOr0 (eqb kind 1 || eqb kind 2 || eqb kind 5) flag)
@@ -144,24 +153,29 @@ isBus kind space flag last high low top =
     && usedOr0 (eqb kind 4) high
     && usedOr0 (eqb kind 5) low
     && usedOr0 (eqb kind 5) top
+    && usedOr0 (leb 2 kind || (eqb kind 1 && flagOf flag)) dynamic
+
+-- what is kept of an open transfer, of its byte
+abbrev pub openTransferOf : ℕ → OpenTransfer
+openTransferOf x = record { dynamic = record { bits = x } }
 
 -- the bus of a kind
-unfoldable pub busOf : ℕ → Space → Bool → Bool → ℕ → ℕ → Bus
-busOf kind space flag last high count =
-    pick (eqb kind 1) (Started flag)
-    (pick (eqb kind 2) (ReadLeg space flag last)
-    (pick (eqb kind 3) (WriteLeg space)
-    (pick (eqb kind 4) (LowAddress space high)
-    (pick (eqb kind 5) (DataLeg space count flag)
+unfoldable pub busOf : ℕ → OpenTransfer → Space → Bool → Bool → ℕ → ℕ → Bus
+busOf kind kept space flag last high count =
+    pick (eqb kind 1) (Started (pick flag (Open kept) Closed))
+    (pick (eqb kind 2) (ReadLeg kept space flag last)
+    (pick (eqb kind 3) (WriteLeg kept space)
+    (pick (eqb kind 4) (LowAddress kept space high)
+    (pick (eqb kind 5) (DataLeg kept space count flag)
     Idle))))
 
 unfoldable pub busDecodes : List ℕ → ℕ → Bool
 busDecodes s at =
-    isBus (getD s (at + 0) 0) (getD s (at + 1) 0) (getD s (at + 2) 0) (getD s (at + 3) 0) (getD s (at + 4) 0) (getD s (at + 5) 0) (getD s (at + 6) 0)
+    isBus (getD s (at + 0) 0) (getD s (at + 1) 0) (getD s (at + 2) 0) (getD s (at + 3) 0) (getD s (at + 4) 0) (getD s (at + 5) 0) (getD s (at + 6) 0) (getD s (at + 7) 0)
 
 unfoldable pub busAt : List ℕ → ℕ → Bus
 busAt s at =
-    busOf (getD s (at + 0) 0) (spaceOf (getD s (at + 1) 0)) (flagOf (getD s (at + 2) 0)) (flagOf (getD s (at + 3) 0)) (getD s (at + 4) 0)
+    busOf (getD s (at + 0) 0) (openTransferOf (getD s (at + 7) 0)) (spaceOf (getD s (at + 1) 0)) (flagOf (getD s (at + 2) 0)) (flagOf (getD s (at + 3) 0)) (getD s (at + 4) 0)
     (wordOf (getD s (at + 5) 0) (getD s (at + 6) 0))
 
 -- ---- VCC, I2C session open, programming under way, address counter low byte first, the bus

@@ -3,7 +3,7 @@ pub const AIR_PART_LENGTH: usize = 3;
 // In the host's part: the bytes before the bus, and the bus.
 pub const BUS_OFFSET: usize = 5;
 
-pub const BUS_LENGTH: usize = 7;
+pub const BUS_LENGTH: usize = 8;
 
 pub const HOST_PART_LENGTH: usize = BUS_OFFSET + BUS_LENGTH;
 

@@ -6,12 +6,15 @@ ghost use Rattle.state.specs.Layout.{stateBytes, flagOf, wordOf, radioStateOf, 
 use air::Air;
 use air::RadioState;
 use bus::Bus;
+use bus::OpenTransfer;
 use bus::Space;
+use bus::Transfer;
 use keys::Password;
 use keys::Passwords;
 use keys::Uid;
 use mailbox::Mailbox;
 use mailbox::Message;
+use register_types::RfMngt;
 use registers::Registers;
 use tag::Core;
 use tag::Host;
@@ -61,27 +64,40 @@ fn air_at(s: &[u8], at: usize) -> Air
     }
 }
 
-fn bus_of(kind: u8, space: Space, flag: bool, last: bool, high: u8, count: u16) -> Bus
-    ensures { λ r. ⌜ r ≡ busOf kind space flag last high count ⌝ }
+fn bus_of(
+    kind: u8,
+    kept: OpenTransfer,
+    space: Space,
+    flag: bool,
+    last: bool,
+    high: u8,
+    count: u16,
+) -> Bus
+    ensures { λ r. ⌜ r ≡ busOf kind kept space flag last high count ⌝ }
 {
     if kind == 1 {
-        return Bus::Started(flag);
+        if flag {
+            return Bus::Started(Transfer::Open(kept));
+        }
+        return Bus::Started(Transfer::Closed);
     }
     if kind == 2 {
         return Bus::ReadLeg {
+            kept,
             space,
             over: flag,
             last,
         };
     }
     if kind == 3 {
-        return Bus::WriteLeg(space);
+        return Bus::WriteLeg { kept, space };
     }
     if kind == 4 {
-        return Bus::LowAddress { space, high };
+        return Bus::LowAddress { kept, space, high };
     }
     if kind == 5 {
         return Bus::DataLeg {
+            kept,
             space,
             count,
             spoiled: flag,
@@ -93,10 +109,15 @@ fn bus_of(kind: u8, space: Space, flag: bool, last: bool, high: u8, count: u16) 
 fn bus_at(s: &[u8], at: usize) -> Bus
     ensures { λ r. ⌜ r ≡ busAt (now (s .entry)) at ⌝ }
 {
+    let dynamic = RfMngt {
+        bits: parts::byte_in(s, at, 7),
+    };
+    let kept = OpenTransfer { dynamic };
     let space = space_of(parts::byte_in(s, at, 1));
     let count = word_of(parts::byte_in(s, at, 5), parts::byte_in(s, at, 6));
     bus_of(
         parts::byte_in(s, at, 0),
+        kept,
         space,
         flag_at(s, at, 2),
         flag_at(s, at, 3),

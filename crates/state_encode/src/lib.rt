@@ -4,11 +4,12 @@ ghost use Prim.Native.Nat.{_≤_};
 ghost use lib.ListN.{length};
 ghost use lib.Seq.{sets};
 ghost use Rattle.registers.specs.Map.{registerBytes};
-ghost use Rattle.state.specs.Layout.{stateBytes, passwordsPartLength, flagByte, radioNumber, spaceNumber, airBytes, busBytes, hostBytes, mailboxBytes, passwordBytes, bytesOf};
+ghost use Rattle.state.specs.Layout.{stateBytes, passwordsPartLength, flagByte, radioNumber, spaceNumber, airBytes, transferByte, busBytes, hostBytes, mailboxBytes, passwordBytes, bytesOf};
 use air::Air;
 use air::RadioState;
 use bus::Bus;
 use bus::Space;
+use bus::Transfer;
 use keys::Passwords;
 use mailbox::Mailbox;
 use registers::Registers;
@@ -51,13 +52,36 @@ fn put_air(a: Air, s: &mut [u8], at: usize)
     parts::put_bytes(s, at, &b, 0, state::AIR_PART_LENGTH);
 }
 
+fn transfer_byte(transfer: Transfer) -> u8
+    ensures { λ n. ⌜ n ≡ transferByte transfer ⌝ }
+{
+    match transfer {
+        Transfer::Closed => 0,
+        Transfer::Open(kept) => kept.dynamic.bits,
+    }
+}
+
 fn bus_bytes(b: Bus) -> [u8; state::BUS_LENGTH]
     ensures { λ r. ⌜ r ≡ busBytes b ⌝ }
 {
     match b {
-        Bus::Idle => [0, 0, 0, 0, 0, 0, 0],
-        Bus::Started(open) => [1, 0, flag_byte(open), 0, 0, 0, 0],
-        Bus::ReadLeg { space, over, last } => [
+        Bus::Idle => [0, 0, 0, 0, 0, 0, 0, 0],
+        Bus::Started(transfer) => [
+            1,
+            0,
+            flag_byte(bus::is_open_transfer(transfer)),
+            0,
+            0,
+            0,
+            0,
+            transfer_byte(transfer),
+        ],
+        Bus::ReadLeg {
+            kept,
+            space,
+            over,
+            last,
+        } => [
             2,
             space_number(space),
             flag_byte(over),
@@ -65,10 +89,21 @@ fn bus_bytes(b: Bus) -> [u8; state::BUS_LENGTH]
             0,
             0,
             0,
+            kept.dynamic.bits,
         ],
-        Bus::WriteLeg(space) => [3, space_number(space), 0, 0, 0, 0, 0],
-        Bus::LowAddress { space, high } => [4, space_number(space), 0, 0, high, 0, 0],
+        Bus::WriteLeg { kept, space } => [3, space_number(space), 0, 0, 0, 0, 0, kept.dynamic.bits],
+        Bus::LowAddress { kept, space, high } => [
+            4,
+            space_number(space),
+            0,
+            0,
+            high,
+            0,
+            0,
+            kept.dynamic.bits,
+        ],
         Bus::DataLeg {
+            kept,
             space,
             count,
             spoiled,
@@ -80,6 +115,7 @@ fn bus_bytes(b: Bus) -> [u8; state::BUS_LENGTH]
             0,
             (count % 256) as u8,
             (count / 256) as u8,
+            kept.dynamic.bits,
         ],
     }
 }

@@ -24,8 +24,8 @@ fn used_or_0(used: bool, x: u8) -> bool
     used | (x == 0)
 }
 
-fn is_bus(kind: u8, space: u8, flag: u8, last: u8, high: u8, low: u8, top: u8) -> bool
-    ensures { λ r. ⌜ r ≡ isBus kind space flag last high low top ⌝ }
+fn is_bus(kind: u8, space: u8, flag: u8, last: u8, high: u8, low: u8, top: u8, dynamic: u8) -> bool
+    ensures { λ r. ⌜ r ≡ isBus kind space flag last high low top dynamic ⌝ }
 {
     (kind <= 5)
         & ((space <= 1) & used_or_0(2 <= kind, space))
@@ -34,6 +34,7 @@ fn is_bus(kind: u8, space: u8, flag: u8, last: u8, high: u8, low: u8, top: u8) -
         & used_or_0(kind == 4, high)
         & used_or_0(kind == 5, low)
         & used_or_0(kind == 5, top)
+        & used_or_0((2 <= kind) | ((kind == 1) & (flag == 1)), dynamic)
 }
 
 fn bus_decodes(s: &[u8], at: usize) -> bool
@@ -47,6 +48,7 @@ fn bus_decodes(s: &[u8], at: usize) -> bool
         parts::byte_in(s, at, 4),
         parts::byte_in(s, at, 5),
         parts::byte_in(s, at, 6),
+        parts::byte_in(s, at, 7),
     )
 }
 

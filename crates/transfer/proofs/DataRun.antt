@@ -12,6 +12,7 @@ use lib.Seq.{sets}
 use Rattle.parts.specs.Pick.{pick}
 use Rattle.parts.proofs.Picks.{pick-true, pick-false}
 use Rattle.bus.specs.declared.Space.{Space}
+use Rattle.bus.specs.declared.OpenTransfer.{OpenTransfer}
 use Rattle.bus.specs.declared.Bus.the-variants.{DataLeg}
 use Rattle.tag.specs.declared.WireSide.{WireSide}
 use Rattle.keys.specs.declared.Uid.{Uid}
@@ -31,7 +32,7 @@ use Rattle.transfer.specs.Claim.{runOf}
 use Rattle.transfer.proofs.Page.{page-set}
 use Rattle.transfer.proofs.Run.{stepOf, signals, first-then, still}
 
-module _ (w : WireSide) (u : Uid) (s : Space) (f : ℕ) where
+module _ (w : WireSide) (u : Uid) (kept : OpenTransfer) (s : Space) (f : ℕ) where
   -- byte x is Acked, after the bytes e
   abbrev pub takes : ℕ → List ℕ → ℕ → Bool
   takes k e x = acked s (w .core) (w .host .session) f k e x
@@ -48,17 +49,17 @@ module _ (w : WireSide) (u : Uid) (s : Space) (f : ℕ) where
     judged : (b : Bool) → takes k e x ≡ b → acked s (w .core) (w .host .session) (firstOf c k) k (page k m) x ≡ b
     judged b h = rw (g .page-is, g .first) h
 
-    send-data : stepOf (sideLine c (DataLeg s k false) w) u m (NotedSend x) ≡ dataOf s k (sideLine c (DataLeg s k false) w) m x
+    send-data : stepOf (sideLine c (DataLeg kept s k false) w) u m (NotedSend x) ≡ dataOf kept s k (sideLine c (DataLeg kept s k false) w) m x
     unfolding signalOf wireSignal sendAt pick
     send-data = refl
 
     taken : takes k e x ≡ true
-        → stepOf (sideLine c (DataLeg s k false) w) u m (NotedSend x) ≡ wireResult Ack (sideLine (nextAddress c) (DataLeg s (suc k) false) w) (set m (768 + k) x)
+        → stepOf (sideLine c (DataLeg kept s k false) w) u m (NotedSend x) ≡ wireResult Ack (sideLine (nextAddress c) (DataLeg kept s (suc k) false) w) (set m (768 + k) x)
     unfolding dataOf
     taken h = send-data ∙ sym (pick-true _ _ _ _ (judged true h) refl)
 
     spoils : takes k e x ≡ false
-        → stepOf (sideLine c (DataLeg s k false) w) u m (NotedSend x) ≡ wireResult NoAck (sideLine c (DataLeg s k true) w) m
+        → stepOf (sideLine c (DataLeg kept s k false) w) u m (NotedSend x) ≡ wireResult NoAck (sideLine c (DataLeg kept s k true) w) m
     unfolding dataOf
     spoils h = send-data ∙ sym (pick-false _ _ _ _ (judged false h) refl)
 
@@ -73,7 +74,7 @@ module _ (w : WireSide) (u : Uid) (s : Space) (f : ℕ) where
   -- j of the bytes in ms are Acked, with k on the page
   abbrev pub dataRan : List ℕ → ℕ → ℕ → List Move → ℕ → TransferResult
   dataRan m c k ms j =
-      transferResult (replies j [] ms) (sideLine (onward j c) (DataLeg s (k + j) (ltb j (length (bytesSent ms)))) w) (sets m (768 + k) (take j (bytesSent ms)))
+      transferResult (replies j [] ms) (sideLine (onward j c) (DataLeg kept s (k + j) (ltb j (length (bytesSent ms)))) w) (sets m (768 + k) (take j (bytesSent ms)))
 
   one-more : (m : List ℕ) (c k x : ℕ) (ms : List Move) (j : ℕ)
       → before (Ack ∷ []) (dataRan (set m (768 + k) x) (nextAddress c) (suc k) ms j) ≡ dataRan m c k (moveSend x ∷ ms) (suc j)
@@ -85,11 +86,11 @@ module _ (w : WireSide) (u : Uid) (s : Space) (f : ℕ) where
 
   abbrev pub Law : List Move → Type 0
   Law ms = (m : List ℕ) (c k : ℕ) (e : List ℕ) → Has m c k e
-      → runOf (sideLine c (DataLeg s k false) w) u m (signals ms) ≡ dataRan m c k ms (accepted s w f e (bytesSent ms))
+      → runOf (sideLine c (DataLeg kept s k false) w) u m (signals ms) ≡ dataRan m c k ms (accepted s w f e (bytesSent ms))
 
   data-more : (x : ℕ) (ms : List Move) → Law ms → (m : List ℕ) (c k : ℕ) (e : List ℕ) → Has m c k e
       → (b : Bool) → takes k e x ≡ b
-      → runOf (sideLine c (DataLeg s k false) w) u m (signals (moveSend x ∷ ms))
+      → runOf (sideLine c (DataLeg kept s k false) w) u m (signals (moveSend x ∷ ms))
       ≡ dataRan m c k (moveSend x ∷ ms) (pick b (suc (accepted s w f (e ++ x ∷ []) (bytesSent ms))) 0)
   unfolding signals bytesSent pick replies onward signalOf wireSignal sendAt fetchAt
   data-more x ms ih m c k e g true q =
@@ -105,4 +106,4 @@ module _ (w : WireSide) (u : Uid) (s : Space) (f : ℕ) where
   data-run [] m c k e g = rw add-zero
   data-run (moveSend x ∷ ms) m c k e g = data-more x ms (data-run ms) m c k e g (takes k e x) refl ∙ rw (g .count)
   data-run (moveFetch a ∷ ms) m c k e g =
-      first-then (sideLine c (DataLeg s k false) w) u m (NotedFetch a) (signals ms) _ _ refl (data-run ms m c k e g)
+      first-then (sideLine c (DataLeg kept s k false) w) u m (NotedFetch a) (signals ms) _ _ refl (data-run ms m c k e g)

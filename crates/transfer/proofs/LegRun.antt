@@ -12,11 +12,13 @@ use lib.Seq.{sets, take-all, length-take-le}
 use Rattle.parts.specs.Pick.{pick}
 use Rattle.parts.specs.Bytes.{bytesAt}
 use Rattle.bus.specs.declared.Space.{Space}
+use Rattle.bus.specs.declared.OpenTransfer.{OpenTransfer}
+use Rattle.bus.specs.declared.Transfer.{Transfer}
 use Rattle.bus.specs.declared.Bus.{Bus}
 use Rattle.bus.specs.declared.Bus.the-variants.{Idle, Started, ReadLeg, WriteLeg, LowAddress, DataLeg}
 use Rattle.tag.specs.declared.WireSide.{WireSide}
 use Rattle.keys.specs.declared.Uid.{Uid}
-use Rattle.bus.specs.Bus.{nextAddress}
+use Rattle.bus.specs.Bus.{keptOf, nextAddress}
 use Rattle.tag.specs.Layout.{page}
 use Rattle.select.specs.declared.Choice.{Choice}
 use Rattle.select.specs.declared.Choice.the-variants.{NotAcked, Reading, Writing}
@@ -89,10 +91,10 @@ due-data s f g m xs j v h r l false q =
     let a : length xs ≤ j = ltb-false j (length xs) q in
     rw (v, page-sets m (take j xs) j h (length-take-le j xs l) r, take-all j xs a)
 
-module _ (w : WireSide) (u : Uid) (m : List ℕ) (whole : length m ≡ 1024) where
+module _ (w : WireSide) (u : Uid) (m : List ℕ) (whole : length m ≡ 1024) (kept : OpenTransfer) where
   -- past the address
   data-goes : (s : Space) (f : ℕ) → f < 65536 → (ms : List Move)
-      → Goes w m (runOf (sideLine f (DataLeg s 0 false) w) u m (signals ms))
+      → Goes w m (runOf (sideLine f (DataLeg kept s 0 false) w) u m (signals ms))
       (dataLeg s f (bytesSent ms) (accepted s w f [] (bytesSent ms)) (accepted s w f [] (bytesSent ms)) ms)
   unfolding dueOf bytesAt
   data-goes s f z ms =
@@ -101,8 +103,8 @@ module _ (w : WireSide) (u : Uid) (m : List ℕ) (whole : length m ≡ 1024) whe
       let r = accepted-room s w f (bytesSent ms) [] (omega arith) in
       let v : firstOf (onward j f) j ≡ firstOf f 0 = ap (firstOf (onward j f)) (sym (zero-add j)) ∙ first-onward j f 0 (omega arith) in
       record {
-        bus = DataLeg s j (ltb j (length (bytesSent ms)));
-        run = data-run w u s f ms m f 0 [] (record { bytes = whole; count = refl; page-is = refl; first = first-there f z }) ∙ rw (zero-add j, start);
+        bus = DataLeg kept s j (ltb j (length (bytesSent ms)));
+        run = data-run w u kept s f ms m f 0 [] (record { bytes = whole; count = refl; page-is = refl; first = first-there f z }) ∙ rw (zero-add j, start);
         due = due-data s f (firstOf (onward j f) j) m (bytesSent ms) j (v ∙ first-there f z) whole (omega arith) (r .1) (ltb j (length (bytesSent ms))) refl;
       }
 
@@ -116,24 +118,24 @@ module _ (w : WireSide) (u : Uid) (m : List ℕ) (whole : length m ≡ 1024) whe
   low-fetch s h [] a ms = refl
   low-fetch s h (l ∷ xs) a ms = refl
 
-  low-goes-nil : (s : Space) (h : ℕ) → Goes w m (runOf (sideBus (LowAddress s h) w) u m []) (lowLeg s h [] [])
+  low-goes-nil : (s : Space) (h : ℕ) → Goes w m (runOf (sideBus (LowAddress kept s h) w) u m []) (lowLeg s h [] [])
   unfolding runOf lowLeg replies dueOf
-  low-goes-nil s h = record { bus = LowAddress s h; run = refl; due = refl }
+  low-goes-nil s h = record { bus = LowAddress kept s h; run = refl; due = refl }
 
   low-goes-fetch : (s : Space) (h : ℕ) (xs : List ℕ) (a : Bool) (ms : List Move)
-      → Goes w m (runOf (sideBus (LowAddress s h) w) u m (signals ms)) (lowLeg s h xs ms)
-      → Goes w m (runOf (sideBus (LowAddress s h) w) u m (NotedFetch a ∷ signals ms)) (lowLeg s h xs (moveFetch a ∷ ms))
+      → Goes w m (runOf (sideBus (LowAddress kept s h) w) u m (signals ms)) (lowLeg s h xs ms)
+      → Goes w m (runOf (sideBus (LowAddress kept s h) w) u m (NotedFetch a ∷ signals ms)) (lowLeg s h xs (moveFetch a ∷ ms))
   unfolding signalOf wireSignal fetchAt
   low-goes-fetch s h xs a ms g =
-      rw (low-fetch s h xs a ms) (more w u m (sideBus (LowAddress s h) w) (NotedFetch a) (signals ms) _ _ refl refl g)
+      rw (low-fetch s h xs a ms) (more w u m (sideBus (LowAddress kept s h) w) (NotedFetch a) (signals ms) _ _ refl refl g)
 
   low-goes-sent : (s : Space) (h l : ℕ) (ms : List Move)
-      → Goes w m (runOf (sideBus (LowAddress s h) w) u m (NotedSend l ∷ signals ms)) (lowLeg s h (l ∷ bytesSent ms) (moveSend l ∷ ms))
+      → Goes w m (runOf (sideBus (LowAddress kept s h) w) u m (NotedSend l ∷ signals ms)) (lowLeg s h (l ∷ bytesSent ms) (moveSend l ∷ ms))
   unfolding lowLeg replies signalOf wireSignal sendAt
   low-goes-sent s h l ms =
-      more w u m (sideBus (LowAddress s h) w) (NotedSend l) (signals ms) _ _ refl refl (data-goes s (address h l) (omega arith) ms)
+      more w u m (sideBus (LowAddress kept s h) w) (NotedSend l) (signals ms) _ _ refl refl (data-goes s (address h l) (omega arith) ms)
 
-  low-goes : (s : Space) (h : ℕ) (ms : List Move) → Goes w m (runOf (sideBus (LowAddress s h) w) u m (signals ms)) (lowLeg s h (bytesSent ms) ms)
+  low-goes : (s : Space) (h : ℕ) (ms : List Move) → Goes w m (runOf (sideBus (LowAddress kept s h) w) u m (signals ms)) (lowLeg s h (bytesSent ms) ms)
   unfolding signals bytesSent
   low-goes s h [] = low-goes-nil s h
   low-goes s h (moveFetch a ∷ ms) = low-goes-fetch s h (bytesSent ms) a ms (low-goes s h ms)
@@ -151,53 +153,58 @@ module _ (w : WireSide) (u : Uid) (m : List ℕ) (whole : length m ≡ 1024) whe
   write-sent s h [] ms = refl
   write-sent s h (l ∷ xs) ms = refl
 
-  write-goes-nil : (s : Space) → Goes w m (runOf (sideBus (WriteLeg s) w) u m []) (writeLeg s w [] [])
+  write-goes-nil : (s : Space) → Goes w m (runOf (sideBus (WriteLeg kept s) w) u m []) (writeLeg s w [] [])
   unfolding runOf writeLeg replies dueOf
-  write-goes-nil s = record { bus = WriteLeg s; run = refl; due = refl }
+  write-goes-nil s = record { bus = WriteLeg kept s; run = refl; due = refl }
 
   write-goes-fetch : (s : Space) (xs : List ℕ) (a : Bool) (ms : List Move)
-      → Goes w m (runOf (sideBus (WriteLeg s) w) u m (signals ms)) (writeLeg s w xs ms)
-      → Goes w m (runOf (sideBus (WriteLeg s) w) u m (NotedFetch a ∷ signals ms)) (writeLeg s w xs (moveFetch a ∷ ms))
+      → Goes w m (runOf (sideBus (WriteLeg kept s) w) u m (signals ms)) (writeLeg s w xs ms)
+      → Goes w m (runOf (sideBus (WriteLeg kept s) w) u m (NotedFetch a ∷ signals ms)) (writeLeg s w xs (moveFetch a ∷ ms))
   unfolding signalOf wireSignal fetchAt
-  write-goes-fetch s xs a ms g = rw (write-fetch s xs a ms) (more w u m (sideBus (WriteLeg s) w) (NotedFetch a) (signals ms) _ _ refl refl g)
+  write-goes-fetch s xs a ms g = rw (write-fetch s xs a ms) (more w u m (sideBus (WriteLeg kept s) w) (NotedFetch a) (signals ms) _ _ refl refl g)
 
   write-goes-sent : (s : Space) (h : ℕ) (ms : List Move)
-      → Goes w m (runOf (sideBus (WriteLeg s) w) u m (NotedSend h ∷ signals ms)) (writeLeg s w (h ∷ bytesSent ms) (moveSend h ∷ ms))
+      → Goes w m (runOf (sideBus (WriteLeg kept s) w) u m (NotedSend h ∷ signals ms)) (writeLeg s w (h ∷ bytesSent ms) (moveSend h ∷ ms))
   unfolding signalOf wireSignal sendAt
   write-goes-sent s h ms =
-      rw (write-sent s h (bytesSent ms) ms) (more w u m (sideBus (WriteLeg s) w) (NotedSend h) (signals ms) _ _ refl refl (low-goes s h ms))
+      rw (write-sent s h (bytesSent ms) ms) (more w u m (sideBus (WriteLeg kept s) w) (NotedSend h) (signals ms) _ _ refl refl (low-goes s h ms))
 
-  write-goes : (s : Space) (ms : List Move) → Goes w m (runOf (sideBus (WriteLeg s) w) u m (signals ms)) (writeLeg s w (bytesSent ms) ms)
+  write-goes : (s : Space) (ms : List Move) → Goes w m (runOf (sideBus (WriteLeg kept s) w) u m (signals ms)) (writeLeg s w (bytesSent ms) ms)
   unfolding signals bytesSent
   write-goes s [] = write-goes-nil s
   write-goes s (moveFetch a ∷ ms) = write-goes-fetch s (bytesSent ms) a ms (write-goes s ms)
   write-goes s (moveSend h ∷ ms) = write-goes-sent s h ms
 
   -- past a read select
-  read-goes : (s : Space) (ms : List Move) → Goes w m (runOf (sideBus (ReadLeg s false false) w) u m (signals ms)) (readLeg s w u m (served ms) ms)
+  read-goes : (s : Space) (ms : List Move) → Goes w m (runOf (sideBus (ReadLeg kept s false false) w) u m (signals ms)) (readLeg s w u m (served ms) ms)
   unfolding dueOf
   read-goes s ms = record {
-    bus = ReadLeg s (over ms) (lastAmong s w (w .host .counter) (served ms));
-    run = fetch-run ms w u m s (w .host .counter) false;
+    bus = ReadLeg kept s (over ms) (lastAmong s w (w .host .counter) (served ms));
+    run = fetch-run ms w u m kept s (w .host .counter) false;
     due = refl;
   }
 
-  select-goes : (o : Bool) (x : ℕ) (ms : List Move) (c : Choice) → choose (w .host .vcc) (w .host .programming) x ≡ c
+module _ (w : WireSide) (u : Uid) (m : List ℕ) (whole : length m ≡ 1024) where
+  -- what an Acked select keeps
+  abbrev kept : Transfer → OpenTransfer
+  kept o = keptOf o (w .core .registers .dynamic)
+
+  select-goes : (o : Transfer) (x : ℕ) (ms : List Move) (c : Choice) → choose (w .host .vcc) (w .host .programming) x ≡ c
       → Goes w m (runOf (sideBus (Started o) w) u m (NotedSend x ∷ signals ms)) (selectedLeg c w u m ms)
   unfolding selectedLeg selectBy dueOf signalOf wireSignal sendAt fetchAt
   select-goes o x ms NotAcked h =
       more w u m (sideBus (Started o) w) (NotedSend x) (signals ms) (wireResult NoAck (sideBus Idle w) m) _
-      (ap (λ (c : Choice). selectBy c (sideBus (Started o) w) m) h) refl
+      (ap (λ (c : Choice). selectBy c (kept o) (sideBus (Started o) w) m) h) refl
       (record { bus = Idle; run = still (sideBus Idle w) u m (λ x. refl) (λ a. refl) ms; due = refl })
   select-goes o x ms (Reading s) h =
-      more w u m (sideBus (Started o) w) (NotedSend x) (signals ms) (wireResult Ack (sideBus (ReadLeg s false false) w) m) _
-      (ap (λ (c : Choice). selectBy c (sideBus (Started o) w) m) h) refl (read-goes s ms)
+      more w u m (sideBus (Started o) w) (NotedSend x) (signals ms) (wireResult Ack (sideBus (ReadLeg (kept o) s false false) w) m) _
+      (ap (λ (c : Choice). selectBy c (kept o) (sideBus (Started o) w) m) h) refl (read-goes w u m whole (kept o) s ms)
   select-goes o x ms (Writing s) h =
-      more w u m (sideBus (Started o) w) (NotedSend x) (signals ms) (wireResult Ack (sideBus (WriteLeg s) w) m) _
-      (ap (λ (c : Choice). selectBy c (sideBus (Started o) w) m) h) refl (write-goes s ms)
+      more w u m (sideBus (Started o) w) (NotedSend x) (signals ms) (wireResult Ack (sideBus (WriteLeg (kept o) s) w) m) _
+      (ap (λ (c : Choice). selectBy c (kept o) (sideBus (Started o) w) m) h) refl (write-goes w u m whole (kept o) s ms)
 
   -- the leg
-  pub leg-goes : (o : Bool) (ms : List Move) → Goes w m (runOf (sideBus (Started o) w) u m (signals ms)) (legOf w u m ms)
+  pub leg-goes : (o : Transfer) (ms : List Move) → Goes w m (runOf (sideBus (Started o) w) u m (signals ms)) (legOf w u m ms)
   unfolding runOf signals replies legOf dueOf signalOf wireSignal fetchAt
   leg-goes o [] = record { bus = Started o; run = refl; due = refl }
   leg-goes o (moveFetch a ∷ ms) = more w u m (sideBus (Started o) w) (NotedFetch a) (signals ms) _ _ refl refl (leg-goes o ms)

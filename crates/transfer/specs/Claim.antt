@@ -1,9 +1,10 @@
 -- The whole transfer is what its signals give one by one: every answer, the wire side and all 1,024 bytes.
 use mathlib.Core.Path.{_≡_}
-use mathlib.Core.Bool.{Bool, true, false}
+use mathlib.Core.Bool.{true, false}
 use mathlib.Core.List.{List, [], _∷_}
 use Prim.Native.Nat.{ℕ}
 use lib.ListN.{length}
+use Rattle.bus.specs.declared.Transfer.{Transfer}
 use Rattle.bus.specs.declared.Bus.the-variants.{Started}
 use Rattle.tag.specs.declared.WireSide.{WireSide}
 use Rattle.keys.specs.declared.Uid.{Uid}
@@ -29,5 +30,5 @@ pub record Ready (w : WireSide) (m : List ℕ) : Type 0 where
 -- what is noted comes after the first Start, up to the end of the transfer; the bus is started, a transfer open or not
 abbrev pub TransferBySignals : Type 0
 TransferBySignals =
-    (noted : List Noted) → finished true noted ≡ true → (w : WireSide) (u : Uid) (m : List ℕ) (opens : Bool) → Ready w m
-    → transferOf w u m noted ≡ runOf (sideBus (Started opens) w) u m noted
+    (noted : List Noted) → finished true noted ≡ true → (w : WireSide) (u : Uid) (m : List ℕ) (transfer : Transfer) → Ready w m
+    → transferOf w u m noted ≡ runOf (sideBus (Started transfer) w) u m noted

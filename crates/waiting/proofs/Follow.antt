@@ -7,13 +7,14 @@ use native.Mathlib.Omega.{arith}
 use lib.ListN.{length, length-append}
 use Rattle.parts.specs.Pick.{pick}
 use Rattle.parts.proofs.Picks.{pick-case}
-use Rattle.registers.specs.declared.Registers.{Registers}
+use Rattle.register_types.specs.declared.RfMngt.{RfMngt}
 use Rattle.air.specs.declared.Air.{Air}
+use Rattle.bus.specs.declared.Transfer.{Transfer}
 use Rattle.bus.specs.declared.Bus.{Bus}
 use Rattle.bus.specs.declared.Bus.the-variants.{Started}
 use Rattle.tag.specs.declared.Host.{Host}
 use Rattle.tag.specs.declared.WireSide.{WireSide}
-use Rattle.bus.specs.Bus.{isOpen}
+use Rattle.bus.specs.Bus.{transferAt, isOpen}
 use Rattle.air.specs.Radio.{fieldAt}
 use Rattle.tag.specs.Parts.{wireSide, withWire, withTagAir}
 use Rattle.signal_table.specs.declared.WireSignal.{WireSignal}
@@ -21,7 +22,8 @@ use Rattle.signal_table.specs.declared.WireSignal.the-variants.{Send}
 use Rattle.signal.specs.declared.WireAnswer.the-variants.{Nothing as WireNothing}
 use Rattle.signal.specs.Signal.{WireResult, wireResult, sideBus}
 use Rattle.wire.specs.Wire.{signalOf}
-use Rattle.wire_claims.proofs.Line.{registers-stay}
+use Rattle.wire_claims.specs.Claims.{sideCounted}
+use Rattle.wire_claims.proofs.Line.{closed-counted, counted-stays}
 use Rattle.transfer.specs.Legs.{Noted, NotedStart, NotedSend, NotedFetch, NotedStop, NotedVccOff, wireSignal, ends, finished}
 use Rattle.transfer.specs.Whole.{TransferResult, transferResult, transferOf}
 use Rattle.transfer.specs.Claim.{runOf, Ready}
@@ -61,15 +63,15 @@ answers (noTransfer out k) = out
 answers (inside out k n sl) = out ++ fill sl (running k n .answers)
 
 -- in a transfer: the kept tag stood before an Acked select, a place waits for each noted signal, none of which ended the transfer,
--- and no register changed since
+-- and RF_MNGT_Dyn counts as it stands in the kept tag
 pub record Inside (k : Device) (n : List Noted) (sl : List Slot) : Type 0 where
   pub ready : Ready (wireSide (k .tag)) (k .memory)
-  pub before : Bool
+  pub before : Transfer
   pub at : k .tag .host .bus ≡ Started before
   pub places : waiting sl ≡ length n
   pub state : Open (running k n .side .host)
   pub on : On true n (isStarted (running k n .side .host .bus))
-  pub registers : running k n .side .core .registers ≡ k .tag .core .registers
+  pub counted : sideCounted (running k n .side) ≡ k .tag .core .registers .dynamic
 
 -- what holds of the waiting tag at every call
 abbrev pub Good : Waiting → Type 0
@@ -97,9 +99,9 @@ unfolding actOf
 acts-shut x out k c h q = at-once out k (actedBy (Wire x) k c) (stays-shut (wireSide (k .tag)) (k .tag .uid) (k .memory) x h q)
 
 -- an Acked select
-first-inside : (k : Device) (o : List ℕ) (x : ℕ) → Fits k → Selects (k .tag .host) x → Inside k (NotedSend x ∷ []) (waits o ∷ [])
-unfolding runOf wireSignal waiting
-first-inside k o x f s =
+first-inside : (k : Device) (o : List ℕ) (x : ℕ) → Fits k → transferOpen (k .tag) ≡ false → Selects (k .tag .host) x → Inside k (NotedSend x ∷ []) (waits o ∷ [])
+unfolding runOf wireSignal waiting isOpen
+first-inside k o x f h s =
     let g = first-goes (wireSide (k .tag)) (k .tag .uid) (k .memory) x s in
     let opened = open-still true (NotedSend x) _ g (s .goes) in
     record {
@@ -109,39 +111,40 @@ first-inside k o x f s =
       places = refl;
       state = opened;
       on = subst (On true (NotedSend x ∷ [])) (sym (g .fresh-is (s .goes))) (more (s .goes) here);
-      registers = registers-stay (wireSide (k .tag)) (k .tag .uid) (k .memory) (Send x) (supplied (k .tag) (k .memory) f) (opened .bus);
+      counted = counted-stays (wireSide (k .tag)) (k .tag .uid) (k .memory) (Send x) (supplied (k .tag) (k .memory) f) (opened .bus)
+          ∙ closed-counted (transferAt (k .tag .host .bus)) (k .tag .core .registers .dynamic) h;
     }
 
-from-select : (out : List CallAnswer) (k : Device) (c : Call) (x : ℕ) → Fits k → Selects (k .tag .host) x
+from-select : (out : List CallAnswer) (k : Device) (c : Call) (x : ℕ) → Fits k → transferOpen (k .tag) ≡ false → Selects (k .tag .host) x
     → Stepped (noTransfer out k) (inside out k (NotedSend x ∷ []) (waits (c .buffer) ∷ [])) (actedBy (Wire (Send x)) k c)
 unfolding now answers actOf runOf wireSignal fill
-from-select out k c x f s = record { good = first-inside k (c .buffer) x f s; device = refl; answers = refl }
+from-select out k c x f h s = record { good = first-inside k (c .buffer) x f h s; device = refl; answers = refl }
 
 -- the noted signal is one
-by-note : (out : List CallAnswer) (k : Device) (c : Call) (n : Noted) → Fits k → opens (k .tag .host) (n ∷ []) ≡ true
+by-note : (out : List CallAnswer) (k : Device) (c : Call) (n : Noted) → Fits k → transferOpen (k .tag) ≡ false → opens (k .tag .host) (n ∷ []) ≡ true
     → Stepped (noTransfer out k) (inside out k (n ∷ []) (waits (c .buffer) ∷ [])) (actedBy (Wire (wireSignal n)) k c)
 unfolding opens wireSignal
-by-note out k c NotedStart f t = absurd (false≢true t)
-by-note out k c (NotedSend x) f t = from-select out k c x f (selects (k .tag .host) x t)
-by-note out k c (NotedFetch ack) f t = absurd (false≢true t)
-by-note out k c NotedStop f t = absurd (false≢true t)
-by-note out k c NotedVccOff f t = absurd (false≢true t)
+by-note out k c NotedStart f h t = absurd (false≢true t)
+by-note out k c (NotedSend x) f h t = from-select out k c x f h (selects (k .tag .host) x t)
+by-note out k c (NotedFetch ack) f h t = absurd (false≢true t)
+by-note out k c NotedStop f h t = absurd (false≢true t)
+by-note out k c NotedVccOff f h t = absurd (false≢true t)
 
-opening : (out : List CallAnswer) (k : Device) (c : Call) (x : WireSignal) → Fits k → NotedAs x → opens (k .tag .host) (notesOf x) ≡ true
+opening : (out : List CallAnswer) (k : Device) (c : Call) (x : WireSignal) → Fits k → transferOpen (k .tag) ≡ false → NotedAs x → opens (k .tag .host) (notesOf x) ≡ true
     → Stepped (noTransfer out k) (inside out k (notesOf x) (waits (c .buffer) ∷ [])) (actedBy (Wire x) k c)
 unfolding opens
-opening out k c x f (isIdle e i) t = absurd (false≢true (sym (ap (opens (k .tag .host)) e) ∙ t))
-opening out k c x f (isNoted n e q) t =
+opening out k c x f h (isIdle e i) t = absurd (false≢true (sym (ap (opens (k .tag .host)) e) ∙ t))
+opening out k c x f h (isNoted n e q) t =
     subst (λ (l : List Noted). Stepped (noTransfer out k) (inside out k l (waits (c .buffer) ∷ [])) (actedBy (Wire x) k c)) (sym e)
     (subst (λ (x : WireSignal). Stepped (noTransfer out k) (inside out k (n ∷ []) (waits (c .buffer) ∷ [])) (actedBy (Wire x) k c)) q
-    (by-note out k c n f (ap (opens (k .tag .host)) (sym e) ∙ t)))
+    (by-note out k c n f h (ap (opens (k .tag .host)) (sym e) ∙ t)))
 
 by-wire : (out : List CallAnswer) (k : Device) (c : Call) (x : WireSignal) → Fits k → transferOpen (k .tag) ≡ false
     → Stepped (noTransfer out k) (whenClosed out k (Wire x) c) (actedBy (Wire x) k c)
 unfolding whenClosed
 by-wire out k c x f h =
     pick-case (λ (w : Waiting). Stepped (noTransfer out k) w (actedBy (Wire x) k c)) (opens (k .tag .host) (notesOf x)) _ _
-    (opening out k c x f (noted-as x)) (acts-shut x out k c h)
+    (opening out k c x f h (noted-as x)) (acts-shut x out k c h)
 
 by-air : (out : List CallAnswer) (k : Device) (c : Call) (on : Bool) → transferOpen (k .tag) ≡ false
     → Stepped (noTransfer out k) (acts out k (Field on) c) (actedBy (Field on) k c)
@@ -213,9 +216,9 @@ module _ (out : List CallAnswer) (k : Device) (n : List Noted) (sl : List Slot) 
         state = subst (λ (r : TransferResult). Open (r .side .host)) (sym (snoc s)) opened;
         on = subst (λ (r : TransferResult). On true (n ++ s ∷ []) (isStarted (r .side .host .bus))) (sym (snoc s))
             (subst (On true (n ++ s ∷ [])) (sym (e .fresh-is z)) (on-snoc (g .on) s z));
-        registers = ap (λ (r : TransferResult). r .side .core .registers) (snoc s)
-            ∙ registers-stay (running k n .side) (k .tag .uid) (running k n .memory) (wireSignal s) (supplied _ _ f) (opened .bus)
-            ∙ g .registers;
+        counted = ap (λ (r : TransferResult). sideCounted (r .side)) (snoc s)
+            ∙ counted-stays (running k n .side) (k .tag .uid) (running k n .memory) (wireSignal s) (supplied _ _ f) (opened .bus)
+            ∙ g .counted;
       }
 
   goes-on : (s : Noted) (c : Call) → Fits (now (inside out k n sl)) → finished true (n ++ s ∷ []) ≡ false
@@ -236,7 +239,7 @@ module _ (out : List CallAnswer) (k : Device) (n : List Noted) (sl : List Slot) 
       (deviceResult x (after (device (withTagAir a (k .tag)) (k .memory)) (running k n)))
   unfolding now answers
   given-at-once a x = record {
-    good = record { ready = g .ready; before = g .before; at = g .at; places = waiting-given sl x ∙ g .places; state = g .state; on = g .on; registers = g .registers };
+    good = record { ready = g .ready; before = g .before; at = g .at; places = waiting-given sl x ∙ g .places; state = g .state; on = g .on; counted = g .counted };
     device = refl;
     answers = ap (λ (l : List CallAnswer). out ++ l) (fill-given sl (running k n .answers) x filled) ∙ sym (append-assoc out _ _);
   }
@@ -273,7 +276,7 @@ module _ (out : List CallAnswer) (k : Device) (n : List Noted) (sl : List Slot) 
   unfolding now
   frame c =
       frame-shut (after k (running k n)) c (g .state .bus)
-      ∙ ap (λ (r : Registers). deviceResult (callReply (shutBy (c .frame) (k .tag .air) (k .tag .uid) (r .dynamic)) (c .buffer)) (after k (running k n))) (g .registers)
+      ∙ ap (λ (d : RfMngt). deviceResult (callReply (shutBy (c .frame) (k .tag .air) (k .tag .uid) d) (c .buffer)) (after k (running k n))) (g .counted)
       ∙ ap (λ (x : CallAnswer). deviceResult x (after k (running k n))) (sym (frame-waits k c))
 
   from-inside : (x : Signal) (c : Call) → Fits (now (inside out k n sl))

@@ -8,8 +8,13 @@ use Rattle.parts.specs.Bits.{isSet}
 use Rattle.parts.proofs.Bools.{or-second}
 use Rattle.register_types.specs.declared.RfMngt.{RfMngt}
 use Rattle.air.specs.declared.Air.{Air}
+use Rattle.bus.specs.declared.Transfer.{Transfer}
+use Rattle.bus.specs.declared.Transfer.the-variants.{Closed, Open}
+use Rattle.bus.specs.Bus.{isOpenTransfer, countedDynamic, keptOf, transferAt, isOpen}
 use Rattle.keys.specs.declared.Uid.{Uid}
 use Rattle.tag.specs.declared.Tag.{Tag}
+use Rattle.tag.specs.Parts.{wireSide}
+use Rattle.wire_claims.specs.Claims.{sideCounted}
 use Rattle.reply.specs.declared.RadioSide.{RadioSide}
 use Rattle.errors.specs.declared.RadioError.the-variants.{ShutOut}
 use Rattle.reply.specs.Reply.{ReplyBody, nothing, fault}
@@ -37,29 +42,30 @@ two-tests false false t u vcc m s = refl
 abbrev pub shutBy : List ℕ → Air → Uid → RfMngt → ReplyBody
 shutBy s a u d = pick (isSilent s a u d || isMute s u) nothing (fault ShutOut)
 
-pub shut-told : (t : RadioSide) (u : Uid) (vcc transfer programming : Bool) (m s : List ℕ) → transfer ≡ true
-    → radioOf t u vcc transfer programming m s ≡ commandResult (shutBy s (t .air) u (t .core .registers .dynamic)) t m
+pub shut-told : (t : RadioSide) (u : Uid) (vcc : Bool) (transfer : Transfer) (programming : Bool) (m s : List ℕ) → isOpenTransfer transfer ≡ true
+    → radioOf t u vcc transfer programming m s ≡ commandResult (shutBy s (t .air) u (countedDynamic transfer (t .core .registers .dynamic))) t m
 unfolding radioOf shutOut errorOf
 shut-told t u vcc transfer programming m s h =
-    let d = t .core .registers .dynamic in
+    let d = countedDynamic transfer (t .core .registers .dynamic) in
+    let opened = isOpenTransfer transfer in
     ap (λ (v : Verdict). verdictResult v t u vcc m s)
-    (shut-out-decides s (t .air) u d (transfer || programming) (or-second (isSet 1 (d .bits)) (transfer || programming) (rw h)))
+    (shut-out-decides s (t .air) u d (opened || programming) (or-second (isSet 1 (d .bits)) (opened || programming) (rw h)))
     ∙ two-tests (isSilent s (t .air) u d) (isMute s u) t u vcc m s
 
-abbrev shutFrom : Tag → Call → ReplyBody
-shutFrom t c = shutBy (c .frame) (t .air) (t .uid) (t .core .registers .dynamic)
+abbrev shutFrom : Tag → RfMngt → Call → ReplyBody
+shutFrom t dynamic c = shutBy (c .frame) (t .air) (t .uid) dynamic
 
 -- by the entry point
 pub frame-shut : (d : Device) (c : Call) → transferOpen (d .tag) ≡ true
-    → actedBy Frame d c ≡ deviceResult (callReply (shutFrom (d .tag) c) (c .buffer)) d
-unfolding actOf
+    → actedBy Frame d c ≡ deviceResult (callReply (shutFrom (d .tag) (sideCounted (wireSide (d .tag))) c) (c .buffer)) d
+unfolding actOf isOpen
 frame-shut d c h =
     ap (λ (r : CommandResult). deviceResult (callReply (r .reply) (c .buffer)) (device (record { air = r .side .air; host = d .tag .host; core = r .side .core; uid = d .tag .uid }) (r .memory)))
-    (shut-told (radioSide (d .tag)) (d .tag .uid) (d .tag .host .vcc) (transferOpen (d .tag)) (d .tag .host .programming) (d .memory) (c .frame) h)
+    (shut-told (radioSide (d .tag)) (d .tag .uid) (d .tag .host .vcc) (transferAt (d .tag .host .bus)) (d .tag .host .programming) (d .memory) (c .frame) h)
 
 -- by the waiting tag
-pub frame-waits : (k : Device) (c : Call) → frameAnswer k c ≡ callReply (shutFrom (k .tag) c) (c .buffer)
-unfolding frameAnswer
+pub frame-waits : (k : Device) (c : Call) → frameAnswer k c ≡ callReply (shutFrom (k .tag) (k .tag .core .registers .dynamic) c) (c .buffer)
+unfolding frameAnswer isOpenTransfer countedDynamic keptOf
 frame-waits k c =
     ap (λ (r : CommandResult). callReply (r .reply) (c .buffer))
-    (shut-told (radioSide (k .tag)) (k .tag .uid) (k .tag .host .vcc) true (k .tag .host .programming) (k .memory) (c .frame) refl)
+    (shut-told (radioSide (k .tag)) (k .tag .uid) (k .tag .host .vcc) (Open (keptOf Closed (k .tag .core .registers .dynamic))) (k .tag .host .programming) (k .memory) (c .frame) refl)

@@ -7,12 +7,14 @@ use borrow.Author.Tests.{not-true}
 use Rattle.parts.specs.Pick.{pick}
 use Rattle.parts.proofs.Picks.{pick-true, pick-false, pick-case}
 use Rattle.bus.specs.declared.Space.{Space}
+use Rattle.bus.specs.declared.OpenTransfer.{OpenTransfer}
+use Rattle.bus.specs.declared.Transfer.{Transfer}
 use Rattle.bus.specs.declared.Bus.{Bus}
 use Rattle.bus.specs.declared.Bus.the-variants.{Idle, Started, ReadLeg, WriteLeg, LowAddress, DataLeg}
 use Rattle.tag.specs.declared.Host.{Host}
 use Rattle.tag.specs.declared.WireSide.{WireSide}
 use Rattle.keys.specs.declared.Uid.{Uid}
-use Rattle.bus.specs.Bus.{isOpen}
+use Rattle.bus.specs.Bus.{transferAt, isOpenTransfer, isOpen}
 use Rattle.tag.specs.Supply.{vccAt}
 use Rattle.tag.specs.Parts.{withProgramming, withHost}
 use Rattle.select.specs.declared.Choice.{Choice}
@@ -57,57 +59,57 @@ on-at : (fresh : Bool) (s : Noted) (h : Host) → ends fresh s ≡ false → Ope
 on-at fresh s h e o f = record { over = o .bus ∙ ap not (sym e); vcc = λ n. o .vcc; still = λ n. o .still; fresh-is = λ n. f }
 
 -- ---- a select
-by-choice : (x : ℕ) (c : Choice) (w : WireSide) (m : List ℕ) → selectOf x ≡ c → w .host .vcc ≡ true → w .host .programming ≡ false
-    → Going true (NotedSend x) (selectBy c w m .side .host)
-unfolding selectBy ends fresher isOpen isStarted selectRefused
-by-choice x NotAcked w m q v p = over-at true (NotedSend x) _ (ap selectRefused q) refl
-by-choice x (Reading s) w m q v p = on-at true (NotedSend x) _ (ap selectRefused q) (record { vcc = v; still = p; bus = refl }) refl
-by-choice x (Writing s) w m q v p = on-at true (NotedSend x) _ (ap selectRefused q) (record { vcc = v; still = p; bus = refl }) refl
+by-choice : (x : ℕ) (c : Choice) (kept : OpenTransfer) (w : WireSide) (m : List ℕ) → selectOf x ≡ c → w .host .vcc ≡ true → w .host .programming ≡ false
+    → Going true (NotedSend x) (selectBy c kept w m .side .host)
+unfolding selectBy ends fresher isOpen transferAt isOpenTransfer isStarted selectRefused
+by-choice x NotAcked kept w m q v p = over-at true (NotedSend x) _ (ap selectRefused q) refl
+by-choice x (Reading s) kept w m q v p = on-at true (NotedSend x) _ (ap selectRefused q) (record { vcc = v; still = p; bus = refl }) refl
+by-choice x (Writing s) kept w m q v p = on-at true (NotedSend x) _ (ap selectRefused q) (record { vcc = v; still = p; bus = refl }) refl
 
 choose-ready : (x : ℕ) (v p : Bool) → v ≡ true → p ≡ false → choose v p x ≡ selectOf x
 unfolding choose
 choose-ready x v p h k = sym (pick-false _ _ _ _ (rw (h, k)) refl)
 
 -- ---- a byte sent, a byte fetched
-by-data : (s : Space) (k : ℕ) (w : WireSide) (m : List ℕ) (x : ℕ) → Open (w .host) → Going false (NotedSend x) (dataOf s k w m x .side .host)
-unfolding dataOf ends fresher isOpen isStarted
-by-data s k w m x o =
+by-data : (kept : OpenTransfer) (s : Space) (k : ℕ) (w : WireSide) (m : List ℕ) (x : ℕ) → Open (w .host) → Going false (NotedSend x) (dataOf kept s k w m x .side .host)
+unfolding dataOf ends fresher isOpen transferAt isOpenTransfer isStarted
+by-data kept s k w m x o =
     pick-case (λ (r : WireResult). Going false (NotedSend x) (r .side .host)) _ _ _
     (λ t. on-at false (NotedSend x) _ refl (record { vcc = o .vcc; still = o .still; bus = refl }) refl)
     (λ t. on-at false (NotedSend x) _ refl (record { vcc = o .vcc; still = o .still; bus = refl }) refl)
 
 by-send : (b : Bus) (w : WireSide) (m : List ℕ) (x : ℕ) → w .host .bus ≡ b → Open (w .host) → Going (isStarted b) (NotedSend x) (sendAt b w m x .side .host)
-unfolding sendAt ends fresher isOpen isStarted
+unfolding sendAt ends fresher isOpen transferAt isOpenTransfer isStarted
 by-send Idle w m x e o = absurd (false≢true (sym (ap isOpen e) ∙ o .bus))
 by-send (Started t) w m x e o =
-    by-choice x (choose (w .host .vcc) (w .host .programming) x) w m (sym (choose-ready x (w .host .vcc) (w .host .programming) (o .vcc) (o .still))) (o .vcc) (o .still)
-by-send (ReadLeg s over last) w m x e o = on-at false (NotedSend x) _ refl o (ap isStarted e)
-by-send (WriteLeg s) w m x e o = on-at false (NotedSend x) _ refl (record { vcc = o .vcc; still = o .still; bus = refl }) refl
-by-send (LowAddress s h) w m x e o = on-at false (NotedSend x) _ refl (record { vcc = o .vcc; still = o .still; bus = refl }) refl
-by-send (DataLeg s k spoiled) w m x e o =
+    by-choice x (choose (w .host .vcc) (w .host .programming) x) _ w m (sym (choose-ready x (w .host .vcc) (w .host .programming) (o .vcc) (o .still))) (o .vcc) (o .still)
+by-send (ReadLeg kept s over last) w m x e o = on-at false (NotedSend x) _ refl o (ap isStarted e)
+by-send (WriteLeg kept s) w m x e o = on-at false (NotedSend x) _ refl (record { vcc = o .vcc; still = o .still; bus = refl }) refl
+by-send (LowAddress kept s h) w m x e o = on-at false (NotedSend x) _ refl (record { vcc = o .vcc; still = o .still; bus = refl }) refl
+by-send (DataLeg kept s k spoiled) w m x e o =
     pick-case (λ (r : WireResult). Going false (NotedSend x) (r .side .host)) spoiled _ _
-    (λ t. on-at false (NotedSend x) _ refl o (ap isStarted e)) (λ t. by-data s k w m x o)
+    (λ t. on-at false (NotedSend x) _ refl o (ap isStarted e)) (λ t. by-data kept s k w m x o)
 
 by-fetch : (b : Bus) (w : WireSide) (u : Uid) (m : List ℕ) (a : Bool) → w .host .bus ≡ b → Open (w .host)
     → Going (isStarted b) (NotedFetch a) (fetchAt b w u m a .side .host)
-unfolding fetchAt ends fresher isOpen isStarted
+unfolding fetchAt ends fresher isOpen transferAt isOpenTransfer isStarted
 by-fetch Idle w u m a e o = absurd (false≢true (sym (ap isOpen e) ∙ o .bus))
 by-fetch (Started t) w u m a e o = on-at true (NotedFetch a) _ refl o (ap isStarted e)
-by-fetch (ReadLeg s over last) w u m a e o =
+by-fetch (ReadLeg kept s over last) w u m a e o =
     pick-case (λ (r : WireResult). Going false (NotedFetch a) (r .side .host)) over _ _
     (λ t. on-at false (NotedFetch a) _ refl o (ap isStarted e))
     (λ t. on-at false (NotedFetch a) _ refl (record { vcc = o .vcc; still = o .still; bus = refl }) refl)
-by-fetch (WriteLeg s) w u m a e o = on-at false (NotedFetch a) _ refl o (ap isStarted e)
-by-fetch (LowAddress s h) w u m a e o = on-at false (NotedFetch a) _ refl o (ap isStarted e)
-by-fetch (DataLeg s k spoiled) w u m a e o = on-at false (NotedFetch a) _ refl o (ap isStarted e)
+by-fetch (WriteLeg kept s) w u m a e o = on-at false (NotedFetch a) _ refl o (ap isStarted e)
+by-fetch (LowAddress kept s h) w u m a e o = on-at false (NotedFetch a) _ refl o (ap isStarted e)
+by-fetch (DataLeg kept s k spoiled) w u m a e o = on-at false (NotedFetch a) _ refl o (ap isStarted e)
 
 -- ---- a Start
-started-host : (w : WireSide) (m : List ℕ) → startAt (w .host .bus) w m .side .host ≡ sideBus (Started (isOpen (w .host .bus))) w .host
+started-host : (w : WireSide) (m : List ℕ) → startAt (w .host .bus) w m .side .host ≡ sideBus (Started (transferAt (w .host .bus))) w .host
 unfolding startAt
-started-host w m = start-host (dueOf (w .host .bus) (w .host .counter) m) (sideBus (Started (isOpen (w .host .bus))) w) m
+started-host w m = start-host (dueOf (w .host .bus) (w .host .counter) m) (sideBus (Started (transferAt (w .host .bus))) w) m
 
 by-start : (w : WireSide) (m : List ℕ) → Open (w .host) → Going (isStarted (w .host .bus)) NotedStart (startOf w m .side .host)
-unfolding startOf ends fresher isOpen isStarted
+unfolding startOf ends fresher isOpen transferAt isOpenTransfer isStarted
 by-start w m o =
     pick-case (λ (r : WireResult). Going (isStarted (w .host .bus)) NotedStart (r .side .host)) (w .host .vcc) _ _
     (λ t. subst (Going (isStarted (w .host .bus)) NotedStart) (sym (started-host w m))
@@ -116,7 +118,7 @@ by-start w m o =
 
 -- ---- VCC off
 off-shut : (w : WireSide) → w .host .vcc ≡ true → isOpen (vccAt false w .host .bus) ≡ false
-unfolding vccAt isOpen
+unfolding vccAt isOpen transferAt isOpenTransfer
 off-shut w v =
     let P : WireSide → Type 0 = λ x. isOpen (x .host .bus) ≡ false in
     pick-case P false _ _ (λ t. absurd (false≢true t)) (λ t. pick-case P (w .host .vcc) _ _ (λ y. refl) (λ n. absurd (false≢true (sym n ∙ v))))
@@ -133,40 +135,40 @@ going w u m NotedVccOff o = over-at _ NotedVccOff _ refl (off-shut w (o .vcc))
 
 -- ---- no transfer open
 shut-start : (w : WireSide) (m : List ℕ) → isOpen (w .host .bus) ≡ false → isOpen (startOf w m .side .host .bus) ≡ false
-unfolding startOf isOpen
+unfolding startOf isOpen transferAt isOpenTransfer
 shut-start w m h =
     pick-case (λ (r : WireResult). isOpen (r .side .host .bus) ≡ false) (w .host .vcc) _ _
     (λ t. ap (λ (x : Host). isOpen (x .bus)) (started-host w m) ∙ h) (λ t. h)
 
-shut-select : (c : Choice) (w : WireSide) (m : List ℕ) → not (selectRefused c) ≡ false → isOpen (selectBy c w m .side .host .bus) ≡ false
-unfolding selectBy selectRefused isOpen
-shut-select NotAcked w m h = refl
-shut-select (Reading s) w m h = absurd (false≢true (sym h))
-shut-select (Writing s) w m h = absurd (false≢true (sym h))
+shut-select : (c : Choice) (kept : OpenTransfer) (w : WireSide) (m : List ℕ) → not (selectRefused c) ≡ false → isOpen (selectBy c kept w m .side .host .bus) ≡ false
+unfolding selectBy selectRefused isOpen transferAt isOpenTransfer
+shut-select NotAcked kept w m h = refl
+shut-select (Reading s) kept w m h = absurd (false≢true (sym h))
+shut-select (Writing s) kept w m h = absurd (false≢true (sym h))
 
 shut-send : (b : Bus) (w : WireSide) (m : List ℕ) (x : ℕ) → w .host .bus ≡ b → isOpen b ≡ false
     → (isStarted b && not (selectRefused (choose (w .host .vcc) (w .host .programming) x))) ≡ false
     → isOpen (sendAt b w m x .side .host .bus) ≡ false
-unfolding sendAt isStarted isOpen
+unfolding sendAt isStarted isOpen transferAt isOpenTransfer
 shut-send Idle w m x e h q = ap isOpen e
-shut-send (Started t) w m x e h q = shut-select (choose (w .host .vcc) (w .host .programming) x) w m q
-shut-send (ReadLeg s over last) w m x e h q = absurd (false≢true (sym h))
-shut-send (WriteLeg s) w m x e h q = absurd (false≢true (sym h))
-shut-send (LowAddress s y) w m x e h q = absurd (false≢true (sym h))
-shut-send (DataLeg s k spoiled) w m x e h q = absurd (false≢true (sym h))
+shut-send (Started t) w m x e h q = shut-select (choose (w .host .vcc) (w .host .programming) x) _ w m q
+shut-send (ReadLeg kept s over last) w m x e h q = absurd (false≢true (sym h))
+shut-send (WriteLeg kept s) w m x e h q = absurd (false≢true (sym h))
+shut-send (LowAddress kept s y) w m x e h q = absurd (false≢true (sym h))
+shut-send (DataLeg kept s k spoiled) w m x e h q = absurd (false≢true (sym h))
 
 shut-fetch : (b : Bus) (w : WireSide) (u : Uid) (m : List ℕ) (a : Bool) → w .host .bus ≡ b → isOpen b ≡ false
     → isOpen (fetchAt b w u m a .side .host .bus) ≡ false
-unfolding fetchAt isOpen
+unfolding fetchAt isOpen transferAt isOpenTransfer
 shut-fetch Idle w u m a e h = ap isOpen e
 shut-fetch (Started t) w u m a e h = ap isOpen e ∙ h
-shut-fetch (ReadLeg s over last) w u m a e h = absurd (false≢true (sym h))
-shut-fetch (WriteLeg s) w u m a e h = absurd (false≢true (sym h))
-shut-fetch (LowAddress s y) w u m a e h = absurd (false≢true (sym h))
-shut-fetch (DataLeg s k spoiled) w u m a e h = absurd (false≢true (sym h))
+shut-fetch (ReadLeg kept s over last) w u m a e h = absurd (false≢true (sym h))
+shut-fetch (WriteLeg kept s) w u m a e h = absurd (false≢true (sym h))
+shut-fetch (LowAddress kept s y) w u m a e h = absurd (false≢true (sym h))
+shut-fetch (DataLeg kept s k spoiled) w u m a e h = absurd (false≢true (sym h))
 
 shut-vcc : (on : Bool) (w : WireSide) → isOpen (w .host .bus) ≡ false → isOpen (vccAt on w .host .bus) ≡ false
-unfolding vccAt isOpen
+unfolding vccAt isOpen transferAt isOpenTransfer
 shut-vcc on w h =
     let P : WireSide → Type 0 = λ x. isOpen (x .host .bus) ≡ false in
     pick-case P on _ _ (λ t. pick-case P (w .host .vcc) _ _ (λ v. h) (λ v. h)) (λ t. pick-case P (w .host .vcc) _ _ (λ v. refl) (λ v. h))
@@ -222,7 +224,7 @@ noted-as ProgrammingEnd = isIdle refl programming-idles
 
 -- an Acked select finds the bus started, VCC on and nothing being programmed
 pub record Selects (h : Host) (x : ℕ) : Type 0 where
-  pub before : Bool
+  pub before : Transfer
   pub at : h .bus ≡ Started before
   pub vcc : h .vcc ≡ true
   pub still : h .programming ≡ false
@@ -241,10 +243,10 @@ by-started Idle h x e q = absurd (false≢true q)
 by-started (Started t) h x e q =
     let c = on-choice x (h .vcc) (h .programming) q in
     record { before = t; at = e; vcc = c .0; still = c .1 .0; goes = c .1 .1 }
-by-started (ReadLeg s over last) h x e q = absurd (false≢true q)
-by-started (WriteLeg s) h x e q = absurd (false≢true q)
-by-started (LowAddress s y) h x e q = absurd (false≢true q)
-by-started (DataLeg s k spoiled) h x e q = absurd (false≢true q)
+by-started (ReadLeg kept s over last) h x e q = absurd (false≢true q)
+by-started (WriteLeg kept s) h x e q = absurd (false≢true q)
+by-started (LowAddress kept s y) h x e q = absurd (false≢true q)
+by-started (DataLeg kept s k spoiled) h x e q = absurd (false≢true q)
 
 pub selects : (h : Host) (x : ℕ) → ackedSelect h x ≡ true → Selects h x
 unfolding ackedSelect
@@ -255,5 +257,5 @@ pub first-goes : (w : WireSide) (u : Uid) (m : List ℕ) (x : ℕ) → Selects (
 unfolding signalOf sendAt
 first-goes w u m x s =
     subst (λ (b : Bus). Going true (NotedSend x) (sendAt b w m x .side .host)) (sym (s .at))
-    (by-choice x (choose (w .host .vcc) (w .host .programming) x) w m
+    (by-choice x (choose (w .host .vcc) (w .host .programming) x) _ w m
     (sym (choose-ready x (w .host .vcc) (w .host .programming) (s .vcc) (s .still))) (s .vcc) (s .still))

@@ -4,8 +4,10 @@ use mathlib.Core.Bool.{Bool, true, false, not, _&&_}
 use mathlib.Core.List.{List, [], _∷_, _++_}
 use Prim.Native.Nat.{ℕ}
 use Rattle.parts.specs.Pick.{pick}
+use Rattle.bus.specs.declared.Transfer.the-variants.{Closed, Open}
 use Rattle.bus.specs.declared.Bus.{Bus}
 use Rattle.bus.specs.declared.Bus.the-variants.{Idle, Started, ReadLeg, WriteLeg, LowAddress, DataLeg}
+use Rattle.bus.specs.Bus.{keptOf}
 use Rattle.tag.specs.declared.Host.{Host}
 use Rattle.air.specs.Radio.{fieldAt}
 use Rattle.tag.specs.Parts.{wireSide, withWire, withTagAir}
@@ -64,10 +66,10 @@ notesOf ProgrammingEnd = []
 unfoldable pub isStarted : Bus → Bool
 isStarted Idle = false
 isStarted (Started transfer) = true
-isStarted (ReadLeg space over last) = false
-isStarted (WriteLeg space) = false
-isStarted (LowAddress space high) = false
-isStarted (DataLeg space count spoiled) = false
+isStarted (ReadLeg kept space over last) = false
+isStarted (WriteLeg kept space) = false
+isStarted (LowAddress kept space high) = false
+isStarted (DataLeg kept space count spoiled) = false
 
 -- "an Acked select": byte x, the first one sent after a Start
 unfoldable pub ackedSelect : Host → ℕ → Bool
@@ -107,7 +109,8 @@ note out d noted slots =
 -- "frames are answered from the kept tag, a transfer being open"
 unfoldable pub frameAnswer : Device → Call → CallAnswer
 frameAnswer d call =
-    let result = radioOf (radioSide (d .tag)) (d .tag .uid) (d .tag .host .vcc) true (d .tag .host .programming) (d .memory) (call .frame) in
+    let transfer = Open (keptOf Closed (d .tag .core .registers .dynamic)) in
+    let result = radioOf (radioSide (d .tag)) (d .tag .uid) (d .tag .host .vcc) transfer (d .tag .host .programming) (d .memory) (call .frame) in
     callReply (result .reply) (call .buffer)
 
 -- one more signal noted, or answered as one that does nothing

@@ -21,13 +21,13 @@ use Rattle.send.specs.Send.{sendAt}
 unfoldable pub fetchAt : Bus → WireSide → Uid → List ℕ → Bool → WireResult
 fetchAt Idle w u m ack = wireResult (Byte 0xFF) w m
 fetchAt (Started transfer) w u m ack = wireResult (Byte 0xFF) w m
-fetchAt (ReadLeg space over last) w u m ack =
+fetchAt (ReadLeg kept space over last) w u m ack =
     pick over (wireResult (Byte 0xFF) w m)
     (wireResult (Byte (fetched space (w .core) (w .host .session) u m (w .host .counter)))
-    (sideLine (nextAddress (w .host .counter)) (ReadLeg space (not ack) (last || isLast space (w .core .mailbox) (w .host .counter))) w) m)
-fetchAt (WriteLeg space) w u m ack = wireResult (Byte 0xFF) w m
-fetchAt (LowAddress space high) w u m ack = wireResult (Byte 0xFF) w m
-fetchAt (DataLeg space count spoiled) w u m ack = wireResult (Byte 0xFF) w m
+    (sideLine (nextAddress (w .host .counter)) (ReadLeg kept space (not ack) (last || isLast space (w .core .mailbox) (w .host .counter))) w) m)
+fetchAt (WriteLeg kept space) w u m ack = wireResult (Byte 0xFF) w m
+fetchAt (LowAddress kept space high) w u m ack = wireResult (Byte 0xFF) w m
+fetchAt (DataLeg kept space count spoiled) w u m ack = wireResult (Byte 0xFF) w m
 
 -- "a programming end with nothing under way change[s] nothing"
 abbrev pub programmed : WireSide → WireSide

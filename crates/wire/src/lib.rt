@@ -5,6 +5,7 @@ ghost use Rattle.signal.specs.declared.WireAnswer.the-variants.{Nothing, Byte};
 ghost use Rattle.signal.specs.Signal.{wireResult};
 ghost use Rattle.wire.specs.Wire.{fetchAt, programmed, signalOf};
 use bus::Bus;
+use bus::OpenTransfer;
 use bus::Space;
 use keys::Uid;
 use signal::WireAnswer;
@@ -23,6 +24,7 @@ fn no_byte(w: WireSide) -> WireOutcome
 
 // A byte fetched in a read leg.
 fn fetch_read(
+    kept: OpenTransfer,
     space: Space,
     over: bool,
     last: bool,
@@ -31,7 +33,7 @@ fn fetch_read(
     m: &[u8],
     ack: bool,
 ) -> WireOutcome
-    ensures { λ r. ⌜ wireResult (r .answer) (r .side) (now (m .entry)) ≡ fetchAt (ReadLeg space over last) w u (now (m .entry)) ack ⌝ }
+    ensures { λ r. ⌜ wireResult (r .answer) (r .side) (now (m .entry)) ≡ fetchAt (ReadLeg kept space over last) w u (now (m .entry)) ack ⌝ }
 {
     if over {
         return no_byte(w);
@@ -41,6 +43,7 @@ fn fetch_read(
     let reached = fetch::is_last(space, w.core.mailbox, counter);
     let after = bus::next_address(counter);
     let leg = Bus::ReadLeg {
+        kept: kept,
         space: space,
         over: !ack,
         last: last | reached,
@@ -58,10 +61,16 @@ fn fetch_at(b: Bus, w: WireSide, u: Uid, m: &[u8], ack: bool) -> WireOutcome
     match b {
         Bus::Idle => no_byte(w),
         Bus::Started(transfer) => no_byte(w),
-        Bus::ReadLeg { space, over, last } => fetch_read(space, over, last, w, u, m, ack),
-        Bus::WriteLeg(space) => no_byte(w),
-        Bus::LowAddress { space, high } => no_byte(w),
+        Bus::ReadLeg {
+            kept,
+            space,
+            over,
+            last,
+        } => fetch_read(kept, space, over, last, w, u, m, ack),
+        Bus::WriteLeg { kept, space } => no_byte(w),
+        Bus::LowAddress { kept, space, high } => no_byte(w),
         Bus::DataLeg {
+            kept,
             space,
             count,
             spoiled,

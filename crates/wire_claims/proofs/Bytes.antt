@@ -8,11 +8,12 @@ use Rattle.parts.proofs.Picks.{pick-case}
 use Rattle.parts.proofs.Below.{Below, run-below, set-below, sets-below}
 use Rattle.bus.specs.declared.Space.{Space}
 use Rattle.bus.specs.declared.Space.the-variants.{User, System}
+use Rattle.bus.specs.declared.OpenTransfer.{OpenTransfer}
 use Rattle.bus.specs.declared.Bus.{Bus}
 use Rattle.bus.specs.declared.Bus.the-variants.{Idle, Started, ReadLeg, WriteLeg, LowAddress, DataLeg}
 use Rattle.tag.specs.declared.WireSide.{WireSide}
 use Rattle.keys.specs.declared.Uid.{Uid}
-use Rattle.bus.specs.Bus.{isOpen}
+use Rattle.bus.specs.Bus.{transferAt}
 use Rattle.keys.specs.Keys.{passwordAt, samePassword}
 use Rattle.tag.specs.Layout.{page}
 use Rattle.select.specs.declared.Choice.{Choice}
@@ -23,6 +24,7 @@ use Rattle.user_leg.specs.UserLeg.{userWritten}
 use Rattle.system_leg.specs.SystemLeg.{systemWritten, passwordWritten}
 use Rattle.signal_table.specs.declared.WireSignal.{WireSignal}
 use Rattle.signal.specs.Signal.{WireResult, sideBus, dueOf, startAt, startOf, stopAt}
+use Rattle.signal.proofs.Ended.{start-case}
 use Rattle.send.specs.Send.{selectBy, dataOf, sendAt}
 use Rattle.wire.specs.Wire.{fetchAt, signalOf}
 use Rattle.signal_table.specs.Table.{sentByte}
@@ -52,19 +54,16 @@ module _ (w : WireSide) (m : List ℕ) (h : Below m) where
   leg-small System f bs p = pick-case S (eqb f 0x0900) _ _ (λ t. password-small bs) (λ t. h)
 
   start-small : (d : Due) → S (settle started d w m)
-  unfolding settle
-  start-small nothingDue = h
-  start-small clears = h
-  start-small (writes s f bs) = h
+  start-small d = start-case S w m h h (λ x. h) (λ x. h) d
 
   due-small : (b : Bus) (c : ℕ) → S (settle stopped (dueOf b c m) w m)
   unfolding dueOf settle
   due-small Idle c = h
   due-small (Started o) c = h
-  due-small (ReadLeg s over last) c = pick-case (λ (d : Due). S (settle stopped d w m)) last clears nothingDue (λ t. h) (λ t. h)
-  due-small (WriteLeg s) c = h
-  due-small (LowAddress s y) c = h
-  due-small (DataLeg s n spoiled) c =
+  due-small (ReadLeg kept s over last) c = pick-case (λ (d : Due). S (settle stopped d w m)) last clears nothingDue (λ t. h) (λ t. h)
+  due-small (WriteLeg kept s) c = h
+  due-small (LowAddress kept s y) c = h
+  due-small (DataLeg kept s n spoiled) c =
       pick-case (λ (d : Due). S (settle stopped d w m)) _ nothingDue _ (λ t. h) (λ t. leg-small s _ (page n m) (run-below m 768 n h))
 
 -- ---- a signal
@@ -72,39 +71,39 @@ abbrev E : WireResult → Type 0
 E e = Below (e .memory)
 
 module _ (w : WireSide) (m : List ℕ) (h : Below m) where
-  select-small : (c : Choice) → E (selectBy c w m)
+  select-small : (c : Choice) (kept : OpenTransfer) → E (selectBy c kept w m)
   unfolding selectBy
-  select-small NotAcked = h
-  select-small (Reading s) = h
-  select-small (Writing s) = h
+  select-small NotAcked kept = h
+  select-small (Reading s) kept = h
+  select-small (Writing s) kept = h
 
-  data-small : (s : Space) (n x : ℕ) → x < 256 → E (dataOf s n w m x)
+  data-small : (kept : OpenTransfer) (s : Space) (n x : ℕ) → x < 256 → E (dataOf kept s n w m x)
   unfolding dataOf
-  data-small s n x p = pick-case E _ _ _ (λ t. set-below m (768 + n) x p h) (λ t. h)
+  data-small kept s n x p = pick-case E _ _ _ (λ t. set-below m (768 + n) x p h) (λ t. h)
 
   send-small : (b : Bus) (x : ℕ) → x < 256 → E (sendAt b w m x)
   unfolding sendAt
   send-small Idle x p = h
-  send-small (Started o) x p = select-small _
-  send-small (ReadLeg s o l) x p = h
-  send-small (WriteLeg s) x p = h
-  send-small (LowAddress s y) x p = h
-  send-small (DataLeg s n spoiled) x p = pick-case E spoiled _ _ (λ t. h) (λ t. data-small s n x p)
+  send-small (Started o) x p = select-small _ _
+  send-small (ReadLeg kept s o l) x p = h
+  send-small (WriteLeg kept s) x p = h
+  send-small (LowAddress kept s y) x p = h
+  send-small (DataLeg kept s n spoiled) x p = pick-case E spoiled _ _ (λ t. h) (λ t. data-small kept s n x p)
 
   fetch-small : (b : Bus) (u : Uid) (ack : Bool) → E (fetchAt b w u m ack)
   unfolding fetchAt
   fetch-small Idle u ack = h
   fetch-small (Started o) u ack = h
-  fetch-small (ReadLeg s over last) u ack = pick-case E over _ _ (λ t. h) (λ t. h)
-  fetch-small (WriteLeg s) u ack = h
-  fetch-small (LowAddress s y) u ack = h
-  fetch-small (DataLeg s n spoiled) u ack = h
+  fetch-small (ReadLeg kept s over last) u ack = pick-case E over _ _ (λ t. h) (λ t. h)
+  fetch-small (WriteLeg kept s) u ack = h
+  fetch-small (LowAddress kept s y) u ack = h
+  fetch-small (DataLeg kept s n spoiled) u ack = h
 
 pub keeps-bytes : KeepsBytes
 unfolding startOf startAt stopAt sentByte
 keeps-bytes w u m s p h =
     signal-case (λ (s : WireSignal) (e : WireResult). sentByte s < 256 → E e) w u m
-    (λ _. pick-case E (w .host .vcc) _ _ (λ v. start-small (sideBus (Started (isOpen (w .host .bus))) w) m h (dueOf (w .host .bus) (w .host .counter) m)) (λ v. h))
+    (λ _. pick-case E (w .host .vcc) _ _ (λ v. start-small (sideBus (Started (transferAt (w .host .bus))) w) m h (dueOf (w .host .bus) (w .host .counter) m)) (λ v. h))
     (send-small w m h (w .host .bus))
     (λ ack _. fetch-small w m h (w .host .bus) u ack)
     (λ _. due-small (sideBus Idle w) m h (w .host .bus) (w .host .counter))

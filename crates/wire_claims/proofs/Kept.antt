@@ -16,21 +16,24 @@ use Rattle.register_types.specs.Types.{rfMngt}
 use Rattle.registers.specs.Map.{withDynamic}
 use Rattle.bus.specs.declared.Space.{Space}
 use Rattle.bus.specs.declared.Space.the-variants.{User, System}
+use Rattle.bus.specs.declared.OpenTransfer.{OpenTransfer}
+use Rattle.bus.specs.declared.Transfer.{Transfer}
+use Rattle.bus.specs.declared.Transfer.the-variants.{Closed, Open}
 use Rattle.mailbox.specs.declared.Mailbox.{Mailbox}
 use Rattle.bus.specs.declared.Bus.{Bus}
 use Rattle.bus.specs.declared.Bus.the-variants.{Idle, Started, ReadLeg, WriteLeg, LowAddress, DataLeg}
 use Rattle.tag.specs.declared.Core.{Core}
 use Rattle.tag.specs.declared.WireSide.{WireSide}
 use Rattle.keys.specs.declared.Uid.{Uid}
-use Rattle.bus.specs.Bus.{isOpen, isActive, pageBytes, nextAddress}
+use Rattle.bus.specs.Bus.{keptOf, transferAt, isOpenTransfer, isOpen, isActive, pageBytes, nextAddress}
 use Rattle.mailbox.specs.Mailbox.{controlled, hostPut, hostRead}
 use Rattle.keys.specs.Keys.{passwordAt, samePassword, withI2cPassword}
 use Rattle.tag.specs.Supply.{vccOff, vccOn, vccAt}
 use Rattle.tag.specs.Layout.{page}
 use Rattle.tag.specs.Parts.{withRegisters, withMailbox, withPasswords, withWireCore}
-use Rattle.ranges.specs.Ranges.{registersInRange, mailboxInRange, coreInRange, hostInRange, suppliedInRange, wireInRange}
+use Rattle.ranges.specs.Ranges.{registersInRange, mailboxInRange, coreInRange, hostInRange, suppliedInRange, transferInRange, wireInRange}
 use Rattle.ranges.proofs.MailboxKept.{empty-kept, host-read-kept, host-put-kept, controlled-kept}
-use Rattle.ranges.proofs.RegistersKept.{dynamic-kept, reload-kept}
+use Rattle.ranges.proofs.RegistersKept.{dynamic-kept, dynamic-defined, reload-kept}
 use Rattle.select.specs.declared.Choice.{Choice}
 use Rattle.select.specs.declared.Choice.the-variants.{NotAcked, Reading, Writing}
 use Rattle.select.specs.Select.{choose, selectOf, firstOf}
@@ -47,6 +50,7 @@ use Rattle.user_leg.specs.UserLeg.{userWritten}
 use Rattle.system_leg.specs.SystemLeg.{systemWritten, passwordWritten}
 use Rattle.signal_table.specs.declared.WireSignal.{WireSignal}
 use Rattle.signal.specs.Signal.{WireResult, sideBus, sideLine, dueOf, startAt, startOf, stopAt}
+use Rattle.signal.proofs.Ended.{start-case}
 use Rattle.send.specs.Send.{selectBy, dataOf, sendAt}
 use Rattle.wire.specs.Wire.{fetchAt, programmed, signalOf}
 use Rattle.wire_claims.specs.Claims.{SignalKeepsRange}
@@ -94,6 +98,7 @@ record Fits (w : WireSide) : Type 0 where
   mailbox : mailboxInRange (w .core .mailbox) ≡ true
   room : leb (pageBytes (w .host .bus)) 256 ≡ true
   alone : not (w .host .programming && isOpen (w .host .bus)) ≡ true
+  kept : transferInRange (transferAt (w .host .bus)) ≡ true
   supplied : (w .host .vcc || not (w .core .mailbox .enabled || w .host .session || w .host .programming || isActive (w .host .bus))) ≡ true
 
 fits : (w : WireSide) → wireInRange w ≡ true → Fits w
@@ -103,17 +108,19 @@ fits w e =
     let b = mailboxInRange (w .core .mailbox) in
     let n = leb (pageBytes (w .host .bus)) 256 in
     let a = not (w .host .programming && isOpen (w .host .bus)) in
+    let t = transferInRange (transferAt (w .host .bus)) in
     let s = suppliedInRange (w .host) (w .core .mailbox .enabled) in
     let both = and-left (coreInRange (w .core) && hostInRange (w .host)) s e in
     let c = and-left (coreInRange (w .core)) (hostInRange (w .host)) both in
     let h = and-right (coreInRange (w .core)) (hostInRange (w .host)) both in
-    record { registers = and-left r b c; mailbox = and-right r b c; room = and-left n a h; alone = and-right n a h; supplied = and-right (coreInRange (w .core) && hostInRange (w .host)) s e }
+    let line = and-left (n && a) t h in
+    record { registers = and-left r b c; mailbox = and-right r b c; room = and-left n a line; alone = and-right n a line; kept = and-right (n && a) t h; supplied = and-right (coreInRange (w .core) && hostInRange (w .host)) s e }
 
 in-range : (w : WireSide) → Fits w → wireInRange w ≡ true
 unfolding wireInRange coreInRange hostInRange suppliedInRange
 in-range w f =
     and-both (coreInRange (w .core) && hostInRange (w .host)) (suppliedInRange (w .host) (w .core .mailbox .enabled))
-    (and-both (coreInRange (w .core)) (hostInRange (w .host)) (and-both _ _ (f .registers) (f .mailbox)) (and-both _ _ (f .room) (f .alone))) (f .supplied)
+    (and-both (coreInRange (w .core)) (hostInRange (w .host)) (and-both _ _ (f .registers) (f .mailbox)) (and-both _ _ (and-both _ _ (f .room) (f .alone)) (f .kept))) (f .supplied)
 
 record Kept (w : WireSide) (m : List ℕ) : Type 0 where
   side : Fits w
@@ -133,25 +140,32 @@ module _ (w : WireSide) (f : Fits w) where
   in-leg o a = record { vcc = active a; still = apart (w .host .programming) (isOpen (w .host .bus)) (f .alone) o }
 
   idle-fits : Fits (sideBus Idle w)
-  unfolding isOpen isActive pageBytes
+  unfolding isOpen transferAt isOpenTransfer isActive pageBytes transferInRange
   idle-fits = record {
     registers = f .registers;
     mailbox = f .mailbox;
     room = refl;
     alone = ap not (and-false (w .host .programming));
+    kept = refl;
     supplied = quieter (w .host .vcc) (w .core .mailbox .enabled || w .host .session || w .host .programming) (isActive (w .host .bus)) (f .supplied);
   }
 
-  line-fits : Leg w → (c : ℕ) (b : Bus) → leb (pageBytes b) 256 ≡ true → Fits (sideLine c b w)
-  line-fits l c b r = record { registers = f .registers; mailbox = f .mailbox; room = r; alone = rw (l .still); supplied = rw (l .vcc) }
+  line-fits : Leg w → (c : ℕ) (b : Bus) → leb (pageBytes b) 256 ≡ true → transferInRange (transferAt b) ≡ true → Fits (sideLine c b w)
+  line-fits l c b r t = record { registers = f .registers; mailbox = f .mailbox; room = r; alone = rw (l .still); kept = t; supplied = rw (l .vcc) }
 
-  started-fits : w .host .vcc ≡ true → Fits (sideBus (Started (isOpen (w .host .bus))) w)
-  unfolding isOpen pageBytes
-  started-fits v = record { registers = f .registers; mailbox = f .mailbox; room = refl; alone = f .alone; supplied = rw v }
+  started-fits : w .host .vcc ≡ true → Fits (sideBus (Started (transferAt (w .host .bus))) w)
+  unfolding isOpen transferAt isOpenTransfer pageBytes
+  started-fits v = record { registers = f .registers; mailbox = f .mailbox; room = refl; alone = f .alone; kept = f .kept; supplied = rw v }
+
+  -- what an Acked select after a Start keeps
+  select-keeps : (o : Transfer) → w .host .bus ≡ Started o → transferInRange (Open (keptOf o (w .core .registers .dynamic))) ≡ true
+  unfolding keptOf transferAt transferInRange
+  select-keeps Closed e = dynamic-defined (w .core .registers) (f .registers)
+  select-keeps (Open x) e = subst (λ (b : Bus). transferInRange (transferAt b) ≡ true) e (f .kept)
 
   -- RF_PUT cleared
   read-fits : Fits (withWireCore (withMailbox (hostRead (w .core .mailbox)) (w .core)) w)
-  read-fits = record { registers = f .registers; mailbox = host-read-kept (w .core .mailbox) (f .mailbox); room = f .room; alone = f .alone; supplied = f .supplied }
+  read-fits = record { registers = f .registers; mailbox = host-read-kept (w .core .mailbox) (f .mailbox); room = f .room; alone = f .alone; kept = f .kept; supplied = f .supplied }
 
 -- ---- a leg's writes, on a side with an idle bus and VCC
 abbrev L : LegResult → Type 0
@@ -164,16 +178,16 @@ module _ (w₀ : WireSide) (m : List ℕ) (g : Fits (sideBus Idle w₀)) (size :
   -- programming starts, the registers and the I2C password as they may be
   programs : (c : Core) (m′ : List ℕ) → registersInRange (c .registers) ≡ true → mailboxInRange (c .mailbox) ≡ true → length m′ ≡ 1024
       → L (legResult (programming (withWireCore c w)) m′)
-  unfolding isOpen pageBytes busInRange
+  unfolding isOpen transferAt isOpenTransfer pageBytes busInRange transferInRange
   programs c m′ r b l =
-      record { side = record { registers = r; mailbox = b; room = refl; alone = refl; supplied = rw v }; bus = refl; size = l }
+      record { side = record { registers = r; mailbox = b; room = refl; alone = refl; kept = refl; supplied = rw v }; bus = refl; size = l }
 
   -- the core changed, the host side not but for the session
   changes : (o : Bool) (c : Core) (m′ : List ℕ) → registersInRange (c .registers) ≡ true → mailboxInRange (c .mailbox) ≡ true → length m′ ≡ 1024
       → L (legResult (sideSession o (withWireCore c w)) m′)
-  unfolding isOpen pageBytes busInRange
+  unfolding isOpen transferAt isOpenTransfer pageBytes busInRange transferInRange
   changes o c m′ r b l =
-      record { side = record { registers = r; mailbox = b; room = refl; alone = g .alone; supplied = rw v }; bus = refl; size = l }
+      record { side = record { registers = r; mailbox = b; room = refl; alone = g .alone; kept = refl; supplied = rw v }; bus = refl; size = l }
 
   abbrev r₀ : Registers
   r₀ = w₀ .core .registers
@@ -236,37 +250,61 @@ module _ (w : WireSide) (m : List ℕ) (k : Kept w m) where
   unfolding busInRange
   idle = record { side = idle-fits w (k .side); bus = refl; size = k .size }
 
-  moved : Leg w → (c : ℕ) (b : Bus) → leb (pageBytes b) 256 ≡ true → busInRange b c (w .core) (w .host .session) m ≡ true
-      → Kept (sideLine c b w) m
-  moved l c b r h = record { side = line-fits w (k .side) l c b r; bus = h; size = k .size }
+  moved : Leg w → (c : ℕ) (b : Bus) → leb (pageBytes b) 256 ≡ true → transferInRange (transferAt b) ≡ true
+      → busInRange b c (w .core) (w .host .session) m ≡ true → Kept (sideLine c b w) m
+  moved l c b r t h = record { side = line-fits w (k .side) l c b r t; bus = h; size = k .size }
+
+  -- what is kept of the transfer is in range
+  kept-at : (b : Bus) → w .host .bus ≡ b → transferInRange (transferAt b) ≡ true
+  kept-at b e = subst (λ (b : Bus). transferInRange (transferAt b) ≡ true) e (k .side .kept)
 
   -- a Start
-  start-kept : w .host .vcc ≡ true → (d : Due) → L (settle started d (sideBus (Started (isOpen (w .host .bus))) w) m)
-  unfolding settle busInRange
-  start-kept v nothingDue = record { side = started-fits w (k .side) v; bus = refl; size = k .size }
-  start-kept v clears = record { side = read-fits _ (started-fits w (k .side) v); bus = refl; size = k .size }
-  start-kept v (writes s f bs) = record { side = started-fits w (k .side) v; bus = refl; size = k .size }
+  abbrev afterStart : WireSide
+  afterStart = sideBus (Started (transferAt (w .host .bus))) w
+
+  after-start-kept : w .host .vcc ≡ true → (c : Core) → registersInRange (c .registers) ≡ true → mailboxInRange (c .mailbox) ≡ true
+      → L (legResult (withWireCore c afterStart) m)
+  unfolding busInRange
+  after-start-kept v c r b =
+      let f = started-fits w (k .side) v in
+      record { side = record { registers = r; mailbox = b; room = f .room; alone = f .alone; kept = f .kept; supplied = rw v }; bus = refl; size = k .size }
+
+  start-kept : w .host .vcc ≡ true → (d : Due) → L (settle started d afterStart m)
+  start-kept v d =
+      let f = k .side in
+      let c = w .core in
+      start-case L afterStart m
+      (after-start-kept v c (f .registers) (f .mailbox))
+      (after-start-kept v (withMailbox (hostRead (c .mailbox)) c) (f .registers) (host-read-kept (c .mailbox) (f .mailbox)))
+      (λ x. after-start-kept v (withRegisters (withDynamic (rfMngt x) (c .registers)) c) (dynamic-kept (c .registers) x (f .registers)) (f .mailbox))
+      (λ x. after-start-kept v (withMailbox (controlled x (c .registers .mode) (w .host .vcc) (c .mailbox)) c) (f .registers)
+      (controlled-kept x (c .registers .mode) (w .host .vcc) (c .mailbox) (f .mailbox)))
+      d
 
   -- a select
-  select-by : Leg w → (c : Choice) → K (selectBy c w m)
-  unfolding selectBy pageBytes busInRange
-  select-by l NotAcked = idle
-  select-by l (Reading s) = moved l (w .host .counter) (ReadLeg s false false) refl refl
-  select-by l (Writing s) = moved l (w .host .counter) (WriteLeg s) refl refl
+  select-by : Leg w → (kept : OpenTransfer) → transferInRange (Open kept) ≡ true → (c : Choice) → K (selectBy c kept w m)
+  unfolding selectBy pageBytes transferAt busInRange
+  select-by l kept t NotAcked = idle
+  select-by l kept t (Reading s) = moved l (w .host .counter) (ReadLeg kept s false false) refl t refl
+  select-by l kept t (Writing s) = moved l (w .host .counter) (WriteLeg kept s) refl t refl
 
-  select-kept : (x : ℕ) → K (selectBy (choose (w .host .vcc) (w .host .programming) x) w m)
+  select-kept : (x : ℕ) (kept : OpenTransfer) → transferInRange (Open kept) ≡ true → K (selectBy (choose (w .host .vcc) (w .host .programming) x) kept w m)
   unfolding choose selectBy
-  select-kept x =
-      pick-case (λ (c : Choice). K (selectBy c w m)) (w .host .programming || not (w .host .vcc)) NotAcked (selectOf x) (λ h. idle)
+  select-kept x kept t =
+      pick-case (λ (c : Choice). K (selectBy c kept w m)) (w .host .programming || not (w .host .vcc)) NotAcked (selectOf x) (λ h. idle)
       (λ h.
       let n = neither (w .host .programming) (not (w .host .vcc)) h in
-      select-by (record { vcc = not-false (w .host .vcc) (n .1); still = n .0 }) (selectOf x))
+      select-by (record { vcc = not-false (w .host .vcc) (n .1); still = n .0 }) kept t (selectOf x))
 
   -- a data byte
-  module _ (s : Space) (n : ℕ) (spoiled : Bool) (e : w .host .bus ≡ DataLeg s n spoiled) where
+  module _ (kept : OpenTransfer) (s : Space) (n : ℕ) (spoiled : Bool) (e : w .host .bus ≡ DataLeg kept s n spoiled) where
     leg-is : Leg w
-    unfolding isOpen isActive
+    unfolding isOpen transferAt isOpenTransfer isActive
     leg-is = in-leg w (k .side) (ap isOpen e) (ap isActive e)
+
+    kept-is : transferInRange (Open kept) ≡ true
+    unfolding transferAt
+    kept-is = kept-at (DataLeg kept s n spoiled) e
 
     room-is : leb n 256 ≡ true
     unfolding pageBytes
@@ -277,41 +315,41 @@ module _ (w : WireSide) (m : List ℕ) (k : Kept w m) where
     page-is = subst (λ (b : Bus). busInRange b (w .host .counter) (w .core) (w .host .session) m ≡ true) e (k .bus)
 
     taken : (x : ℕ) → acked s (w .core) (w .host .session) (firstOf (w .host .counter) n) n (page n m) x ≡ true
-        → Kept (sideLine (nextAddress (w .host .counter)) (DataLeg s (suc n) false) w) (set m (768 + n) x)
-    unfolding pageBytes busInRange
+        → Kept (sideLine (nextAddress (w .host .counter)) (DataLeg kept s (suc n) false) w) (set m (768 + n) x)
+    unfolding pageBytes transferAt busInRange
     taken x a =
         let r = acked-room s (w .core) (w .host .session) (firstOf (w .host .counter) n) n (page n m) x a in
         record {
-          side = line-fits w (k .side) leg-is (nextAddress (w .host .counter)) (DataLeg s (suc n) false) (le-leb (suc n) 256 (omega (arith, r)));
+          side = line-fits w (k .side) leg-is (nextAddress (w .host .counter)) (DataLeg kept s (suc n) false) (le-leb (suc n) 256 (omega (arith, r))) kept-is;
           bus = rw (first-next (w .host .counter) n r) (page-more s (w .core) (w .host .session) (firstOf (w .host .counter) n) m n x (k .size) page-is a);
           size = length-set m (768 + n) x ∙ k .size;
         }
 
-    data-kept : (x : ℕ) → K (dataOf s n w m x)
-    unfolding dataOf pageBytes busInRange
+    data-kept : (x : ℕ) → K (dataOf kept s n w m x)
+    unfolding dataOf pageBytes transferAt busInRange
     data-kept x =
         pick-case K (acked s (w .core) (w .host .session) (firstOf (w .host .counter) n) n (page n m) x) _ _ (λ h. taken x h)
-        (λ h. moved leg-is (w .host .counter) (DataLeg s n true) room-is page-is)
+        (λ h. moved leg-is (w .host .counter) (DataLeg kept s n true) room-is kept-is page-is)
 
   send-kept : (b : Bus) (x : ℕ) → w .host .bus ≡ b → K (sendAt b w m x)
-  unfolding sendAt isOpen isActive pageBytes pageAcked busInRange
+  unfolding sendAt isOpen transferAt isOpenTransfer isActive pageBytes pageAcked busInRange
   send-kept Idle x e = k
-  send-kept (Started o) x e = select-kept x
-  send-kept (ReadLeg s o l) x e = k
-  send-kept (WriteLeg s) x e = moved (in-leg w (k .side) (ap isOpen e) (ap isActive e)) (w .host .counter) (LowAddress s x) refl refl
-  send-kept (LowAddress s h) x e = moved (in-leg w (k .side) (ap isOpen e) (ap isActive e)) _ (DataLeg s 0 false) refl refl
-  send-kept (DataLeg s n spoiled) x e = pick-case K spoiled _ _ (λ h. k) (λ h. data-kept s n spoiled e x)
+  send-kept (Started o) x e = select-kept x (keptOf o (w .core .registers .dynamic)) (select-keeps w (k .side) o e)
+  send-kept (ReadLeg kept s o l) x e = k
+  send-kept (WriteLeg kept s) x e = moved (in-leg w (k .side) (ap isOpen e) (ap isActive e)) (w .host .counter) (LowAddress kept s x) refl (kept-at (WriteLeg kept s) e) refl
+  send-kept (LowAddress kept s h) x e = moved (in-leg w (k .side) (ap isOpen e) (ap isActive e)) _ (DataLeg kept s 0 false) refl (kept-at (LowAddress kept s h) e) refl
+  send-kept (DataLeg kept s n spoiled) x e = pick-case K spoiled _ _ (λ h. k) (λ h. data-kept kept s n spoiled e x)
 
   -- a fetch
   fetch-kept : (b : Bus) (u : Uid) (ack : Bool) → w .host .bus ≡ b → K (fetchAt b w u m ack)
-  unfolding fetchAt isOpen isActive pageBytes busInRange
+  unfolding fetchAt isOpen transferAt isOpenTransfer isActive pageBytes busInRange
   fetch-kept Idle u ack e = k
   fetch-kept (Started o) u ack e = k
-  fetch-kept (ReadLeg s over last) u ack e =
-      pick-case K over _ _ (λ h. k) (λ h. moved (in-leg w (k .side) (ap isOpen e) (ap isActive e)) _ (ReadLeg s _ _) refl refl)
-  fetch-kept (WriteLeg s) u ack e = k
-  fetch-kept (LowAddress s h) u ack e = k
-  fetch-kept (DataLeg s n spoiled) u ack e = k
+  fetch-kept (ReadLeg kept s over last) u ack e =
+      pick-case K over _ _ (λ h. k) (λ h. moved (in-leg w (k .side) (ap isOpen e) (ap isActive e)) _ (ReadLeg kept s _ _) refl (kept-at (ReadLeg kept s over last) e) refl)
+  fetch-kept (WriteLeg kept s) u ack e = k
+  fetch-kept (LowAddress kept s h) u ack e = k
+  fetch-kept (DataLeg kept s n spoiled) u ack e = k
 
   -- a Stop
   writes-kept : (s : Space) (n f : ℕ) → w .host .vcc ≡ true → eqb n 0 ≡ false → pageAcked s (w .core) (w .host .session) f m n ≡ true
@@ -332,37 +370,37 @@ module _ (w : WireSide) (m : List ℕ) (k : Kept w m) where
   unfolding dueOf
   due-kept Idle e = nothing-due
   due-kept (Started o) e = nothing-due
-  due-kept (ReadLeg s over last) e = pick-case (λ (d : Due). L (settle stopped d (sideBus Idle w) m)) last clears nothingDue (λ h. clear-due) (λ h. nothing-due)
-  due-kept (WriteLeg s) e = nothing-due
-  due-kept (LowAddress s h) e = nothing-due
-  due-kept (DataLeg s n spoiled) e =
+  due-kept (ReadLeg kept s over last) e = pick-case (λ (d : Due). L (settle stopped d (sideBus Idle w) m)) last clears nothingDue (λ h. clear-due) (λ h. nothing-due)
+  due-kept (WriteLeg kept s) e = nothing-due
+  due-kept (LowAddress kept s h) e = nothing-due
+  due-kept (DataLeg kept s n spoiled) e =
       pick-case (λ (d : Due). L (settle stopped d (sideBus Idle w) m)) (spoiled || eqb n 0) nothingDue _ (λ h. nothing-due)
-      (λ h. writes-kept s n _ (leg-is s n spoiled e .vcc) (neither spoiled (eqb n 0) h .1) (page-is s n spoiled e))
+      (λ h. writes-kept s n _ (leg-is kept s n spoiled e .vcc) (neither spoiled (eqb n 0) h .1) (page-is kept s n spoiled e))
 
   -- supply
   quiet-bus : (b : Bus) (c : ℕ) (r : Core) (o : Bool) → isActive b ≡ false → busInRange b c r o m ≡ true
   unfolding isActive busInRange
   quiet-bus Idle c r o h = refl
   quiet-bus (Started t) c r o h = refl
-  quiet-bus (ReadLeg s over last) c r o h = refl
-  quiet-bus (WriteLeg s) c r o h = refl
-  quiet-bus (LowAddress s x) c r o h = refl
-  quiet-bus (DataLeg s n spoiled) c r o h = absurd (true≢false h)
+  quiet-bus (ReadLeg kept s over last) c r o h = refl
+  quiet-bus (WriteLeg kept s) c r o h = refl
+  quiet-bus (LowAddress kept s x) c r o h = refl
+  quiet-bus (DataLeg kept s n spoiled) c r o h = absurd (true≢false h)
 
   on-kept : w .host .vcc ≡ false → Kept (vccOn w) m
   on-kept v =
       let f = k .side in
       record {
-        side = record { registers = reload-kept (w .core .registers) (f .registers); mailbox = f .mailbox; room = f .room; alone = f .alone; supplied = refl };
+        side = record { registers = reload-kept (w .core .registers) (f .registers); mailbox = f .mailbox; room = f .room; alone = f .alone; kept = f .kept; supplied = refl };
         bus = quiet-bus (w .host .bus) _ _ _ (inactive (w .host .vcc) (w .core .mailbox .enabled || w .host .session || w .host .programming) (isActive (w .host .bus)) (f .supplied) v);
         size = k .size;
       }
 
   off-kept : Kept (vccOff w) m
-  unfolding isOpen isActive pageBytes busInRange
+  unfolding isOpen transferAt isOpenTransfer isActive pageBytes busInRange transferInRange
   off-kept =
       record {
-        side = record { registers = reload-kept (w .core .registers) (k .side .registers); mailbox = empty-kept; room = refl; alone = refl; supplied = refl };
+        side = record { registers = reload-kept (w .core .registers) (k .side .registers); mailbox = empty-kept; room = refl; alone = refl; kept = refl; supplied = refl };
         bus = refl;
         size = k .size;
       }
@@ -377,7 +415,7 @@ module _ (w : WireSide) (m : List ℕ) (k : Kept w m) where
   programmed-kept =
       let f = k .side in
       record {
-        side = record { registers = f .registers; mailbox = f .mailbox; room = f .room; alone = refl; supplied = less (w .host .vcc) (w .core .mailbox .enabled || w .host .session) (w .host .programming) (isActive (w .host .bus)) (f .supplied) };
+        side = record { registers = f .registers; mailbox = f .mailbox; room = f .room; alone = refl; kept = f .kept; supplied = less (w .host .vcc) (w .core .mailbox .enabled || w .host .session) (w .host .programming) (isActive (w .host .bus)) (f .supplied) };
         bus = k .bus;
         size = k .size;
       }

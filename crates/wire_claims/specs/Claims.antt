@@ -1,16 +1,19 @@
 -- What is proved of a signal, beside the contract of its function.
 use mathlib.Core.Path.{_≡_}
-use mathlib.Core.Bool.{true}
+use mathlib.Core.Bool.{Bool, true, false}
 use mathlib.Core.List.{List}
 use Prim.Native.Nat.{ℕ, _<_}
 use lib.ListN.{length, getD}
 use Rattle.tag.specs.declared.WireSide.{WireSide}
 use Rattle.keys.specs.declared.Uid.{Uid}
 use Rattle.tag.specs.Layout.{memoryBytes}
-use Rattle.bus.specs.Bus.{isOpen}
+use Rattle.register_types.specs.declared.RfMngt.{RfMngt}
+use Rattle.registers.specs.Map.{withDynamic}
+use Rattle.bus.specs.Bus.{countedDynamic, transferAt, isOpen}
 use Rattle.ranges.specs.Ranges.{suppliedInRange, wireInRange}
 use Rattle.page.specs.PageRange.{busInRange}
 use Rattle.signal_table.specs.declared.WireSignal.{WireSignal}
+use Rattle.signal_table.specs.declared.WireSignal.the-variants.{Start, Send, Fetch, Stop, Vcc, ProgrammingEnd}
 use Rattle.signal_table.specs.Table.{sentByte}
 use Rattle.wire.specs.Wire.{signalOf}
 
@@ -34,7 +37,32 @@ abbrev pub KeepsBytes : Type 0
 KeepsBytes = (w : WireSide) (u : Uid) (m : List ℕ) (signal : WireSignal) → sentByte signal < 256
     → ((i : ℕ) → getD m i 0 < 256) → (i : ℕ) → getD (signalOf w u m signal .memory) i 0 < 256
 
--- a signal that leaves a transfer open changes no register, RF_MNGT_Dyn among them
+-- ---- a signal that leaves a transfer open
+abbrev pub LeavesOpen : (WireSide → WireSignal → WireSide → Type 0) → Type 0
+LeavesOpen P = (w : WireSide) (u : Uid) (m : List ℕ) (signal : WireSignal) → suppliedInRange (w .host) (w .core .mailbox .enabled) ≡ true
+    → isOpen (signalOf w u m signal .side .host .bus) ≡ true → P w signal (signalOf w u m signal .side)
+
+unfoldable pub isStart : WireSignal → Bool
+isStart Start = true
+isStart (Send x) = false
+isStart (Fetch ack) = false
+isStart Stop = false
+isStart (Vcc on) = false
+isStart ProgrammingEnd = false
+
+-- it changes no register but the two dynamic ones
 abbrev pub RegistersStay : Type 0
-RegistersStay = (w : WireSide) (u : Uid) (m : List ℕ) (signal : WireSignal) → suppliedInRange (w .host) (w .core .mailbox .enabled) ≡ true
-    → isOpen (signalOf w u m signal .side .host .bus) ≡ true → signalOf w u m signal .side .core .registers ≡ w .core .registers
+RegistersStay = LeavesOpen (λ (w : WireSide) (signal : WireSignal) (after : WireSide).
+    after .core .registers ≡ withDynamic (after .core .registers .dynamic) (w .core .registers))
+
+-- and those, RF_MNGT_Dyn and MB_CTRL_Dyn, only at a Start; as all else that both sides share
+abbrev pub OnlyAtStart : Type 0
+OnlyAtStart = LeavesOpen (λ (w : WireSide) (signal : WireSignal) (after : WireSide). isStart signal ≡ false → after .core ≡ w .core)
+
+-- RF_MNGT_Dyn as it counts for frames
+abbrev pub sideCounted : WireSide → RfMngt
+sideCounted w = countedDynamic (transferAt (w .host .bus)) (w .core .registers .dynamic)
+
+-- it stays
+abbrev pub CountedStays : Type 0
+CountedStays = LeavesOpen (λ (w : WireSide) (signal : WireSignal) (after : WireSide). sideCounted after ≡ sideCounted w)

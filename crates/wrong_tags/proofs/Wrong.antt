@@ -5,7 +5,10 @@ use mathlib.Core.List.{List, [], _∷_, _++_}
 use Prim.Native.Nat.{ℕ, _+_}
 use native.Mathlib.Omega.{arith}
 use lib.ListN.{getD, replicate}
+use Rattle.register_types.specs.Types.{rfMngt}
+use Rattle.registers.specs.Map.{withDynamic}
 use Rattle.air.specs.declared.RadioState.the-variants.{Selected}
+use Rattle.bus.specs.declared.Transfer.the-variants.{Closed}
 use Rattle.bus.specs.declared.Bus.the-variants.{Started}
 use Rattle.bus.specs.Bus.{isOpen, pageBytes}
 use Rattle.air.specs.Radio.{isSelected}
@@ -14,10 +17,11 @@ use Rattle.model.specs.declared.Answer.the-variants.{Refused, Nothing, Ack, NoA
 use Rattle.refusals.specs.Refusals.{number}
 use Rattle.refusals.specs.Call.{Call}
 use Rattle.calls.specs.Calls.{CallAnswer, callAnswer, Device, RunResult}
-use Rattle.calls.specs.Examples.{vccTo, start, send, stop, programmingEnd, frame, zeros, powered, _but_, radioState, radioSession, fieldIs, vccIs, i2cSession, beingProgrammed, counterAt, onBus, mailboxMode, hostMessage, bytes}
+use Rattle.calls.specs.Examples.{vccTo, start, send, stop, programmingEnd, frame, zeros, powered, _but_, radioState, radioSession, fieldIs, vccIs, i2cSession, beingProgrammed, counterAt, onBus, onRegisters, mailboxMode, hostMessage, bytes}
 use Rattle.waiting.specs.Waiting.{Waiting, noTransfer, inside}
 use Rattle.wrong_tags.specs.Told.{bySame, byJudged, byStriking, byUnchanged, byReply, WrongTag, Told, AllTold}
 use Rattle.wrong_tags.specs.Wrong.{isBlank, feigning, readsHalf, otherSelect, deselects, commitsAtOff, answersFromLeg, neverCloses}
+use Rattle.wrong_tags.specs.RepeatedStart.{isDataLeg, dropsAtStart, actingAtStart, putsAtStart, writesAtStart, judgingAsItStands, fallsAsleepAtOnce, wakesAtOnce, keeping, keepingAnew, keepsAtSelect, keepsAtStart, keepsFromStart}
 use Rattle.wrong_tags.specs.Pinned.{misanswering, touching, isReply, stopAcked, refusedByThree, replyByteWrong, pastReply, refusalTouches, struckTouches, behind, sessionPastRange, clearsPage, stopOutOfRange, isUserWriteLeg, marksFrames, hidesField, wrongTags, WrongTagsTold}
 use Rattle.wrong_tags.proofs.Computes.{agrees}
 
@@ -37,6 +41,14 @@ selectOther = frame (0x22 ∷ 0x25 ∷ zeros 8)
 -- password 0 presented, all zeros
 abbrev present : Call
 present = frame (0x02 ∷ 0xB3 ∷ 0x02 ∷ 0 ∷ zeros 8)
+
+-- 02 A1 02 03 02: RF_MNGT gets its b1, with password 0's session open
+abbrev sleepByRadio : Call
+sleepByRadio = frame (0x02 ∷ 0xA1 ∷ 0x02 ∷ 0x03 ∷ 0x02 ∷ [])
+
+-- RF_MNGT_Dyn has its b1
+abbrev asleep : Device
+asleep = powered but onRegisters (withDynamic (rfMngt 2))
 
 -- a Stop with a reply buffer of ten zeros
 abbrev shortStop : Call
@@ -193,6 +205,67 @@ answers-from-leg-told h =
     ap (λ (a : CallAnswer). code (a .answer)) (h powered (at 0x20 0x03 ++ send 2 ∷ read ∷ stop ∷ []) refl refl refl refl refl .1 .1 .1 .1 .1 .0 refl) in
     omega arith
 
+-- ---- a repeated Start
+-- RF_MNGT_Dyn gets its b0, and the transfer ends in a select that is not Acked
+drops-at-start-told : Told bySame dropsAtStart
+unfolding agrees dropsAtStart isDataLeg kept
+drops-at-start-told h =
+    let f : _≡_ {A = ℕ} 1 0 = ap (λ (w : Waiting). kept w .tag .core .registers .dynamic .bits) (h powered (at 0x20 0x03 ++ send 1 ∷ start ∷ send 0 ∷ []) refl refl refl refl refl) in
+    omega arith
+
+-- a message of one byte, with MB_EN set before
+puts-at-start-told : Told bySame putsAtStart
+unfolding agrees actingAtStart isDataLeg kept
+puts-at-start-told h =
+    let enable = at 0x20 0x06 ++ send 1 ∷ stop ∷ [] in
+    let f : _≡_ {A = ℕ} 0 1 = ap (λ (w : Waiting). kept w .tag .core .mailbox .length) (h (powered but mailboxMode 1) (enable ++ at 0x20 0x08 ++ send 7 ∷ start ∷ stop ∷ []) refl refl refl refl refl) in
+    omega arith
+
+writes-at-start-told : Told bySame writesAtStart
+unfolding agrees actingAtStart isDataLeg kept
+writes-at-start-told h =
+    let f : _≡_ {A = ℕ} 0 1 = ap (byteLeft 0) (h powered (at 0 0 ++ send 1 ∷ start ∷ stop ∷ []) refl refl refl refl refl) in
+    omega arith
+
+-- a frame after a leg that sets sleep and a Start: 0Fh still
+falls-asleep-told : Told byReply fallsAsleepAtOnce
+unfolding agrees judgingAsItStands code
+falls-asleep-told h =
+    let f : _≡_ {A = ℕ} 9 14 =
+    ap (λ (a : CallAnswer). code (a .answer)) (h powered (at 0x20 0x03 ++ send 2 ∷ start ∷ read ∷ stop ∷ []) refl refl refl refl refl .1 .1 .1 .1 .1 .1 .0 refl) in
+    omega arith
+
+-- a frame after a leg that clears it: silence still
+wakes-told : Told byReply wakesAtOnce
+unfolding agrees judgingAsItStands code
+wakes-told h =
+    let f : _≡_ {A = ℕ} 14 9 =
+    ap (λ (a : CallAnswer). code (a .answer)) (h asleep (at 0x20 0x03 ++ send 0 ∷ start ∷ read ∷ stop ∷ []) refl refl refl refl refl .1 .1 .1 .1 .1 .1 .0 refl) in
+    omega arith
+
+-- and so after the next select
+keeps-at-select-told : Told byReply keepsAtSelect
+unfolding agrees keepingAnew keeping code
+keeps-at-select-told h =
+    let f : _≡_ {A = ℕ} 9 14 =
+    ap (λ (a : CallAnswer). code (a .answer)) (h powered (at 0x20 0x03 ++ send 2 ∷ start ∷ send 0xA6 ∷ read ∷ stop ∷ []) refl refl refl refl refl .1 .1 .1 .1 .1 .1 .1 .0 refl) in
+    omega arith
+
+keeps-at-start-told : Told byReply keepsAtStart
+unfolding agrees keepingAnew keeping code
+keeps-at-start-told h =
+    let f : _≡_ {A = ℕ} 9 14 =
+    ap (λ (a : CallAnswer). code (a .answer)) (h powered (at 0x20 0x03 ++ send 2 ∷ start ∷ read ∷ stop ∷ []) refl refl refl refl refl .1 .1 .1 .1 .1 .1 .0 refl) in
+    omega arith
+
+-- between Start and select the radio writes RF_MNGT, and so RF_MNGT_Dyn: silence in the transfer
+keeps-from-start-told : Told byReply keepsFromStart
+unfolding agrees keepsFromStart keeping code
+keeps-from-start-told h =
+    let f : _≡_ {A = ℕ} 14 9 =
+    ap (λ (a : CallAnswer). code (a .answer)) (h (powered but radioSession 1) (start ∷ sleepByRadio ∷ send 0xA6 ∷ read ∷ stop ∷ []) refl refl refl refl refl .1 .1 .1 .0 refl) in
+    omega arith
+
 -- ---- the starting tag: a programming end is answered
 waitingMail : Device
 waitingMail = powered but mailboxMode 1 but hostMessage 9 true but bytes [] (replicate 9 0x11) []
@@ -236,9 +309,17 @@ tellings =
     also (λ h. ends-in-ack (h (powered but beingProgrammed) (programmingEnd ∷ []) refl refl refl refl refl))
     also (λ h. ends-in-ack (h (powered but fieldIs false but radioState Selected) (programmingEnd ∷ []) refl refl refl refl refl))
     also (λ h. ends-in-ack (h (powered but fieldIs false but radioSession 1) (programmingEnd ∷ []) refl refl refl refl refl))
-    also (λ h. ends-in-ack (h (powered but onBus (Started false)) (programmingEnd ∷ []) refl refl refl refl refl))
+    also (λ h. ends-in-ack (h (powered but onBus (Started Closed)) (programmingEnd ∷ []) refl refl refl refl refl))
     also (λ h. ends-in-ack (h waitingMail (programmingEnd ∷ []) refl refl refl refl refl))
     also (λ h. ends-in-ack (h (powered but vccIs false but counterAt 5) (programmingEnd ∷ []) refl refl refl refl refl))
+    also drops-at-start-told
+    also puts-at-start-told
+    also writes-at-start-told
+    also falls-asleep-told
+    also wakes-told
+    also keeps-at-select-told
+    also keeps-at-start-told
+    also keeps-from-start-told
     also no-more
 
 pub wrong-tags-told : WrongTagsTold

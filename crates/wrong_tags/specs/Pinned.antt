@@ -7,10 +7,11 @@ use lib.Dec.{eqb, ltb}
 use lib.ListN.{getD, set, take}
 use Rattle.parts.specs.Pick.{pick}
 use Rattle.bus.specs.declared.Space.the-variants.{User, System}
+use Rattle.bus.specs.declared.OpenTransfer.{OpenTransfer}
 use Rattle.bus.specs.declared.Bus.{Bus}
 use Rattle.bus.specs.declared.Bus.the-variants.{Idle, Started, ReadLeg, WriteLeg, LowAddress, DataLeg}
 use Rattle.tag.specs.Layout.{mailboxPlace, pagePlace}
-use Rattle.bus.specs.Bus.{pageBytes}
+use Rattle.bus.specs.Bus.{keptOf, transferAt, pageBytes}
 use Rattle.air.specs.Radio.{isSelected}
 use Rattle.refusals.specs.declared.Refusal.the-variants.{SignalUnknown, OutOfRange}
 use Rattle.model.specs.declared.Answer.{Answer}
@@ -22,6 +23,7 @@ use Rattle.calls.specs.Examples.{zeros, onBus, fieldIs, radioSession, _but_}
 use Rattle.waiting.specs.Waiting.{isStarted}
 use Rattle.demand3.specs.Demand3.{struck}
 use Rattle.wrong_tags.specs.Wrong.{feigning, readsHalf, deselects, commitsAtOff, answersFromLeg, neverCloses}
+use Rattle.wrong_tags.specs.RepeatedStart.{dropsAtStart, putsAtStart, writesAtStart, fallsAsleepAtOnce, wakesAtOnce, keepsAtSelect, keepsAtStart, keepsFromStart}
 use Rattle.wrong_tags.specs.Told.{bySame, byJudged, byStriking, byUnchanged, byReply, WrongTag, toldBy, AllTold}
 
 -- ---- `same`, the answers: one thing said otherwise where the test holds of the tag, the call and what is right to say
@@ -111,37 +113,41 @@ stopOutOfRange = misanswering ifStop (Refused OutOfRange)
 
 -- ---- `shut`: what a tag keeps while a transfer is open no list of answers shows, and no final tag.
 -- A mark in place of the bus after a write select: no tag in range has 300 page bytes.
-abbrev pub mark : Bus
-mark = DataLeg User 300 true
+abbrev pub mark : OpenTransfer → Bus
+mark kept = DataLeg kept User 300 true
+
+-- what it keeps of the transfer
+abbrev pub keptBy : Device → OpenTransfer
+keptBy d = keptOf (transferAt (d .tag .host .bus)) (d .tag .core .registers .dynamic)
 
 abbrev pub isMarked : Device → Bool
 isMarked d = eqb (pageBytes (d .tag .host .bus)) 300
 
 unfoldable pub isUserWriteLeg : Bus → Bool
 isUserWriteLeg Idle = false
-isUserWriteLeg (Started open-) = false
-isUserWriteLeg (ReadLeg space over last) = false
-isUserWriteLeg (WriteLeg User) = true
-isUserWriteLeg (WriteLeg System) = false
-isUserWriteLeg (LowAddress space high) = false
-isUserWriteLeg (DataLeg space count spoiled) = false
+isUserWriteLeg (Started transfer) = false
+isUserWriteLeg (ReadLeg kept space over last) = false
+isUserWriteLeg (WriteLeg kept User) = true
+isUserWriteLeg (WriteLeg kept System) = false
+isUserWriteLeg (LowAddress kept space high) = false
+isUserWriteLeg (DataLeg kept space count spoiled) = false
 
 -- `unchanged`: a frame right after that select leaves the mark
 abbrev pub withoutMark : Device → Device
-withoutMark d = pick (isMarked d) (d but onBus (WriteLeg User)) d
+withoutMark d = pick (isMarked d) (d but onBus (WriteLeg (keptBy d) User)) d
 
 abbrev pub frameMarked : Call → Device → Device
-frameMarked call d = pick (eqb (call .code) 8 && isUserWriteLeg (d .tag .host .bus)) (d but onBus mark) d
+frameMarked call d = pick (eqb (call .code) 8 && isUserWriteLeg (d .tag .host .bus)) (d but onBus (mark (keptBy d))) d
 
 abbrev pub marksFrames : Step
 marksFrames = behind withoutMark frameMarked
 
 -- `reply`: right after that select its tag has the field off, and it answers as one in the field
 abbrev pub inFieldAgain : Device → Device
-inFieldAgain d = pick (isMarked d) (d but onBus (WriteLeg User) but fieldIs true) d
+inFieldAgain d = pick (isMarked d) (d but onBus (WriteLeg (keptBy d) User) but fieldIs true) d
 
 abbrev pub fieldHidden : Call → Device → Device
-fieldHidden call d = pick (d .tag .air .field && isUserWriteLeg (d .tag .host .bus)) (d but onBus mark but fieldIs false) d
+fieldHidden call d = pick (d .tag .air .field && isUserWriteLeg (d .tag .host .bus)) (d but onBus (mark (keptBy d)) but fieldIs false) d
 
 abbrev pub hidesField : Step
 hidesField = behind inFieldAgain fieldHidden
@@ -194,7 +200,10 @@ wrongTags = toldBy bySame feigning ∷ toldBy byStriking readsHalf ∷ toldBy by
     ∷ toldBy bySame (wrongIn sessionBesideMail) ∷ toldBy bySame (wrongIn programmingAtZero)
     ∷ toldBy bySame (wrongIn selectedOutside) ∷ toldBy bySame (wrongIn sessionOutside)
     ∷ toldBy bySame (wrongIn busStarted) ∷ toldBy bySame (wrongIn mailNotInPage)
-    ∷ toldBy bySame (wrongIn counterUnpowered) ∷ []
+    ∷ toldBy bySame (wrongIn counterUnpowered)
+    ∷ toldBy bySame dropsAtStart ∷ toldBy bySame putsAtStart ∷ toldBy bySame writesAtStart
+    ∷ toldBy byReply fallsAsleepAtOnce ∷ toldBy byReply wakesAtOnce
+    ∷ toldBy byReply keepsAtSelect ∷ toldBy byReply keepsAtStart ∷ toldBy byReply keepsFromStart ∷ []
 
 abbrev pub WrongTagsTold : Type 0
 WrongTagsTold = AllTold wrongTags

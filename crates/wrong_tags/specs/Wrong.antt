@@ -5,7 +5,9 @@ use Prim.Native.Nat.{ℕ}
 use lib.Dec.{eqb}
 use lib.ListN.{take}
 use Rattle.parts.specs.Pick.{pick}
+use Rattle.bus.specs.declared.Transfer.the-variants.{Closed, Open}
 use Rattle.bus.specs.declared.Bus.the-variants.{Idle, Started}
+use Rattle.bus.specs.Bus.{keptOf}
 use Rattle.tag.specs.declared.Core.{Core}
 use Rattle.tag.specs.declared.Tag.{Tag}
 use Rattle.tag.specs.Layout.{userBytes}
@@ -54,6 +56,10 @@ deselects d call =
     (deviceResult (result .says) (device (withTagAir (deselected (d .tag .air)) (d .tag)) (d .memory)))
     result
 
+-- a transfer open that would have begun with the registers as they stand
+abbrev pub asItStands : Device → Device
+asItStands d = onBus (Started (Open (keptOf Closed (d .tag .core .registers .dynamic)))) d
+
 -- the call with a Stop for its signal
 abbrev pub stopping : Call → Call
 stopping call = record { buffer = call .buffer; code = 6; value = 0; frame = call .frame }
@@ -67,10 +73,10 @@ commitsAtOff d call =
 -- ---- one that answers a frame in a transfer by the registers as the leg's bytes so far would leave them
 unfoldable pub answersFromLeg : Device → Call → DeviceResult
 answersFromLeg d call =
-    let t = onCore (λ (c : Core). entry d (stopping call) .device .tag .core) d .tag in
+    let t = asItStands (onCore (λ (c : Core). entry d (stopping call) .device .tag .core) d) .tag in
     pick (struck entry d call) (deviceResult (deviceResultOf (actOf Frame t (d .memory) (call .buffer) (call .frame)) .says) d)
     (entry d call)
 
 -- ---- one that NoAcks everything and never ends its transfer
 unfoldable pub neverCloses : Device → Call → DeviceResult
-neverCloses d call = deviceResult (callAnswer NoAck (call .buffer)) (onBus (Started true) d)
+neverCloses d call = deviceResult (callAnswer NoAck (call .buffer)) (asItStands d)

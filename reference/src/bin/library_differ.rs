@@ -11,19 +11,22 @@ use std::process::exit;
 
 use reference::bench::{read_line, LONGEST_FRAME, UID};
 use reference::dice::Dice;
-use reference::faults::{change, chosen, make, other_length, several, Call, Fault, Lent, OF_FRESH};
+use reference::faults::{
+    change, chosen, kept, make, other_length, several, Call, Fault, Kept, Lent, OF_FRESH,
+};
 use reference::script::script;
-use reference::state::STATE_SIZE;
+use reference::state::{at, STATE_SIZE};
 use reference::tag::{MEMORY_SIZE, REPLY_SIZE};
 use reference::{library, state};
 
 const LINES: usize = 2000;
 
-/// The answers by kind, and the calls that had both of two faults.
+/// The answers by kind, the calls that had both of two faults, and those with another kept RF_MNGT_Dyn.
 #[derive(Default)]
 struct Tally {
     kinds: BTreeMap<String, u64>,
     pairs: BTreeMap<(u32, u32), u64>,
+    kept: BTreeMap<(Kept, String), u64>,
 }
 
 impl Tally {
@@ -37,12 +40,27 @@ impl Tally {
         }
     }
 
+    /// A call over a state whose kept byte is another.
+    fn add_kept(&mut self, before: &[u8], state: &[u8], answer: u32) {
+        let place = at::KEPT_RF_MNGT_DYN;
+        if state.len() == STATE_SIZE && state[place] != before[place] {
+            let answer = match answer {
+                0x100.. => "taken".to_string(),
+                _ => kind(answer),
+            };
+            *self.kept.entry((kept(state), answer)).or_default() += 1;
+        }
+    }
+
     fn print(&self) {
         let kinds = self.kinds.iter().map(|(k, n)| format!("{k} {n}"));
         println!("  {}", kinds.collect::<Vec<_>>().join(", "));
         let pairs = self.pairs.iter();
         let pairs = pairs.map(|((one, two), n)| format!("{one} and {two} {n}"));
         println!("  faults at once: {}", pairs.collect::<Vec<_>>().join(", "));
+        let kept = self.kept.iter();
+        let kept = kept.map(|((kept, answer), n)| format!("{kept:?} {answer} {n}"));
+        println!("  kept byte: {}", kept.collect::<Vec<_>>().join(", "));
     }
 }
 
@@ -152,6 +170,7 @@ fn wrong_call(dice: &mut Dice, lent: &Lent, call: &Call, tally: &mut Tally) -> O
     }
     let (answer, next) = both(&other, &call)?;
     tally.add(answer, &faults);
+    tally.add_kept(&lent.state, &other.state, answer);
     let taken = answer >= 0x100 && next.reply.len() == REPLY_SIZE && dice.one_in(2);
     Some(if taken { next } else { lent.clone() })
 }

@@ -94,6 +94,20 @@ impl Author {
         }
     }
 
+    /// A frame between the signals of a transfer, mostly one that tells 0Fh from silence. Before the
+    /// select that opens the transfer RF_MNGT can still be written, and RF_MNGT_Dyn by it.
+    pub(super) fn frame_between(&mut self) {
+        let awaited = self.bench.tag.bus == Bus::Started { open: false };
+        match self.dice.below(6) {
+            0 => self.calmly(Author::any_frame),
+            1 | 2 if awaited => {
+                let value = self.dice.below(4) as u8;
+                self.calmly(|author| author.config_write(RF_MNGT as u8, value));
+            }
+            _ => self.frame_to_own_uid(0x26),
+        }
+    }
+
     /// All memory, by 32 frames of four blocks.
     pub(super) fn fill(&mut self) {
         for block in (0..=LAST_BLOCK as u8).step_by(4) {

@@ -491,7 +491,94 @@ impl Author {
         }
     }
 
-    /// A transfer of several legs: only the last one can write.
+    /// A leg that writes a dynamic register; a second byte spoils it.
+    fn dynamic_write(&mut self) {
+        let address = self.dice.pick(&[RF_MNGT_DYN, MB_CTRL_DYN]);
+        let value = match address {
+            RF_MNGT_DYN => self.dice.pick(&[0, 1, 2, 3, 0xFC, 0xFF]),
+            _ => self.dice.pick(&[0, 1, 1, 1, 0xFE, 0xFF]),
+        };
+        let data = [value, self.dice.byte()];
+        let count = if self.dice.one_in(5) { 2 } else { 1 };
+        self.leg(USER_WRITE, address, &data[..count]);
+    }
+
+    /// A leg of any kind, or a Start after which there is none.
+    fn any_leg(&mut self) {
+        let count = 1 + self.dice.below(3);
+        let data = self.dice.bytes(count);
+        match self.dice.below(10) {
+            0 => {
+                let place = self.place();
+                self.leg(USER_WRITE, place, &data);
+            }
+            1 => {
+                let address = 0x0003 + self.dice.below(11) as u16;
+                let ends = self.bench.tag.registers.enda;
+                let value = self.register_value(address, &ends);
+                self.leg(SYSTEM_WRITE, address, &[value]);
+            }
+            2 => {
+                let password = self.bench.tag.i2c_password;
+                let code = self
+                    .dice
+                    .pick(&[PASSWORD_CODE_PRESENT, PASSWORD_CODE_WRITE]);
+                let leg = [&password[..], &[code], &password].concat();
+                self.leg(SYSTEM_WRITE, PASSWORD_PLACE, &leg);
+            }
+            3 | 4 => self.leg(USER_WRITE, MAILBOX_FIRST, &data),
+            5 => {
+                self.start();
+                match self.dice.below(4) {
+                    0 => self.stop(),
+                    1 => {
+                        self.level(b'V', false);
+                        self.level(b'V', true);
+                    }
+                    _ => {
+                        self.send(0xA4);
+                    }
+                }
+            }
+            6 => self.read_leg(SYSTEM_READ, count),
+            7 => self.read_leg(USER_READ, count),
+            _ => {
+                let first = self.dice.pick(&[RF_MNGT_DYN, MB_CTRL_DYN]);
+                self.leg(USER_WRITE, first, &[]);
+                self.read_leg(USER_READ, count);
+            }
+        }
+    }
+
+    /// A transfer with dynamic legs that a Start ends, and other legs after them, frames between
+    /// all its signals; then a look at what they left.
+    pub(super) fn dynamic_legs(&mut self) {
+        if self.bench.tag.registers.mb_mode == 0 && !self.dice.one_in(4) {
+            self.mailbox_off();
+            self.write_system(MB_MODE, &[1]);
+        }
+        if self.dice.one_in(2) {
+            let value = self.dice.below(4) as u8;
+            self.write(USER_WRITE, RF_MNGT_DYN, &[value]);
+        }
+        self.roughness.frames = self.dice.pick(&[0, 3, 6]);
+        for _ in 0..1 + self.dice.below(3) {
+            self.dynamic_write();
+            for _ in 0..self.dice.below(3) {
+                self.any_leg();
+            }
+        }
+        self.finish();
+        self.roughness.frames = 0;
+        match self.dice.below(4) {
+            0 => self.read(USER_READ, RF_MNGT_DYN, 5),
+            1 => self.ask_radio_state(),
+            2 => self.frame(0xAD, &[0x0D]),
+            _ => {}
+        }
+    }
+
+    /// A transfer of several legs: only the last one can write, but for dynamic registers.
     pub(super) fn chain_of_legs(&mut self) {
         for _ in 0..2 + self.dice.below(3) {
             let place = self.place();

@@ -24,6 +24,9 @@ const WRONG_FRAMES: [&str; 7] = [
 impl Author {
     /// Now and then, before a line of a transfer: something else.
     pub(super) fn disturb(&mut self) {
+        if self.dice.one_in(self.roughness.frames) {
+            self.frame_between();
+        }
         if !self.dice.one_in(self.roughness.disturb) {
             return;
         }

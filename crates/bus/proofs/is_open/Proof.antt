@@ -3,61 +3,15 @@ use borrow.Author.Needs.{needs}
 use Rattle.bus.proofs.is_open.Statement.{statement}
 use Rattle.bus.proofs.is_open.Tie as tie
 
-enum-told : tie.Need-enum-told
-enum-told c = search needs
+transfer-at-requires : tie.Need-transfer-at-requires
+transfer-at-requires c κs = search needs
 
-enum-known-b : tie.Need-enum-known-b
-enum-known-b c = search needs
-
-enum-known-b-2 : tie.Need-enum-known-b-2
-enum-known-b-2 c = search needs
-
-enum-known-b-3 : tie.Need-enum-known-b-3
-enum-known-b-3 c = search needs
-
-enum-known-b-4 : tie.Need-enum-known-b-4
-enum-known-b-4 c = search needs
-
-enum-known-b-5 : tie.Need-enum-known-b-5
-enum-known-b-5 c = search needs
+is-open-transfer-requires : tie.Need-is-open-transfer-requires
+is-open-transfer-requires c κs = search needs
 
 returns : tie.Need-returns
 unfolding isOpen
-returns c = rw (c .enum-told .given .1)
-
-returns-2 : tie.Need-returns-2
-unfolding isOpen
-returns-2 c = rw (c .before .b .given .1)
-
-returns-3 : tie.Need-returns-3
-unfolding isOpen
-returns-3 c = rw (c .before .b2 .given .1)
-
-returns-4 : tie.Need-returns-4
-unfolding isOpen
-returns-4 c = rw (c .before .b3 .given .1)
-
-returns-5 : tie.Need-returns-5
-unfolding isOpen
-returns-5 c = rw (c .before .b4 .given .1)
-
-returns-6 : tie.Need-returns-6
-unfolding isOpen
-returns-6 c = rw (c .before .b5 .given .1)
+returns c = rw (c .is-open-transfer .ensures, c .before .transfer-at .ensures)
 
 pub is-open-spec : {M : Type 1} → statement M
-is-open-spec =
-    tie.close
-    (tie.spec
-    enum-told
-    enum-known-b
-    enum-known-b-2
-    enum-known-b-3
-    enum-known-b-4
-    enum-known-b-5
-    returns
-    returns-2
-    returns-3
-    returns-4
-    returns-5
-    returns-6)
+is-open-spec = tie.close (tie.spec transfer-at-requires is-open-transfer-requires returns)

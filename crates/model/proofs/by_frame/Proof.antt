@@ -8,11 +8,11 @@ use Rattle.model.proofs.by_frame.Reads as reads
 use Rattle.model.proofs.by_frame.Lts as lts
 use Rattle.model.proofs.from_radio.Reads as from-radio-reads
 use Rattle.radio.proofs.radio.Reads as radio-reads
-use Rattle.bus.proofs.is_open.Reads as is-open-reads
+use Rattle.bus.proofs.transfer_at.Reads as transfer-at-reads
 
 -- src/lib.rt:135:9
-is-open-requires : tie.Need-is-open-requires
-is-open-requires c κs = search needs
+transfer-at-requires : tie.Need-transfer-at-requires
+transfer-at-requires c κs = search needs
 
 -- src/lib.rt:136:9
 radio-requires : tie.Need-radio-requires
@@ -35,17 +35,17 @@ returns : tie.Need-returns
 unfolding actOf
 returns c =
     let start : tie.Start = search needs in
-    let after-is-open : tie.After-is-open = search needs in
+    let after-transfer-at : tie.After-transfer-at = search needs in
     let after-radio : tie.After-radio = search needs in
     let a = start .args in
-    rw (c .from-radio .ensures, ← after-is-open .is-open .ensures)
+    rw (c .from-radio .ensures, ← after-transfer-at .transfer-at .ensures)
     (ap (λ (e : RadioResult). stepResult (fromRadio (e .answer)) (withRadio (e .side) (a .t)) (e .memory) (e .buffer)) (after-radio .radio .ensures))
 
 pub by-frame-spec : {M : Type 1} → statement M
 by-frame-spec =
     tie.close
     (tie.spec
-    is-open-requires
+    transfer-at-requires
     radio-requires
     from-radio-requires
     same-length

@@ -2,10 +2,16 @@ use Rattle.reply.specs.Reply.{fault, answerOf, bufferOf}
 use Rattle.reply.specs.Outcome.{commandResult}
 use mathlib.Core.Path.{_≡_}
 use Rattle.reply.proofs.Finish.{said}
-use Rattle.radio.specs.Radio.{verdictResult, radioOf}
+use Rattle.radio.specs.Radio.{verdictResult, verdictOf, radioOf}
 use borrow.Author.Needs.{needs}
 use Rattle.radio.proofs.radio.Statement.{statement}
 use Rattle.radio.proofs.radio.Tie as tie
+
+counted-dynamic-requires : tie.Need-counted-dynamic-requires
+counted-dynamic-requires c κs = search needs
+
+is-open-transfer-requires : tie.Need-is-open-transfer-requires
+is-open-transfer-requires c κs = search needs
 
 judge-requires : tie.Need-judge-requires
 judge-requires c κs = search needs
@@ -28,9 +34,15 @@ fields-requires c κs = search needs
 serve-requires : tie.Need-serve-requires
 serve-requires c κs = search needs
 
+verdict : (c : tie.After-judge) → let a = c .before .before .before .before .before .before .before .args in
+    c .judge .result ≡ verdictOf (a .v) (a .u) (a .transfer) (a .programming) (a .f .now)
+verdict c = rw (← c .before .before .counted-dynamic .ensures, ← c .before .is-open-transfer .ensures) (c .judge .ensures)
+
 returns : tie.Need-returns
 unfolding radioOf verdictResult answerOf bufferOf
-returns c = rw (← c .before .before .judge .ensures, c .enum-told .given .1)
+returns c =
+    let after-judge : tie.After-judge = search needs in
+    rw (← verdict after-judge, c .enum-told .given .1)
 
 same-length : tie.Need-same-length
 same-length c = search needs
@@ -44,7 +56,7 @@ returns-2 c =
     let failed = c .before .before in
     let a = start .args in
     said (radioOf (a .v) (a .u) (a .vcc) (a .transfer) (a .programming) (a .m .now) (a .f .now)) (a .out .now) _ (failed .error .ensures)
-    (rw (← after-judge .judge .ensures, after-e .e .given .1))
+    (rw (← verdict after-judge, after-e .e .given .1))
 
 same-length-2 : tie.Need-same-length-2
 same-length-2 c = search needs
@@ -59,12 +71,14 @@ returns-3 c =
     let after-enum-told2 : tie.After-enum-told2 = search needs in
     let after-fields : tie.After-fields = search needs in
     let after-serve : tie.After-serve = search needs in
-    rw (← after-judge .judge .ensures, after-enum-told2 .enum-told2 .given .1, ← after-fields .fields .ensures) (after-serve .serve .ensures)
+    rw (← verdict after-judge, after-enum-told2 .enum-told2 .given .1, ← after-fields .fields .ensures) (after-serve .serve .ensures)
 
 pub radio-spec : {M : Type 1} → statement M
 radio-spec =
     tie.close
     (tie.spec
+    counted-dynamic-requires
+    is-open-transfer-requires
     judge-requires
     enum-told
     enum-known-e

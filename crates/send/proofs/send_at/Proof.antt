@@ -12,6 +12,9 @@ no-ack-requires c κs = search needs
 enum-known-b : tie.Need-enum-known-b
 enum-known-b c = search needs
 
+kept-of-requires : tie.Need-kept-of-requires
+kept-of-requires c κs = search needs
+
 select-requires : tie.Need-select-requires
 select-requires c κs = search needs
 
@@ -48,7 +51,9 @@ same-length c = search needs
 
 returns-2 : tie.Need-returns-2
 unfolding sendAt
-returns-2 c = rw (c .before .before .before .b .given .1) (c .select .ensures)
+returns-2 c =
+    let kept = c .before .before in
+    rw (kept .before .before .b .given .1) (rw (kept .kept-of .ensures) at (c .select .ensures))
 
 returns-3 : tie.Need-returns-3
 unfolding sendAt
@@ -77,6 +82,7 @@ send-at-spec =
     enum-told
     no-ack-requires
     enum-known-b
+    kept-of-requires
     select-requires
     enum-known-b-2
     no-ack-requires-2

@@ -1,9 +1,9 @@
-use mathlib.Core.Path.{refl, ap}
+use mathlib.Core.Path.{ap}
 use Rattle.effect.specs.Effect.{LegResult}
 use Rattle.leg.specs.Leg.{settle}
 use Rattle.signal.specs.declared.WireAnswer.the-variants.{Nothing}
 use Rattle.signal.specs.Signal.{wireResult, dueOf, startAt}
-use Rattle.signal.proofs.Settle.{read-started, dropped}
+use Rattle.signal.proofs.Settle.{read-started}
 use borrow.Author.Needs.{needs}
 use Rattle.signal.proofs.start_at.Statement.{statement}
 use Rattle.signal.proofs.start_at.Tie as tie
@@ -32,6 +32,9 @@ enum-known-b-4 c = search needs
 enum-known-b-5 : tie.Need-enum-known-b-5
 enum-known-b-5 c = search needs
 
+start-write-requires : tie.Need-start-write-requires
+start-write-requires c κs = search needs
+
 returns : tie.Need-returns
 unfolding startAt settle dueOf
 returns c = rw (c .before .before .started .ensures, c .enum-told .given .1)
@@ -54,11 +57,15 @@ returns-5 : tie.Need-returns-5
 unfolding startAt settle dueOf
 returns-5 c = rw (c .before .before .before .started .ensures, c .before .b4 .given .1)
 
+same-length : tie.Need-same-length
+same-length c = search needs
+
 returns-6 : tie.Need-returns-6
-unfolding startAt settle dueOf
+unfolding startAt dueOf
 returns-6 c =
-    let made = c .before .before .before in
-    rw (made .started .ensures, c .before .b5 .given .1) (ap (λ (r : LegResult). wireResult Nothing (r .side) (r .memory)) (dropped _ _ _ _ refl))
+    let written = c .before .before in
+    let told = written .before .before .before in
+    rw (told .b5 .given .1) (rw (told .before .before .started .ensures, told .b5 .given .1) at (ap (λ (r : LegResult). wireResult Nothing (r .side) (r .memory)) (written .start-write .ensures)))
 
 pub start-at-spec : {M : Type 1} → statement M
 start-at-spec =
@@ -72,9 +79,11 @@ start-at-spec =
     enum-known-b-3
     enum-known-b-4
     enum-known-b-5
+    start-write-requires
     returns
     returns-2
     returns-3
     returns-4
     returns-5
+    same-length
     returns-6)

@@ -61,7 +61,7 @@ same-length : tie.Need-same-length
 same-length c = search needs
 
 returns-6 : tie.Need-returns-6
-unfolding stopAt
+unfolding stopAt dueOf
 returns-6 c =
     let stopped = c .before .before in
     let told = stopped .before .before .before in

@@ -1,14 +1,11 @@
 use mathlib.Core.Path.{_∙_}
-use Rattle.leg.specs.Leg.{settle}
-use Rattle.signal.specs.Signal.{dueOf}
-use Rattle.signal.proofs.Settle.{none-due, some-due}
+use Rattle.signal.proofs.Settle.{none-due, some-due, acts-stopped}
 use borrow.Author.Needs.{needs}
 use Rattle.signal.proofs.stop_write.Statement.{statement}
 use Rattle.signal.proofs.stop_write.Tie as tie
 
 returns : tie.Need-returns
-unfolding dueOf
-returns c = none-due _ _ _ _ (c .if1 .taken)
+returns c = none-due _ _ _ _ _ (c .if1 .taken)
 
 first-of-requires : tie.Need-first-of-requires
 first-of-requires c κs = search needs
@@ -20,11 +17,10 @@ same-length : tie.Need-same-length
 same-length c = search needs
 
 returns-2 : tie.Need-returns-2
-unfolding dueOf settle
 returns-2 c =
     let written = c .before .before in
     let first = written .before .before in
-    written .leg-written .ensures ∙ rw (first .first-of .ensures) (some-due _ _ _ _ (first .before .if1 .left))
+    written .leg-written .ensures ∙ acts-stopped _ _ _ _ _ ∙ rw (first .first-of .ensures) (some-due _ _ _ _ _ (first .before .if1 .left))
 
 pub stop-write-spec : {M : Type 1} → statement M
 stop-write-spec =

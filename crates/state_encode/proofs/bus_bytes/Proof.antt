@@ -2,6 +2,10 @@ use Rattle.state.specs.Layout.{busBytes}
 use borrow.Author.Needs.{needs}
 use Rattle.state_encode.proofs.bus_bytes.Statement.{statement}
 use Rattle.state_encode.proofs.bus_bytes.Tie as tie
+use Rattle.bus.proofs.is_open_transfer.Reads as is-open-transfer-reads
+use Rattle.state_encode.proofs.flag_byte.Reads as flag-byte-reads
+use Rattle.state_encode.proofs.space_number.Reads as space-number-reads
+use Rattle.state_encode.proofs.transfer_byte.Reads as transfer-byte-reads
 
 enum-told : tie.Need-enum-told
 enum-told c = search needs
@@ -9,8 +13,14 @@ enum-told c = search needs
 enum-known-b : tie.Need-enum-known-b
 enum-known-b c = search needs
 
+is-open-transfer-requires : tie.Need-is-open-transfer-requires
+is-open-transfer-requires c κs = search needs
+
 flag-byte-requires : tie.Need-flag-byte-requires
 flag-byte-requires c κs = search needs
+
+transfer-byte-requires : tie.Need-transfer-byte-requires
+transfer-byte-requires c κs = search needs
 
 enum-known-b-2 : tie.Need-enum-known-b-2
 enum-known-b-2 c = search needs
@@ -45,11 +55,11 @@ space-number-requires-4 c κs = search needs
 flag-byte-requires-4 : tie.Need-flag-byte-requires-4
 flag-byte-requires-4 c κs = search needs
 
-cast-t22 : tie.Need-cast-t22
-cast-t22 c = search needs
+cast-t28 : tie.Need-cast-t28
+cast-t28 c = search needs
 
-cast-t24 : tie.Need-cast-t24
-cast-t24 c = search needs
+cast-t30 : tie.Need-cast-t30
+cast-t30 c = search needs
 
 returns : tie.Need-returns
 unfolding busBytes
@@ -57,7 +67,9 @@ returns c = rw (c .enum-told .given .1)
 
 returns-2 : tie.Need-returns-2
 unfolding busBytes
-returns-2 c = rw (c .flag-byte .ensures, c .before .before .b .given .1)
+returns-2 c =
+    let after-b : tie.After-b = search needs in
+    rw (c .transfer-byte .ensures, c .before .flag-byte .ensures, c .before .before .is-open-transfer .ensures, after-b .b .given .1)
 
 returns-3 : tie.Need-returns-3
 unfolding busBytes
@@ -83,7 +95,9 @@ bus-bytes-spec =
     (tie.spec
     enum-told
     enum-known-b
+    is-open-transfer-requires
     flag-byte-requires
+    transfer-byte-requires
     enum-known-b-2
     space-number-requires
     flag-byte-requires-2
@@ -95,8 +109,8 @@ bus-bytes-spec =
     enum-known-b-5
     space-number-requires-4
     flag-byte-requires-4
-    cast-t22
-    cast-t24
+    cast-t28
+    cast-t30
     returns
     returns-2
     returns-3

@@ -21,12 +21,16 @@ used-or-0-requires-5 c κs = search needs
 used-or-0-requires-6 : tie.Need-used-or-0-requires-6
 used-or-0-requires-6 c κs = search needs
 
+used-or-0-requires-7 : tie.Need-used-or-0-requires-7
+used-or-0-requires-7 c κs = search needs
+
 returns : tie.Need-returns
 unfolding isBus
 returns c =
+    let after-used-or-03 : tie.After-used-or-03 = search needs in
     let after-used-or-02 : tie.After-used-or-02 = search needs in
     let after-used-or-0 : tie.After-used-or-0 = search needs in
-    rw (c .used-or-06 .ensures, c .before .used-or-05 .ensures, c .before .before .used-or-04 .ensures, c .before .before .before .used-or-03 .ensures, after-used-or-02 .used-or-02 .ensures, after-used-or-0 .used-or-0 .ensures)
+    rw (c .used-or-07 .ensures, c .before .used-or-06 .ensures, c .before .before .used-or-05 .ensures, c .before .before .before .used-or-04 .ensures, after-used-or-03 .used-or-03 .ensures, after-used-or-02 .used-or-02 .ensures, after-used-or-0 .used-or-0 .ensures)
 
 pub is-bus-spec : {M : Type 1} → statement M
 is-bus-spec =
@@ -38,4 +42,5 @@ is-bus-spec =
     used-or-0-requires-4
     used-or-0-requires-5
     used-or-0-requires-6
+    used-or-0-requires-7
     returns)

@@ -56,7 +56,9 @@ same-length c = search needs
 
 returns : tie.Need-returns
 unfolding signalOf
-returns c = rw (c .nothing .ensures, c .before .before .before .enum-told .given .1) (c .before .start .ensures)
+returns c =
+    let started = c .before .before .before in
+    rw (c .nothing .ensures, started .before .before .enum-told .given .1) (started .start .ensures)
 
 same-length-2 : tie.Need-same-length-2
 same-length-2 c = search needs

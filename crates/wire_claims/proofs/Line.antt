@@ -1,9 +1,11 @@
 -- What a signal does to the counter, and what one that leaves a transfer open keeps. Assumes nothing.
 use mathlib.Core.Path.{_≡_, refl, sym, ap, subst, _∙_}
-use mathlib.Core.Bool.{Bool, true, false, _||_, false≢true}
+use mathlib.Core.Bool.{Bool, true, false, _&&_, _||_, false≢true}
 use mathlib.Core.List.{List}
+use mathlib.Core.Logic.{inl, inr}
 use Prim.Native.Nat.{ℕ, _%_, _<_}
 use native.Mathlib.Omega.{arith}
+use Rattle.parts.specs.Bits.{isSet}
 use Rattle.parts.proofs.Picks.{pick-case}
 use Rattle.bus.specs.declared.Space.{Space}
 use Rattle.bus.specs.declared.OpenTransfer.{OpenTransfer}
@@ -12,7 +14,8 @@ use Rattle.bus.specs.declared.Transfer.the-variants.{Closed, Open}
 use Rattle.bus.specs.declared.Bus.{Bus}
 use Rattle.bus.specs.declared.Bus.the-variants.{Idle, Started, ReadLeg, WriteLeg, LowAddress, DataLeg}
 use Rattle.register_types.specs.declared.RfMngt.{RfMngt}
-use Rattle.registers.specs.Map.{withDynamic}
+use Rattle.mailbox.specs.declared.Mailbox.{Mailbox}
+use Rattle.mailbox.specs.Mailbox.{enabled, controlled}
 use Rattle.tag.specs.declared.Core.{Core}
 use Rattle.tag.specs.declared.Host.{Host}
 use Rattle.tag.specs.declared.WireSide.{WireSide}
@@ -23,12 +26,13 @@ use Rattle.ranges.specs.Ranges.{suppliedInRange}
 use Rattle.select.specs.declared.Choice.{Choice}
 use Rattle.select.specs.declared.Choice.the-variants.{NotAcked, Reading, Writing}
 use Rattle.signal_table.specs.declared.WireSignal.{WireSignal}
+use Rattle.effect.specs.Effect.{LegResult}
 use Rattle.leg.specs.Leg.{Due, started, settle}
 use Rattle.signal.specs.Signal.{WireResult, sideBus, dueOf, startAt, startOf, stopAt}
-use Rattle.signal.proofs.Ended.{start-host, start-registers, stop-line, stop-shut}
+use Rattle.signal.proofs.Ended.{start-case, start-host, start-registers, stop-line, stop-shut}
 use Rattle.send.specs.Send.{selectBy, dataOf, sendAt}
 use Rattle.wire.specs.Wire.{fetchAt, signalOf}
-use Rattle.wire_claims.specs.Claims.{KeepsCounter, isStart, RegistersStay, OnlyAtStart, sideCounted, CountedStays}
+use Rattle.wire_claims.specs.Claims.{KeepsCounter, isStart, LengthStays, OthersStay, RegistersStay, OnlyAtStart, sideCounted, CountedStays}
 use Rattle.wire_claims.proofs.Cases.{signal-case}
 use Rattle.wire_claims.proofs.Kept.{inactive}
 
@@ -94,38 +98,38 @@ keeps-counter w u m s h =
     (λ _ on. h)
     s
 
--- ---- what both sides share: a byte sent or fetched leaves it
+-- ---- what both sides share, and the I2C session: a byte sent or fetched leaves them
 module _ (w : WireSide) (m : List ℕ) where
   abbrev R : WireResult → Type 0
-  R e = e .side .core ≡ w .core
+  R e = (e .side .core ≡ w .core) × (e .side .host .session ≡ w .host .session)
 
-  select-core : (c : Choice) (kept : OpenTransfer) → R (selectBy c kept w m)
+  select-leaves : (c : Choice) (kept : OpenTransfer) → R (selectBy c kept w m)
   unfolding selectBy
-  select-core NotAcked kept = refl
-  select-core (Reading s) kept = refl
-  select-core (Writing s) kept = refl
+  select-leaves NotAcked kept = (refl, refl)
+  select-leaves (Reading s) kept = (refl, refl)
+  select-leaves (Writing s) kept = (refl, refl)
 
-  data-core : (kept : OpenTransfer) (s : Space) (n x : ℕ) → R (dataOf kept s n w m x)
+  data-leaves : (kept : OpenTransfer) (s : Space) (n x : ℕ) → R (dataOf kept s n w m x)
   unfolding dataOf
-  data-core kept s n x = pick-case R _ _ _ (λ t. refl) (λ t. refl)
+  data-leaves kept s n x = pick-case R _ _ _ (λ t. (refl, refl)) (λ t. (refl, refl))
 
-  send-core : (b : Bus) (x : ℕ) → R (sendAt b w m x)
+  send-leaves : (b : Bus) (x : ℕ) → R (sendAt b w m x)
   unfolding sendAt
-  send-core Idle x = refl
-  send-core (Started o) x = select-core _ _
-  send-core (ReadLeg kept s o l) x = refl
-  send-core (WriteLeg kept s) x = refl
-  send-core (LowAddress kept s y) x = refl
-  send-core (DataLeg kept s n spoiled) x = pick-case R spoiled _ _ (λ t. refl) (λ t. data-core kept s n x)
+  send-leaves Idle x = (refl, refl)
+  send-leaves (Started o) x = select-leaves _ _
+  send-leaves (ReadLeg kept s o l) x = (refl, refl)
+  send-leaves (WriteLeg kept s) x = (refl, refl)
+  send-leaves (LowAddress kept s y) x = (refl, refl)
+  send-leaves (DataLeg kept s n spoiled) x = pick-case R spoiled _ _ (λ t. (refl, refl)) (λ t. data-leaves kept s n x)
 
-  fetch-core : (b : Bus) (u : Uid) (ack : Bool) → R (fetchAt b w u m ack)
+  fetch-leaves : (b : Bus) (u : Uid) (ack : Bool) → R (fetchAt b w u m ack)
   unfolding fetchAt
-  fetch-core Idle u ack = refl
-  fetch-core (Started o) u ack = refl
-  fetch-core (ReadLeg kept s over last) u ack = pick-case R over _ _ (λ t. refl) (λ t. refl)
-  fetch-core (WriteLeg kept s) u ack = refl
-  fetch-core (LowAddress kept s y) u ack = refl
-  fetch-core (DataLeg kept s n spoiled) u ack = refl
+  fetch-leaves Idle u ack = (refl, refl)
+  fetch-leaves (Started o) u ack = (refl, refl)
+  fetch-leaves (ReadLeg kept s over last) u ack = pick-case R over _ _ (λ t. (refl, refl)) (λ t. (refl, refl))
+  fetch-leaves (WriteLeg kept s) u ack = (refl, refl)
+  fetch-leaves (LowAddress kept s y) u ack = (refl, refl)
+  fetch-leaves (DataLeg kept s n spoiled) u ack = (refl, refl)
 
 -- ---- RF_MNGT_Dyn as it counts for frames
 kept-counted : (o : Transfer) (d : RfMngt) → keptOf o d .dynamic ≡ countedDynamic o d
@@ -230,28 +234,50 @@ unfolding isStart
 only-at-start w u m x s =
     signal-case (λ (x : WireSignal) (e : WireResult). isOpen (e .side .host .bus) ≡ true → isStart x ≡ false → e .side .core ≡ w .core) w u m
     (λ o n. absurd (false≢true (sym n)))
-    (λ x o n. send-core w m (w .host .bus) x)
-    (λ ack o n. fetch-core w m (w .host .bus) u ack)
+    (λ x o n. send-leaves w m (w .host .bus) x .0)
+    (λ ack o n. fetch-leaves w m (w .host .bus) u ack .0)
     (λ o. absurd (false≢true (sym (stop-shut w m) ∙ o)))
     (λ on o n. ap (λ (x : WireSide). x .core) (vcc-same w m on s o))
     (λ _ on o n. refl)
     x
 
--- the core as it was has the registers so
-as-it-was : (w : WireSide) (c : Core) → c ≡ w .core → c .registers ≡ withDynamic (c .registers .dynamic) (w .core .registers)
-as-it-was w c h = rw h
+-- with the core and the session as they were, the registers are
+as-it-was : (w x : WireSide) → (x .core ≡ w .core) × (x .host .session ≡ w .host .session) → OthersStay w x
+as-it-was w x (c, h) = record { system = rw c; session = h; message = inl (ap (λ (c : Core). c .mailbox .length) c) }
+
+-- at a Start
+module _ (w : WireSide) (m : List ℕ) where
+  abbrev Lasts : Mailbox → Type 0
+  Lasts b = LengthStays (w .core .mailbox) b
+
+  start-message : (d : Due) → Lasts (settle started d (afterStart w m) m .side .core .mailbox)
+  unfolding controlled enabled
+  start-message d =
+      start-case (λ (r : LegResult). Lasts (r .side .core .mailbox)) (afterStart w m) m (inl refl) (inl refl) (λ x. inl refl)
+      (λ x. pick-case Lasts (isSet 1 x) _ _ (λ t. pick-case Lasts (isSet 1 (w .core .registers .mode .bits) && w .host .vcc) _ _ (λ t. inl refl) (λ t. inl refl)) (λ t. inr refl))
+      d
+
+  start-others : OthersStay w (startOf w m .side)
+  unfolding startOf startAt
+  start-others =
+      let due = dueOf (w .host .bus) (w .host .counter) m in
+      pick-case (λ (e : WireResult). OthersStay w (e .side)) (w .host .vcc) _ _
+      (λ v. record {
+        system = start-registers due (afterStart w m) m;
+        session = ap (λ (h : Host). h .session) (start-host due (afterStart w m) m);
+        message = start-message due;
+      })
+      (λ v. as-it-was w w (refl, refl))
 
 pub registers-stay : RegistersStay
-unfolding startOf startAt
 registers-stay w u m x s =
-    let P : WireResult → Type 0 = λ e. e .side .core .registers ≡ withDynamic (e .side .core .registers .dynamic) (w .core .registers) in
-    signal-case (λ (x : WireSignal) (e : WireResult). isOpen (e .side .host .bus) ≡ true → P e) w u m
-    (λ o. pick-case P (w .host .vcc) _ _ (λ v. start-registers (dueOf (w .host .bus) (w .host .counter) m) (afterStart w m) m) (λ v. refl))
-    (λ x o. as-it-was w _ (send-core w m (w .host .bus) x))
-    (λ ack o. as-it-was w _ (fetch-core w m (w .host .bus) u ack))
+    signal-case (λ (x : WireSignal) (e : WireResult). isOpen (e .side .host .bus) ≡ true → OthersStay w (e .side)) w u m
+    (λ o. start-others w m)
+    (λ x o. as-it-was w _ (send-leaves w m (w .host .bus) x))
+    (λ ack o. as-it-was w _ (fetch-leaves w m (w .host .bus) u ack))
     (λ o. absurd (false≢true (sym (stop-shut w m) ∙ o)))
-    (λ on o. as-it-was w _ (ap (λ (x : WireSide). x .core) (vcc-same w m on s o)))
-    (λ _ on o. refl)
+    (λ on o. let same = vcc-same w m on s o in as-it-was w _ (ap (λ (x : WireSide). x .core) same, ap (λ (x : WireSide). x .host .session) same))
+    (λ _ on o. as-it-was w _ (refl, refl))
     x
 
 pub counted-stays : CountedStays

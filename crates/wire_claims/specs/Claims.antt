@@ -2,6 +2,7 @@
 use mathlib.Core.Path.{_≡_}
 use mathlib.Core.Bool.{Bool, true, false}
 use mathlib.Core.List.{List}
+use mathlib.Core.Logic.{_⊎_}
 use Prim.Native.Nat.{ℕ, _<_}
 use lib.ListN.{length, getD}
 use Rattle.tag.specs.declared.WireSide.{WireSide}
@@ -9,6 +10,8 @@ use Rattle.keys.specs.declared.Uid.{Uid}
 use Rattle.tag.specs.Layout.{memoryBytes}
 use Rattle.register_types.specs.declared.RfMngt.{RfMngt}
 use Rattle.registers.specs.Map.{withDynamic}
+use Rattle.mailbox.specs.declared.Mailbox.{Mailbox}
+use Rattle.mailbox.specs.Mailbox.{emptyMailbox}
 use Rattle.bus.specs.Bus.{countedDynamic, transferAt, isOpen}
 use Rattle.ranges.specs.Ranges.{suppliedInRange, wireInRange}
 use Rattle.page.specs.PageRange.{busInRange}
@@ -50,12 +53,22 @@ isStart Stop = false
 isStart (Vcc on) = false
 isStart ProgrammingEnd = false
 
--- it changes no register but the two dynamic ones
-abbrev pub RegistersStay : Type 0
-RegistersStay = LeavesOpen (λ (w : WireSide) (signal : WireSignal) (after : WireSide).
-    after .core .registers ≡ withDynamic (after .core .registers .dynamic) (w .core .registers))
+-- MB_LEN_Dyn stays, but that "clearing [MB_EN] empties the mailbox"
+abbrev pub LengthStays : Mailbox → Mailbox → Type 0
+LengthStays mailbox after = (after .length ≡ mailbox .length) ⊎ (after ≡ emptyMailbox)
 
--- and those, RF_MNGT_Dyn and MB_CTRL_Dyn, only at a Start; as all else that both sides share
+-- it changes no register but RF_MNGT_Dyn and MB_CTRL_Dyn
+pub record OthersStay (w after : WireSide) : Type 0 where
+  -- the system registers
+  pub system : after .core .registers ≡ withDynamic (after .core .registers .dynamic) (w .core .registers)
+  -- I2C_SSO_Dyn
+  pub session : after .host .session ≡ w .host .session
+  pub message : LengthStays (w .core .mailbox) (after .core .mailbox)
+
+abbrev pub RegistersStay : Type 0
+RegistersStay = LeavesOpen (λ (w : WireSide) (signal : WireSignal) (after : WireSide). OthersStay w after)
+
+-- and those two only at a Start; as all else that both sides share
 abbrev pub OnlyAtStart : Type 0
 OnlyAtStart = LeavesOpen (λ (w : WireSide) (signal : WireSignal) (after : WireSide). isStart signal ≡ false → after .core ≡ w .core)
 

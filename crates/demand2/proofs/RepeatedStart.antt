@@ -7,4 +7,4 @@ use Rattle.demand2.specs.RepeatedStart.{AllGive, RepeatedStartsGive}
 
 pub repeated-starts-give : RepeatedStartsGive
 unfolding computes selectRefused finished push parse bytesSent served replies onward bytesFetched lastAmong accepted writeLeg selectedLeg legOf lastLeg legsOf transferOf AllGive
-repeated-starts-give = (refl, (refl, (refl, (refl, tt))))
+repeated-starts-give = (refl, (refl, (refl, (refl, (refl, tt)))))

@@ -16,7 +16,7 @@ use Rattle.signal.specs.declared.WireAnswer.the-variants.{Nothing, Ack, NoAck, 
 use Rattle.transfer.specs.Legs.{Noted, NotedStart, NotedSend, NotedFetch, NotedStop}
 use Rattle.transfer.specs.Whole.{transferResult, transferOf}
 use Rattle.calls.specs.Calls.{Device}
-use Rattle.calls.specs.Examples.{powered, _but_, onCore, onRegisters, onBus, counterAt, mailboxMode, hostMessage, bytes}
+use Rattle.calls.specs.Examples.{powered, _but_, onCore, onRegisters, onBus, beingProgrammed, counterAt, mailboxMode, hostMessage, bytes}
 
 -- from a device, after its Start, the signals noted give the answers and leave the other device
 pub record Example : Type 0 where
@@ -79,6 +79,15 @@ readsNew = record {
   leaves = begins but onCore (withMailbox (withEnabled true emptyMailbox)) but ended 0x2007 [] [] (0x01 ∷ []);
 }
 
+-- MB_EN cleared with a message in the mailbox: the next leg finds it empty, and memory is Acked and written
+abbrev pub closesMailbox : Example
+closesMailbox = record {
+  from = begins but hostMessage 1 true but bytes [] (0x5A ∷ []) [];
+  noted = write 0x20 0x06 0x00 ++ NotedStart ∷ NotedSend 0xA6 ∷ NotedSend 0x20 ∷ NotedSend 0x08 ∷ NotedStart ∷ NotedSend 0xA7 ∷ NotedFetch true ∷ NotedStart ∷ write 0x00 0x00 0x07 ++ NotedStop ∷ [];
+  answers = fourAcks ++ Nothing ∷ Ack ∷ Ack ∷ Ack ∷ Nothing ∷ Ack ∷ Byte 0xFF ∷ Nothing ∷ fourAcks ++ Nothing ∷ [];
+  leaves = begins but beingProgrammed but ended 0x0001 (0x07 ∷ []) (0x5A ∷ []) (0x07 ∷ []);
+}
+
 -- spoiled by a second byte, a leg has no effect at the Start either; nor has one in memory
 abbrev pub dropped : Example
 dropped = record {
@@ -89,7 +98,7 @@ dropped = record {
 }
 
 abbrev pub repeatedStarts : List Example
-repeatedStarts = writtenTwice ∷ clearedOnce ∷ readsNew ∷ dropped ∷ []
+repeatedStarts = writtenTwice ∷ clearedOnce ∷ readsNew ∷ closesMailbox ∷ dropped ∷ []
 
 abbrev pub RepeatedStartsGive : Type 0
 RepeatedStartsGive = AllGive repeatedStarts

@@ -224,7 +224,10 @@ fn opening() -> Vec<Call> {
     calls
 }
 
-/// The tag as each of the three keeps it; the memory and the reply buffer beside it.
+/// The tag as each of the three keeps it; the memory and the reply buffer beside it. The state begins a line of the
+/// cache: which of its bytes begin the next one would else hang on where the stack lies, and a short call took up to
+/// half as long again by that alone.
+#[repr(C, align(64))]
 struct Bench {
     state: [u8; STATE_SIZE],
     tag: Tag,

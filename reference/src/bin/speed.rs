@@ -224,9 +224,9 @@ fn opening() -> Vec<Call> {
     calls
 }
 
-/// The tag as each of the three keeps it; the memory and the reply buffer beside it. The state begins a line of the
-/// cache: which of its bytes begin the next one would else hang on where the stack lies, and a short call took up to
-/// half as long again by that alone.
+/// The tag as each of the three keeps it; the memory and the reply buffer beside it. It stands at a fixed
+/// place in the lines of the cache, the state first: without that the time of a short call hung on the environment that
+/// the program was started with, up to half as long again.
 #[repr(C, align(64))]
 struct Bench {
     state: [u8; STATE_SIZE],

@@ -1,5 +1,5 @@
-//! The script of the example program `entry_examples`, answered by the reference.
-//! M: bytes of the lent memory; T: bytes of the state; Z: the state.
+//! The scripts of the example programs `entry_examples` and `write_examples`, answered by the reference.
+//! In both M: bytes of the lent memory; T: bytes of the state.
 
 use std::io::{Read, Result, Write};
 
@@ -8,6 +8,7 @@ use crate::state;
 use crate::tag::Tag;
 
 pub mod entry;
+pub mod write;
 
 const LONGEST_LINE: usize = 4096;
 const MOST_BYTES: usize = LONGEST_LINE / 2;

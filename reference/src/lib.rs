@@ -11,9 +11,12 @@ pub mod feed;
 #[cfg(feature = "library")]
 pub mod library;
 pub mod model;
+pub mod outcome;
 pub mod pieces;
+pub mod questions;
 pub mod radio;
 pub mod script;
 pub mod state;
 pub mod tag;
+pub mod verdict;
 pub mod wire;

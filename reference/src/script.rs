@@ -12,6 +12,7 @@ use crate::bench::{Bench, LONGEST_LINE};
 use crate::dice::Dice;
 use crate::tag::*;
 use legs::USER_WRITE;
+pub use noise::changed;
 
 /// Lengths of long lines, and of long last ones: first and last.
 const LONG_LINES: (usize, usize) = (LONGEST_LINE - 1, 3000);

@@ -55,7 +55,7 @@ const DATA: u8 = 5;
 /// RF_MNGT_Dyn as kept for an open transfer.
 type BusBytes = [u8; 8];
 
-fn space_byte(space: Space) -> u8 {
+pub fn space_byte(space: Space) -> u8 {
     u8::from(space == Space::System)
 }
 
@@ -87,7 +87,7 @@ fn encode_bus(bus: Bus, kept: u8) -> BusBytes {
     }
 }
 
-fn flag(byte: u8) -> Option<bool> {
+pub fn flag(byte: u8) -> Option<bool> {
     match byte {
         0 => Some(false),
         1 => Some(true),
@@ -95,15 +95,18 @@ fn flag(byte: u8) -> Option<bool> {
     }
 }
 
+pub fn space(byte: u8) -> Option<Space> {
+    match byte {
+        0 => Some(Space::User),
+        1 => Some(Space::System),
+        _ => None,
+    }
+}
+
 /// The bus that bytes stand for, and RF_MNGT_Dyn as it is kept; a byte that the bus does not use must be 0.
 fn decode_bus(bytes: BusBytes) -> Option<(Bus, u8)> {
     let [number, space, first, last, high, low_count, high_count, kept] = bytes;
-    let (first, last) = (flag(first)?, flag(last)?);
-    let space = match space {
-        0 => Space::User,
-        1 => Space::System,
-        _ => return None,
-    };
+    let (first, last, space) = (flag(first)?, flag(last)?, self::space(space)?);
     let bus = match number {
         IDLE => Bus::Idle,
         STARTED => Bus::Started { open: first },

@@ -7,10 +7,10 @@ const USER_READ: u8 = 0xA7;
 const SYSTEM_WRITE: u8 = 0xAE;
 const SYSTEM_READ: u8 = 0xAF;
 
-const PASSWORD_LEG: usize = 17;
-const CODE_PLACE: usize = 8;
-const CODE_PRESENT: u8 = 0x09;
-const CODE_WRITE: u8 = 0x07;
+pub const PASSWORD_LEG: usize = 17;
+pub const CODE_PLACE: usize = 8;
+pub const CODE_PRESENT: u8 = 0x09;
+pub const CODE_WRITE: u8 = 0x07;
 
 const NO_BYTE: u8 = 0xFF;
 

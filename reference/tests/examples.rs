@@ -1,28 +1,44 @@
-//! The answers that the example program must print are the reference's.
+//! The answers that the example programs must print are the reference's.
 
 use std::fs;
 use std::io::Result;
 use std::path::Path;
 
-use reference::examples::entry;
+use reference::examples::{entry, write};
 
-#[test]
-fn entry_examples() -> Result<()> {
-    let folder = Path::new(env!("CARGO_MANIFEST_DIR")).join("../crates/entry_examples");
+fn lines(text: &[u8]) -> Vec<String> {
+    let lines = text.split(|&byte| byte == b'\n');
+    lines
+        .map(|line| String::from_utf8_lossy(line).into_owned())
+        .collect()
+}
+
+/// The files `stdin` and `stdout` of an example program's crate.
+fn check(name: &str, run: impl Fn(&[u8], &mut Vec<u8>) -> Result<()>) -> Result<()> {
+    let crates = Path::new(env!("CARGO_MANIFEST_DIR")).join("../crates");
+    let folder = crates.join(name);
     let script = fs::read(folder.join("stdin"))?;
     let expected = fs::read(folder.join("stdout"))?;
     let mut answers = Vec::new();
-    entry::run(&script[..], &mut answers)?;
-    let lines = |text: &[u8]| -> Vec<String> {
-        let lines = text.split(|&byte| byte == b'\n');
-        lines
-            .map(|line| String::from_utf8_lossy(line).into_owned())
-            .collect()
-    };
+    run(&script, &mut answers)?;
     let (answers, expected) = (lines(&answers), lines(&expected));
     for (answer, expected) in answers.iter().zip(&expected) {
         assert_eq!(answer, expected);
     }
     assert_eq!(answers.len(), expected.len());
     Ok(())
+}
+
+#[test]
+fn entry_examples() -> Result<()> {
+    check("entry_examples", |script, answers| {
+        entry::run(script, answers)
+    })
+}
+
+#[test]
+fn write_examples() -> Result<()> {
+    check("write_examples", |script, answers| {
+        write::run(script, answers)
+    })
 }

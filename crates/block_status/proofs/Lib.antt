@@ -1,2 +1,3 @@
 pub mod Statuses
 pub mod Cases
+pub mod ByVerdict

@@ -1,4 +1,5 @@
 -- The status of a block, and 2C Status.
+use mathlib.Core.Bool.{_&&_}
 use mathlib.Core.List.{List, [], _∷_, _++_}
 use Prim.Native.Nat.{ℕ, zero, suc, _+_, _-_}
 use lib.Dec.{leb, ltb}
@@ -12,9 +13,9 @@ use Rattle.reply.specs.declared.RadioSide.{RadioSide}
 use Rattle.reply.specs.Reply.{good}
 use Rattle.reply.specs.Outcome.{CommandResult, commandResult, fails}
 
--- "status byte .., as 2C": "1 exactly when 21 would give 12h"
+-- "status byte .., as 2C": "1 exactly when 21 would give 12h"; where there is no block, none can be written
 unfoldable pub statusOf : Registers → ℕ → ℕ → ℕ
-statusOf r session block = pick (mayWrite r (Radio session) block) 0 1
+statusOf r session block = pick (ltb block blocks && mayWrite r (Radio session) block) 0 1
 
 -- the statuses of n blocks from the first on
 unfoldable pub statusesOf : Registers → ℕ → ℕ → ℕ → List ℕ

@@ -7,29 +7,34 @@ ghost use Rattle.parts.specs.Pick.{pick};
 ghost use Rattle.reply.specs.Outcome.{radioResult, finish};
 ghost use Rattle.block_status.specs.Status.{statusOf, statusesOf, statusReply};
 use errors::RadioError;
-use registers::Registers;
 use reply::RadioOutcome;
 use reply::RadioSide;
-use rights::Side;
+use tag::Core;
+use write_reasons::WriteAsked;
 
 // The status byte of a block: 1 where the radio may not write it.
-pub fn status_of(r: Registers, session: u8, block: u16) -> u8
-    ensures { λ b. ⌜ b ≡ statusOf r session block ⌝ }
+pub fn status_of(c: Core, m: &[u8], session: u8, block: u16) -> u8
+    ensures { λ b. ⌜ b ≡ statusOf (c .registers) session block ⌝ }
 {
-    if rights::may_write(r, Side::Radio(session), block) {
+    let asked = WriteAsked::Block {
+        session: session,
+        block: block,
+    };
+    let verdict = write_verdict::verdict(c, m, asked);
+    if verdict.is_allowed() {
         return 0;
     }
     1
 }
 
 // Writes the statuses of n blocks after the reply's first byte.
-fn put_statuses(out: &mut [u8], r: Registers, session: u8, first: u8, n: u16)
+fn put_statuses(out: &mut [u8], c: Core, m: &[u8], session: u8, first: u8, n: u16)
     requires { ⌜ n ≤ 256 ⌝ }
-    ensures { λ _. ⌜ now (out .exit) ≡ sets (now (out .entry)) 1 (statusesOf r session first n) ⌝ }
+    ensures { λ _. ⌜ now (out .exit) ≡ sets (now (out .entry)) 1 (statusesOf (c .registers) session first n) ⌝ }
 {
     let mut k: u16 = 0;
     while k < n {
-        let status = status_of(r, session, first as u16 + k);
+        let status = status_of(c, m, session, first as u16 + k);
         parts::put_in(out, 1, k as usize, status);
         k += 1;
     }
@@ -56,7 +61,7 @@ pub fn status(v: RadioSide, m: &[u8], out: &mut [u8], first: u8, more: u8) -> Ra
     }
     let n = lesser(tag::BLOCKS - first as u16, more as u16 + 1);
     parts::put(out, 0, 0x00);
-    put_statuses(out, v.core.registers, v.air.session, first, n);
+    put_statuses(out, v.core, m, v.air.session, first, n);
     let answer = reply::close(out, 1 + n as u32);
     RadioOutcome { answer, side: v }
 }

@@ -1,24 +1,30 @@
 // Commands that write and lock blocks of user memory.
 ghost use mathlib.Core.Path.{_≡_};
-ghost use Prim.Native.Nat.{_≤_};
+ghost use Prim.Native.Nat.{_+_, _≤_};
 ghost use Rattle.reply.specs.Outcome.{radioResult, finish};
 ghost use Rattle.block_writes.specs.Writes.{mayWriteAll, writeOf, lockOf};
 use errors::RadioError;
 use register_types::LockCcFile;
-use registers::Registers;
 use reply::RadioOutcome;
 use reply::RadioSide;
-use rights::Side;
+use tag::Core;
+use write_reasons::WriteAsked;
 
-// Whether the radio may write n blocks from the first on.
-fn may_write_all(r: Registers, session: u8, first: u8, n: u16) -> bool
-    requires { ⌜ n ≤ 256 ⌝ }
-    ensures { λ b. ⌜ b ≡ mayWriteAll r session first n ⌝ }
+// Whether the radio may write n blocks of the memory from the first on.
+fn may_write_all(c: Core, m: &[u8], session: u8, first: u8, n: u16) -> bool
+    requires { ⌜ first + n ≤ 128 ⌝ }
+    ensures { λ b. ⌜ b ≡ mayWriteAll (c .registers) session first n ⌝ }
 {
     let mut all = true;
     let mut k: u16 = 0;
     while k < n {
-        let one = rights::may_write(r, Side::Radio(session), first as u16 + k);
+        let block = first as u16 + k;
+        let asked = WriteAsked::Block {
+            session: session,
+            block: block,
+        };
+        let verdict = write_verdict::verdict(c, m, asked);
+        let one = verdict.is_allowed();
         all = all & one;
         k += 1;
     }
@@ -51,7 +57,7 @@ pub fn write(
         let answer = reply::error(out, RadioError::WriteLeavesArea);
         return RadioOutcome { answer, side: v };
     }
-    if !may_write_all(r, v.air.session, first, more as u16 + 1) {
+    if !may_write_all(v.core, m, v.air.session, first, more as u16 + 1) {
         let answer = reply::error(out, RadioError::WriteForbidden);
         return RadioOutcome { answer, side: v };
     }

@@ -7,10 +7,10 @@ ghost use Rattle.reply.specs.Outcome.{radioResult, finish};
 ghost use Rattle.blocks.specs.Blocks.{leavesArea, blocksOf, readOf};
 use errors::RadioError;
 use registers::Ends;
-use registers::Registers;
 use reply::RadioOutcome;
 use reply::RadioSide;
 use rights::Side;
+use tag::Core;
 
 // Whether blocks first to last leave an area or the memory.
 pub fn leaves_area(e: Ends, first: u16, last: u16) -> bool
@@ -24,7 +24,7 @@ pub fn leaves_area(e: Ends, first: u16, last: u16) -> bool
 // Writes n blocks from the first on after the reply's first byte, each into the part after the earlier ones.
 fn put_blocks(
     out: &mut [u8],
-    r: Registers,
+    c: Core,
     session: u8,
     m: &[u8],
     option: bool,
@@ -32,13 +32,13 @@ fn put_blocks(
     n: u16,
 ) -> u32
     requires { ⌜ n ≤ 256 ⌝ }
-    ensures { λ k. ⌜ k ≡ 1 + length (blocksOf r session (now (m .entry)) option first n) ⌝ }
-    ensures { λ _. ⌜ now (out .exit) ≡ sets (now (out .entry)) 1 (blocksOf r session (now (m .entry)) option first n) ⌝ }
+    ensures { λ k. ⌜ k ≡ 1 + length (blocksOf (c .registers) session (now (m .entry)) option first n) ⌝ }
+    ensures { λ _. ⌜ now (out .exit) ≡ sets (now (out .entry)) 1 (blocksOf (c .registers) session (now (m .entry)) option first n) ⌝ }
 {
     let mut at: u32 = 1;
     let mut k: u16 = 0;
     while k < n {
-        at += block_bytes::put_block_at(out, at, r, session, m, option, first as u16 + k);
+        at += block_bytes::put_block_at(out, at, c, session, m, option, first as u16 + k);
         k += 1;
     }
     at
@@ -74,7 +74,7 @@ pub fn read(
         return RadioOutcome { answer, side: v };
     }
     parts::put(out, 0, 0x00);
-    let n = put_blocks(out, r, session, m, option, first, more as u16 + 1);
+    let n = put_blocks(out, v.core, session, m, option, first, more as u16 + 1);
     let answer = reply::close(out, n);
     RadioOutcome { answer, side: v }
 }

@@ -7,15 +7,16 @@ use Rattle.registers.specs.Fresh.{freshRegisters}
 use Rattle.register_table.specs.Table.{placeBits, rowIn, rowOf}
 use Rattle.registers.specs.Map.{registerBytes, byteOf, registerAt, withEnd, putDefined, writtenTo, written}
 use Rattle.areas.specs.Ends.{areaOfBlock, areaOfByte, endsInRange, laterLargest, exceedsBefore, endAccepted, endAllows}
-use Rattle.rights.specs.Rights.{securityOf, sessionOpens, radioWrites, radioReads, wireBits, wireWrites, wireReads, isLocked, readRight, writeRight, mayRead, mayWrite}
+use Rattle.rights.specs.Rights.{securityOf, sessionOpens, radioWrites, radioReads, wireBits, wireGuards, wireWrites, wireReads, isLocked, readRight, writeRight, mayRead, mayWrite}
 use Rattle.bus.specs.Bus.{countedDynamic, keptOf, transferAt, isOpenTransfer, isOpen, isActive, pageBytes}
 use Rattle.keys.specs.Keys.{radioPassword, withRadioPassword, freshPasswords}
 use Rattle.mailbox.specs.Mailbox.{controlByte, lengthByte, enabled, controlled}
 use Rattle.air.specs.Radio.{isQuiet, isSelected, deselected, fieldAt}
 use Rattle.tag.specs.Supply.{vccAt, freshTag}
 use Rattle.ranges.specs.Ranges.{registersInRange, airInRange, mailboxInRange, suppliedInRange, transferInRange, hostInRange, coreInRange, wireInRange, inRange}
-use Rattle.user_rule.specs.UserRule.{memoryAcked, mailboxAcked, userAcked}
-use Rattle.system_rule.specs.SystemRule.{writtenAll, registerAcked, passwordAcked, systemAcked}
+use Rattle.rule.specs.UserRule.{memoryAcked, mailboxAcked, userAcked}
+use Rattle.written_registers.specs.Written.{writtenAll}
+use Rattle.rule.specs.SystemRule.{registerAcked, passwordAcked, systemAcked}
 use Rattle.rule.specs.Rule.{spaceAcked, acked}
 use Rattle.page.specs.PageRange.{pageAcked, busInRange}
 use Rattle.select.specs.Select.{selectOf, choose, firstOf}
@@ -52,5 +53,5 @@ use Rattle.calls.specs.Examples.{sends}
 
 -- all that a run of written-down calls computes with
 unfoldable pub computes : Unit {0}
-unfolding bytesAt copied agree pick shifted bit bits byte run crcOf goodFrame closedAt definedOnly freshRegisters registerBytes byteOf registerAt withEnd putDefined writtenTo written areaOfBlock areaOfByte endsInRange laterLargest exceedsBefore endAccepted endAllows securityOf sessionOpens radioWrites radioReads wireBits wireWrites wireReads isLocked readRight writeRight mayRead mayWrite isOpen transferAt isOpenTransfer countedDynamic keptOf isActive pageBytes radioPassword withRadioPassword freshPasswords controlByte lengthByte enabled controlled isQuiet isSelected deselected fieldAt vccAt freshTag registersInRange airInRange mailboxInRange suppliedInRange transferInRange hostInRange coreInRange wireInRange inRange pageAcked busInRange memoryAcked mailboxAcked userAcked writtenAll registerAcked passwordAcked systemAcked spaceAcked acked selectOf choose firstOf userWritten passwordWritten systemWritten legWritten actsAtStart settle memoryByte mailboxByte userByte systemByte fetched isLast sentByte dueOf startAt startOf stopAt selectBy dataOf sendAt fetchAt signalOf answerOf bufferOf uidPlace paramPlace ownUid param isKnown takesOption paramBytes isSilent isMute errorOf shutOut badFlags wrongLength judge leavesArea statusOf blockOf blocksOf readOf mayWriteAll writeOf lockOf statusesOf statusReply readConfigOf mailboxAfterWrite writtenCore writeConfigOf readDynamicOf writeDynamicOf takesMessage writeMessageOf lengthOf asked mailboxAfterRead readMessageOf presentOf writePasswordOf stayQuietOf selectUidOf resetToReadyOf serveOf verdictResult radioOf areBytes signalTable signalFound isFound signalInRange signalIn signalBy number looksAtTag firstSays judgement unlessRefused fromWire fromRadio tagInRange actOf stepOf freshOf entry runBy sends framesFit anyHolds commandTable commandOf sizeOf makerDiffers uidDiffers silenceHolds receptionSilences addressSilences requestSilences errorHolds ruleError errorRules serveCommand serveCode placeBits rowIn rowOf definedTo
+unfolding bytesAt copied agree pick shifted bit bits byte run crcOf goodFrame closedAt definedOnly freshRegisters registerBytes byteOf registerAt withEnd putDefined writtenTo written areaOfBlock areaOfByte endsInRange laterLargest exceedsBefore endAccepted endAllows securityOf sessionOpens radioWrites radioReads wireBits wireGuards wireWrites wireReads isLocked readRight writeRight mayRead mayWrite isOpen transferAt isOpenTransfer countedDynamic keptOf isActive pageBytes radioPassword withRadioPassword freshPasswords controlByte lengthByte enabled controlled isQuiet isSelected deselected fieldAt vccAt freshTag registersInRange airInRange mailboxInRange suppliedInRange transferInRange hostInRange coreInRange wireInRange inRange pageAcked busInRange memoryAcked mailboxAcked userAcked writtenAll registerAcked passwordAcked systemAcked spaceAcked acked selectOf choose firstOf userWritten passwordWritten systemWritten legWritten actsAtStart settle memoryByte mailboxByte userByte systemByte fetched isLast sentByte dueOf startAt startOf stopAt selectBy dataOf sendAt fetchAt signalOf answerOf bufferOf uidPlace paramPlace ownUid param isKnown takesOption paramBytes isSilent isMute errorOf shutOut badFlags wrongLength judge leavesArea statusOf blockOf blocksOf readOf mayWriteAll writeOf lockOf statusesOf statusReply readConfigOf mailboxAfterWrite writtenCore writeConfigOf readDynamicOf writeDynamicOf takesMessage writeMessageOf lengthOf asked mailboxAfterRead readMessageOf presentOf writePasswordOf stayQuietOf selectUidOf resetToReadyOf serveOf verdictResult radioOf areBytes signalTable signalFound isFound signalInRange signalIn signalBy number looksAtTag firstSays judgement unlessRefused fromWire fromRadio tagInRange actOf stepOf freshOf entry runBy sends framesFit anyHolds commandTable commandOf sizeOf makerDiffers uidDiffers silenceHolds receptionSilences addressSilences requestSilences errorHolds ruleError errorRules serveCommand serveCode placeBits rowIn rowOf definedTo
 computes = tt

@@ -2,12 +2,16 @@
 ghost use mathlib.Core.Path.{_≡_};
 ghost use Rattle.reply.specs.Outcome.{radioResult, finish};
 ghost use Rattle.config.specs.Config.{readConfigOf, mailboxAfterWrite, writtenCore, writeConfigOf};
+ghost use Rattle.config.specs.Claims.{configError};
 use errors::RadioError;
 use mailbox::Mailbox;
 use register_table::WriteRule;
 use reply::RadioOutcome;
 use reply::RadioSide;
 use tag::Core;
+use write_reasons::WriteAsked;
+use write_reasons::WriteReason;
+use write_reasons::WriteVerdict;
 
 // A0.
 pub fn read(v: RadioSide, m: &[u8], out: &mut [u8], pointer: u8) -> RadioOutcome
@@ -55,35 +59,40 @@ fn written_core(c: Core, pointer: u8, x: u8) -> Core
     n
 }
 
+// The error that A1 gives for a reason.
+fn config_error(reason: WriteReason) -> RadioError
+    ensures { λ r. ⌜ r ≡ configError reason ⌝ }
+{
+    match reason {
+        WriteReason::OutsideMap => RadioError::NoSuchRegister,
+        WriteReason::EndaRule => RadioError::EndRefused,
+        _ => RadioError::ConfigurationClosed,
+    }
+}
+
 // A1.
 pub fn write(v: RadioSide, m: &[u8], out: &mut [u8], pointer: u8, x: u8) -> RadioOutcome
     ensures { λ r. ⌜ radioResult r (now (m .entry)) (now (out .exit)) ≡ finish (writeConfigOf v (now (m .entry)) pointer x) (now (out .entry)) ⌝ }
 {
-    let r = v.core.registers;
-    let row = register_table::row_of(pointer as u32);
-    if !row.radio {
-        return RadioOutcome {
-            answer: reply::error(out, RadioError::NoSuchRegister),
+    let asked = WriteAsked::Pointer {
+        session: v.air.session,
+        pointer: pointer,
+        x: x,
+    };
+    let verdict = write_verdict::verdict(v.core, m, asked);
+    match verdict {
+        WriteVerdict::Allowed => {
+            let core = written_core(v.core, pointer, x);
+            let mut next = v;
+            next.core = core;
+            RadioOutcome {
+                answer: reply::done(out),
+                side: next,
+            }
+        }
+        WriteVerdict::Forbidden(reason) => RadioOutcome {
+            answer: reply::error(out, config_error(reason)),
             side: v,
-        };
-    }
-    if (r.config.bits / 1 % 2 == 1) | (v.air.session != 1) {
-        return RadioOutcome {
-            answer: reply::error(out, RadioError::ConfigurationClosed),
-            side: v,
-        };
-    }
-    if !areas::end_allows(r.ends, pointer as u32, x) {
-        return RadioOutcome {
-            answer: reply::error(out, RadioError::EndRefused),
-            side: v,
-        };
-    }
-    let core = written_core(v.core, pointer, x);
-    let mut next = v;
-    next.core = core;
-    RadioOutcome {
-        answer: reply::done(out),
-        side: next,
+        },
     }
 }

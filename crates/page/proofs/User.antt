@@ -1,6 +1,6 @@
 -- A page of user space: its first byte, its last and one in the block after the first decide for all. Assumes nothing.
 use mathlib.Core.Path.{_≡_, refl, sym, ap, _∙_}
-use mathlib.Core.Bool.{Bool, true, false, not, false≢true, _&&_, _||_}
+use mathlib.Core.Bool.{Bool, true, false, not, and-true, and-false, false≢true, _&&_, _||_}
 use mathlib.Core.List.{List}
 use Prim.Native.Nat.{ℕ, zero, suc, _+_, _-_, _/_, _≤_, _<_}
 use native.Mathlib.Omega.{arith}
@@ -18,7 +18,7 @@ use Rattle.rights.proofs.Runs.{area-between, unlocked}
 use Rattle.tag.specs.declared.Core.{Core}
 use Rattle.bus.specs.declared.Space.the-variants.{User}
 use Rattle.tag.specs.Layout.{page}
-use Rattle.user_rule.specs.UserRule.{memoryAcked, mailboxAcked, userAcked}
+use Rattle.rule.specs.UserRule.{memoryAcked, mailboxAcked, userAcked}
 use Rattle.rule.specs.Rule.{spaceAcked, acked}
 use Rattle.rule.proofs.AckedByte.{acked-room, acked-space}
 use Rattle.page.specs.PageRange.{pageAcked}
@@ -29,6 +29,11 @@ same : (a b : Bool) → (a ≡ true → b ≡ true) → (b ≡ true → a ≡ tr
 same true b f g = sym (f refl)
 same false true f g = g refl
 same false false f g = refl
+
+-- the room asked once
+two : (a r z : Bool) → (a && (r && z)) ≡ (r && a && z)
+two true r z = rw (and-true r)
+two false r z = rw (and-false r)
 
 again : (a b : Bool) → (a && b) ≡ (a && b && b)
 again true true = refl
@@ -152,13 +157,18 @@ module _ (c : Core) (session : Bool) (f : ℕ) where
   sized : (m : List ℕ) (k : ℕ) → (k ≡ 0 → ⊥) → pageAcked User c session f m (suc (k - 1)) ≡ pageAcked User c session f m k
   sized m k g = ap (pageAcked User c session f m) (omega arith)
 
-  pub by-two : (m : List ℕ) (k : ℕ) → (k ≡ 0 → ⊥) → k - 1 < 4
-      → (ltb (k - 1) 256 && userAcked c session f 0 && userAcked c session f (k - 1)) ≡ pageAcked User c session f m k
-  by-two m k g l =
-      again (ltb (k - 1) 256 && userAcked c session f 0) (userAcked c session f (k - 1))
+  pub by-two : (m d e : List ℕ) (k x y : ℕ) → (k ≡ 0 → ⊥) → k - 1 < 4
+      → (acked User c session f 0 d x && acked User c session f (k - 1) e y) ≡ pageAcked User c session f m k
+  unfolding acked spaceAcked
+  by-two m d e k x y g l =
+      two (userAcked c session f 0) (ltb (k - 1) 256) (userAcked c session f (k - 1))
+      ∙ again (ltb (k - 1) 256 && userAcked c session f 0) (userAcked c session f (k - 1))
       ∙ three m (k - 1) (k - 1) (omega arith) (λ i j a b. omega arith)
       ∙ sized m k g
 
-  pub by-three : (m : List ℕ) (k : ℕ) → (k ≡ 0 → ⊥) → 4 ≤ k - 1
-      → (ltb (k - 1) 256 && userAcked c session f 0 && userAcked c session f (k - 1) && userAcked c session f 4) ≡ pageAcked User c session f m k
-  by-three m k g l = three m (k - 1) 4 l (λ i j a b. omega arith) ∙ sized m k g
+  pub by-three : (m d e h : List ℕ) (k x y z : ℕ) → (k ≡ 0 → ⊥) → 4 ≤ k - 1
+      → (acked User c session f 0 d x && acked User c session f (k - 1) e y && acked User c session f 4 h z) ≡ pageAcked User c session f m k
+  unfolding acked spaceAcked
+  by-three m d e h k x y z g l =
+      ap (λ (b : Bool). b && userAcked c session f 4) (two (userAcked c session f 0) (ltb (k - 1) 256) (userAcked c session f (k - 1)))
+      ∙ three m (k - 1) 4 l (λ i j a b. omega arith) ∙ sized m k g

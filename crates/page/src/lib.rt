@@ -1,29 +1,46 @@
 // The range on page bytes: each would be Acked at its place.
 ghost use mathlib.Core.Path.{_≡_};
-ghost use mathlib.Core.List.{List};
-ghost use Prim.Native.Nat.{ℕ};
 ghost use Rattle.bus.specs.declared.Space.the-variants.{User, System};
+ghost use Rattle.tag.specs.Layout.{page};
+ghost use Rattle.rule.specs.Rule.{acked};
 ghost use Rattle.page.specs.PageRange.{pageAcked, busInRange};
 use bus::Bus;
 use bus::Space;
 use tag::Core;
+use write_reasons::WriteAsked;
+
+// Whether byte k of a leg that is not spoiled would be Acked.
+fn allowed(c: Core, session: bool, m: &[u8], space: Space, first: u16, k: u16, x: u8) -> bool
+    ensures { λ r. ⌜ r ≡ acked space c session first k (page k (now (m .entry))) x ⌝ }
+{
+    let asked = WriteAsked::DataByte {
+        session: session,
+        spoiled: false,
+        space: space,
+        first: first,
+        k: k,
+        x: x,
+    };
+    let verdict = write_verdict::verdict(c, m, asked);
+    verdict.is_allowed()
+}
 
 // A page of user space, whatever its bytes. At most three places decide for all: the first and the last, since the bytes
 // between two of one area lie in it, and place 4 in the block after the first, since only blocks 0 and 1 can be locked.
-fn user_page(c: Core, session: bool, first: u16, k: u16) -> bool
-    ensures { λ r. ⌜ ((m : List ℕ) → r ≡ pageAcked User c session first m k) ⌝ }
+fn user_page(c: Core, session: bool, m: &[u8], first: u16, k: u16) -> bool
+    ensures { λ r. ⌜ r ≡ pageAcked User c session first (now (m .entry)) k ⌝ }
 {
     if k == 0 {
         return true;
     }
     let last = k - 1;
-    let first_acked = user_rule::user_acked(c, session, first, 0);
-    let last_acked = user_rule::user_acked(c, session, first, last);
-    let both = (last < 256) & first_acked & last_acked;
+    let first_allowed = allowed(c, session, m, Space::User, first, 0, 0);
+    let last_allowed = allowed(c, session, m, Space::User, first, last, 0);
+    let both = first_allowed & last_allowed;
     if last < 4 {
         return both;
     }
-    both & user_rule::user_acked(c, session, first, 4)
+    both & allowed(c, session, m, Space::User, first, 4, 0)
 }
 
 // A page of system space, byte for byte. It stops at the first that would not be Acked.
@@ -33,7 +50,7 @@ fn system_page(c: Core, session: bool, m: &[u8], first: u16, k: u16) -> bool
     let mut i: u16 = 0;
     while i < k {
         let x = parts::byte_in(m, tag::PAGE_AT, i as usize);
-        if !rule::acked(Space::System, c, session, m, first, i, x) {
+        if !allowed(c, session, m, Space::System, first, i, x) {
             return false;
         }
         i += 1;
@@ -46,7 +63,7 @@ fn page_acked(space: Space, c: Core, session: bool, m: &[u8], first: u16, k: u16
     ensures { λ r. ⌜ r ≡ pageAcked space c session first (now (m .entry)) k ⌝ }
 {
     match space {
-        Space::User => user_page(c, session, first, k),
+        Space::User => user_page(c, session, m, first, k),
         Space::System => system_page(c, session, m, first, k),
     }
 }

@@ -190,22 +190,22 @@ pair8 = goes (part (at 0xA6 0x01 0xFF ++ send 0x5A ∷ send 0xA5 ∷ stop ∷ []
     ∷ [])
 
 -- 9. "256 bytes at 0: all Acked; a 257th spoils the leg.": with a Stop after each
-abbrev pub pageFull : Device
-pageFull = powered but counterAt 0x0100 but bytes [] [] (replicate 256 0x5A)
+abbrev pub filledPage : Device
+filledPage = powered but counterAt 0x0100 but bytes [] [] (replicate 256 0x5A)
 
 abbrev pub fillPage : Part
-fillPage = part (at 0xA6 0x00 0x00 ++ sends (replicate 256 0x5A)) (acks ++ replicate 256 ack) (pageFull but onBus (DataLeg begun User 256 false))
+fillPage = part (at 0xA6 0x00 0x00 ++ sends (replicate 256 0x5A)) (acks ++ replicate 256 ack) (filledPage but onBus (DataLeg begun User 256 false))
 
 abbrev pub pair9 : Pair
 pair9 = goes (fillPage
-    ∷ part (stop ∷ []) (noAnswer ∷ []) (pageFull but beingProgrammed but bytes (replicate 256 0x5A) [] (replicate 256 0x5A))
+    ∷ part (stop ∷ []) (noAnswer ∷ []) (filledPage but beingProgrammed but bytes (replicate 256 0x5A) [] (replicate 256 0x5A))
     ∷ [])
 
 -- spoiled: nothing written
 abbrev pub pair9more : Pair
 pair9more = goes (fillPage
-    ∷ part (send 0x5A ∷ []) (noAck ∷ []) (pageFull but onBus (DataLeg begun User 256 true))
-    ∷ part (stop ∷ []) (noAnswer ∷ []) pageFull
+    ∷ part (send 0x5A ∷ []) (noAck ∷ []) (filledPage but onBus (DataLeg begun User 256 true))
+    ∷ part (stop ∷ []) (noAnswer ∷ []) filledPage
     ∷ [])
 
 -- 10. "A 3-byte host message: AC 02 at 02,00 gives its last byte; at 03,00 and FF,00 01 0F.": reading the last byte clears HOST_PUT

@@ -1,1 +1,2 @@
 pub mod Password
+pub mod Claims

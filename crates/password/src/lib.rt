@@ -2,10 +2,14 @@
 ghost use mathlib.Core.Path.{_≡_};
 ghost use Rattle.reply.specs.Outcome.{radioResult, finish};
 ghost use Rattle.password.specs.Password.{presentOf, writePasswordOf};
+ghost use Rattle.password.specs.Claims.{passwordError};
 use errors::RadioError;
 use keys::Password;
 use reply::RadioOutcome;
 use reply::RadioSide;
+use write_reasons::WriteAsked;
+use write_reasons::WriteReason;
+use write_reasons::WriteVerdict;
 
 // Radio passwords are 0 to 3.
 const LAST: u8 = 3;
@@ -42,25 +46,36 @@ pub fn present(
     }
 }
 
+// The error that B1 gives for a reason.
+fn password_error(reason: WriteReason) -> RadioError
+    ensures { λ r. ⌜ r ≡ passwordError reason ⌝ }
+{
+    match reason {
+        WriteReason::OutsideMap => RadioError::NoSuchPassword,
+        _ => RadioError::PasswordSessionClosed,
+    }
+}
+
 // B1; the password stands at a place of the frame.
 pub fn write(v: RadioSide, m: &[u8], out: &mut [u8], n: u8, frame: &[u8], at: usize) -> RadioOutcome
     ensures { λ r. ⌜ radioResult r (now (m .entry)) (now (out .exit)) ≡ finish (writePasswordOf v (now (m .entry)) n (now (frame .entry)) at) (now (out .entry)) ⌝ }
 {
-    if LAST < n {
-        return RadioOutcome {
-            answer: reply::error(out, RadioError::NoSuchPassword),
+    let asked = WriteAsked::PasswordOf {
+        session: v.air.session,
+        n: n,
+    };
+    let verdict = write_verdict::verdict(v.core, m, asked);
+    match verdict {
+        WriteVerdict::Allowed => {
+            let passwords = v.core.passwords.with_radio(n, Password::at(frame, at));
+            RadioOutcome {
+                answer: reply::done(out),
+                side: v.with_passwords(passwords),
+            }
+        }
+        WriteVerdict::Forbidden(reason) => RadioOutcome {
+            answer: reply::error(out, password_error(reason)),
             side: v,
-        };
-    }
-    if v.air.session != n + 1 {
-        return RadioOutcome {
-            answer: reply::error(out, RadioError::PasswordSessionClosed),
-            side: v,
-        };
-    }
-    let passwords = v.core.passwords.with_radio(n, Password::at(frame, at));
-    RadioOutcome {
-        answer: reply::done(out),
-        side: v.with_passwords(passwords),
+        },
     }
 }

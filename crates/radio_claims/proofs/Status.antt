@@ -1,6 +1,6 @@
 -- A status byte is 1 exactly when 21 on its block gives 12h. Assumes nothing.
 use mathlib.Core.Path.{_≡_, refl, sym, ap, subst, _∙_}
-use mathlib.Core.Bool.{Bool, true, false, not, _||_}
+use mathlib.Core.Bool.{Bool, true, false, not, _&&_, _||_}
 use mathlib.Core.List.{List, [], _∷_, _++_, append-assoc, append-nil}
 use mathlib.Core.Logic.{inl, inr, ⊎-elim}
 use Prim.Native.Nat.{ℕ, zero, suc, _+_, _*_, _-_, _<_}
@@ -8,7 +8,7 @@ use native.Mathlib.Omega.{arith}
 use lib.Dec.{leb, ltb, eqb}
 use lib.ListN.{length, getD, drop, length-append}
 use lib.Seq.{getD-at}
-use borrow.Author.Tests.{eq-eqb, ltb-true, ltb-false, lt-leb}
+use borrow.Author.Tests.{eq-eqb, ltb-true, ltb-false, lt-ltb, lt-leb}
 use Rattle.parts.specs.Pick.{pick}
 use Rattle.parts.specs.Bytes.{bytesAt}
 use Rattle.parts.proofs.Picks.{pick-false}
@@ -35,6 +35,7 @@ use Rattle.block_status.proofs.Statuses.{counted-le, length-statuses}
 use Rattle.block_status.proofs.Cases.{status-case}
 use Rattle.blocks.proofs.Cases.{read-case}
 use Rattle.block_writes.specs.Writes.{mayWriteAll, writeOf}
+use Rattle.block_writes.proofs.Inside.{stays, write-right}
 use Rattle.request.specs.Request.{requestOf}
 use Rattle.serve.specs.Commands.{serveCommand, serveOf}
 use Rattle.serve.proofs.Rows.{known-row}
@@ -45,17 +46,6 @@ use Rattle.radio_claims.specs.Claims.{Asks, StatusAgrees, StatusAsWrite,
 -- ---- 21 on a block of the memory: 12h, or done
 passed : {A : Type 0} (b : Bool) (x y : A) → b ≡ false → pick b x y ≡ y
 passed b x y h = sym (pick-false x y y b h refl)
-
--- one block stays in its area
-stays : (e : Ends) (first last : ℕ) → last ≡ first → last < 128 → leavesArea e first last ≡ false
-unfolding leavesArea
-stays e first last h l =
-    ap (λ (b : Bool). b || not (eqb (areaOfBlock e first) (areaOfBlock e last))) (lt-leb 128 last l)
-    ∙ ap not (eq-eqb (areaOfBlock e first) (areaOfBlock e last) (ap (areaOfBlock e) (sym h)))
-
-write-right : (r : Registers) (session block : ℕ) → mayWriteAll r session block (0 + 1) ≡ mayWrite r (Radio session) block
-unfolding mayWriteAll
-write-right r session block = ap (λ (n : ℕ). mayWrite r (Radio session) n) (omega arith)
 
 -- the last test of 21, turned round
 forbids : (b c : Bool) (x y : CommandResult) → c ≡ b → pick (not c) x y .reply ≡ pick b (y .reply) (x .reply)
@@ -84,7 +74,7 @@ status-write : (t : RadioSide) (m : List ℕ) (block : ℕ) (w : List ℕ) (at :
     → StatusAgrees (statusOf (t .core .registers) (t .air .session) block) (writeOf t m block 0 w at .reply)
 unfolding statusOf
 status-write t m block w at l =
-    agrees (mayWrite (t .core .registers) (Radio (t .air .session)) block) _ _ refl (write-reply t m block w at l)
+    agrees (mayWrite (t .core .registers) (Radio (t .air .session)) block) _ _ (ap (λ (b : Bool). pick (b && mayWrite (t .core .registers) (Radio (t .air .session)) block) 0 1) (lt-ltb block 128 l)) (write-reply t m block w at l)
 
 -- ---- parts of a reply, one after the other: part k stands after the k before it
 run : (ℕ → List ℕ) → ℕ → List ℕ

@@ -51,8 +51,11 @@ wireBits security area =
     (security .bits / 64 % 4)))
 
 -- "low bit, write needs the I2C session"
+unfoldable pub wireGuards : I2cSs → ℕ → Bool
+wireGuards security area = isSet 1 (wireBits security area)
+
 unfoldable pub wireWrites : I2cSs → ℕ → Bool → Bool
-wireWrites security area session = session || not (isSet 1 (wireBits security area))
+wireWrites security area session = session || not (wireGuards security area)
 
 -- "high bit, read needs it, ignored in area 1"
 unfoldable pub wireReads : I2cSs → ℕ → Bool → Bool
@@ -75,6 +78,6 @@ writeRight r (Radio session) area = radioWrites (securityOf (r .security) area) 
 unfoldable pub mayRead : Registers → Side → ℕ → Bool
 mayRead r by block = readRight r by (areaOfBlock (r .ends) block)
 
--- whether a side may write a block: the one place that decides it
+-- whether a side may write a block
 unfoldable pub mayWrite : Registers → Side → ℕ → Bool
 mayWrite r by block = not (isLocked (r .ccfile) block) && writeRight r by (areaOfBlock (r .ends) block)

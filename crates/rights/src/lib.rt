@@ -1,6 +1,6 @@
 // The rights and locks of both sides.
 ghost use mathlib.Core.Path.{_≡_};
-ghost use Rattle.rights.specs.Rights.{securityOf, sessionOpens, radioWrites, radioReads, wireBits, wireWrites, wireReads, isLocked, readRight, writeRight, mayRead, mayWrite};
+ghost use Rattle.rights.specs.Rights.{securityOf, sessionOpens, radioReads, wireBits, wireGuards, wireReads, isLocked, readRight, mayRead};
 use register_types::I2cSs;
 use register_types::LockCcFile;
 use register_types::RfaSs;
@@ -24,22 +24,10 @@ pub fn security_of(security: Security, area: u8) -> RfaSs
 }
 
 // Whether the open radio session is the one that an area names.
-fn session_opens(security: RfaSs, session: u8) -> bool
+pub fn session_opens(security: RfaSs, session: u8) -> bool
     ensures { λ r. ⌜ r ≡ sessionOpens security session ⌝ }
 {
     (security.bits % 4 != 0) & (session == security.bits % 4 + 1)
-}
-
-fn radio_writes(security: RfaSs, session: u8) -> bool
-    ensures { λ r. ⌜ r ≡ radioWrites security session ⌝ }
-{
-    if security.bits / 4 % 4 == 0 {
-        return true;
-    }
-    if security.bits / 4 % 4 == 3 {
-        return false;
-    }
-    session_opens(security, session)
 }
 
 fn radio_reads(security: RfaSs, area: u8, session: u8) -> bool
@@ -70,11 +58,12 @@ fn wire_bits(security: I2cSs, area: u8) -> u8
     security.bits / 64 % 4
 }
 
-fn wire_writes(security: I2cSs, area: u8, session: bool) -> bool
-    ensures { λ r. ⌜ r ≡ wireWrites security area session ⌝ }
+// Whether a write by the wire needs the I2C session in an area.
+pub fn wire_guards(security: I2cSs, area: u8) -> bool
+    ensures { λ r. ⌜ r ≡ wireGuards security area ⌝ }
 {
     let bits = wire_bits(security, area);
-    session | !(bits / 1 % 2 == 1)
+    bits / 1 % 2 == 1
 }
 
 fn wire_reads(security: I2cSs, area: u8, session: bool) -> bool
@@ -107,26 +96,9 @@ pub fn read_right(r: Registers, by: Side, area: u8) -> bool
     }
 }
 
-// Whether a side may write an area.
-pub fn write_right(r: Registers, by: Side, area: u8) -> bool
-    ensures { λ b. ⌜ b ≡ writeRight r by area ⌝ }
-{
-    match by {
-        Side::Wire(session) => wire_writes(r.i2css, area, session),
-        Side::Radio(session) => radio_writes(security_of(r.security, area), session),
-    }
-}
-
 // Whether a side may read a block.
 pub fn may_read(r: Registers, by: Side, block: u16) -> bool
     ensures { λ b. ⌜ b ≡ mayRead r by block ⌝ }
 {
     read_right(r, by, areas::area_of_block(r.ends, block))
-}
-
-// Whether a side may write a block: all that write ask here.
-pub fn may_write(r: Registers, by: Side, block: u16) -> bool
-    ensures { λ b. ⌜ b ≡ mayWrite r by block ⌝ }
-{
-    !is_locked(r.ccfile, block) & write_right(r, by, areas::area_of_block(r.ends, block))
 }

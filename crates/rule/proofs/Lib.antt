@@ -1,1 +1,2 @@
 pub mod AckedByte
+pub mod Agree

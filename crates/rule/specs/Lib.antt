@@ -1,1 +1,4 @@
+pub mod UserRule
+pub mod SystemRule
 pub mod Rule
+pub mod Claims

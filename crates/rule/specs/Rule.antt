@@ -6,13 +6,9 @@ use Prim.Native.Nat.{ℕ}
 use lib.Dec.{ltb}
 use Rattle.bus.specs.declared.Space.{Space}
 use Rattle.bus.specs.declared.Space.the-variants.{User, System}
-use mathlib.Core.Bool.{Bool, _&&_}
-use mathlib.Core.List.{List}
-use Prim.Native.Nat.{ℕ}
-use lib.Dec.{ltb}
 use Rattle.tag.specs.declared.Core.{Core}
-use Rattle.user_rule.specs.UserRule.{userAcked}
-use Rattle.system_rule.specs.SystemRule.{systemAcked}
+use Rattle.rule.specs.UserRule.{userAcked}
+use Rattle.rule.specs.SystemRule.{systemAcked}
 
 unfoldable pub spaceAcked : Space → Core → Bool → ℕ → ℕ → List ℕ → ℕ → Bool
 spaceAcked User c session first k earlier x = userAcked c session first k

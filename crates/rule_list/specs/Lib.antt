@@ -1,1 +1,2 @@
 pub mod RuleList
+pub mod Claims

@@ -2,10 +2,11 @@
 ghost use mathlib.Core.Path.{_≡_};
 ghost use mathlib.Core.Bool.{false};
 ghost use Rattle.bus.specs.declared.Bus.the-variants.{DataLeg};
-ghost use Rattle.select.specs.Select.{choose, address};
+ghost use Rattle.select.specs.Select.{choose, address, firstOf};
+ghost use Rattle.write_reasons.specs.declared.WriteAsked.the-variants.{DataByte};
 ghost use Rattle.signal.specs.declared.WireAnswer.the-variants.{NoAck};
 ghost use Rattle.signal.specs.Signal.{wireResult, sideLine};
-ghost use Rattle.send.specs.Send.{selectBy, dataOf, sendAt};
+ghost use Rattle.send.specs.Send.{selectBy, sendAt};
 use bus::Bus;
 use bus::OpenTransfer;
 use bus::Space;
@@ -13,6 +14,7 @@ use select::Choice;
 use signal::WireAnswer;
 use signal::WireOutcome;
 use tag::WireSide;
+use write_reasons::WriteAsked;
 
 // The first byte sent after a Start.
 fn select(kept: OpenTransfer, w: WireSide, m: &[u8], x: u8) -> WireOutcome
@@ -48,15 +50,36 @@ fn select(kept: OpenTransfer, w: WireSide, m: &[u8], x: u8) -> WireOutcome
     }
 }
 
-// A data byte of a leg that is not spoiled.
-fn data(kept: OpenTransfer, space: Space, k: u16, w: WireSide, m: &mut [u8], x: u8) -> WireOutcome
-    ensures { λ r. ⌜ wireResult (r .answer) (r .side) (now (m .exit)) ≡ dataOf kept space k w (now (m .entry)) x ⌝ }
+// What is asked about a data byte.
+fn asked_of(w: WireSide, space: Space, k: u16, spoiled: bool, x: u8) -> WriteAsked
+    ensures { λ r. ⌜ r ≡ DataByte (w .host .session) spoiled space (firstOf (w .host .counter) k) k x ⌝ }
 {
-    let counter = w.host.counter;
-    let first = select::first_of(counter, k);
-    if rule::acked(space, w.core, w.host.session, m, first, k, x) {
+    WriteAsked::DataByte {
+        session: w.host.session,
+        spoiled: spoiled,
+        space: space,
+        first: select::first_of(w.host.counter, k),
+        k: k,
+        x: x,
+    }
+}
+
+// A data byte: where the verdict allows it, it is Acked and taken into the page. A NoAck spoils the leg.
+fn send_data(
+    kept: OpenTransfer,
+    space: Space,
+    k: u16,
+    spoiled: bool,
+    w: WireSide,
+    m: &mut [u8],
+    x: u8,
+) -> WireOutcome
+    ensures { λ r. ⌜ wireResult (r .answer) (r .side) (now (m .exit)) ≡ sendAt (DataLeg kept space k spoiled) w (now (m .entry)) x ⌝ }
+{
+    let verdict = write_verdict::verdict(w.core, m, asked_of(w, space, k, spoiled, x));
+    if verdict.is_allowed() {
         parts::put_in(m, tag::PAGE_AT, k as usize, x);
-        let next = bus::next_address(counter);
+        let next = bus::next_address(w.host.counter);
         let count = k + 1;
         let leg = Bus::DataLeg {
             kept: kept,
@@ -69,37 +92,16 @@ fn data(kept: OpenTransfer, space: Space, k: u16, w: WireSide, m: &mut [u8], x: 
             side: signal::with_line(w, next, leg),
         };
     }
-    let spoiled = Bus::DataLeg {
+    if spoiled {
+        return no_ack(w);
+    }
+    let leg = Bus::DataLeg {
         kept: kept,
         space: space,
         count: k,
         spoiled: true,
     };
-    WireOutcome {
-        answer: WireAnswer::NoAck,
-        side: signal::with_bus(w, spoiled),
-    }
-}
-
-// A data byte, NoAcked in a spoiled leg.
-fn send_data(
-    kept: OpenTransfer,
-    space: Space,
-    k: u16,
-    spoiled: bool,
-    w: WireSide,
-    m: &mut [u8],
-    x: u8,
-) -> WireOutcome
-    ensures { λ r. ⌜ wireResult (r .answer) (r .side) (now (m .exit)) ≡ sendAt (DataLeg kept space k spoiled) w (now (m .entry)) x ⌝ }
-{
-    if spoiled {
-        return WireOutcome {
-            answer: WireAnswer::NoAck,
-            side: w,
-        };
-    }
-    data(kept, space, k, w, m, x)
+    no_ack(signal::with_bus(w, leg))
 }
 
 fn no_ack(w: WireSide) -> WireOutcome

@@ -8,7 +8,7 @@ use Rattle.parts.specs.Pick.{pick}
 use Rattle.tag.specs.declared.WireSide.{WireSide}
 use Rattle.keys.specs.Keys.{passwordAt, samePassword, withI2cPassword}
 use Rattle.tag.specs.Parts.{withRegisters, withPasswords, withWireCore}
-use Rattle.system_rule.specs.SystemRule.{writtenAll}
+use Rattle.written_registers.specs.Written.{writtenAll}
 use Rattle.effect.specs.Effect.{LegResult, legResult, sideSession, programming}
 
 -- "Code 09h presents: both halves equal to the I2C password open the session, else it closes."

@@ -39,7 +39,7 @@ pub fn system_written(w: WireSide, m: &[u8], first: u16, k: u16) -> WireSide
         return password_written(w, m, k);
     }
     let mut c = w.core;
-    let registers = system_rule::written_all(c.registers, m, first, k);
+    let registers = written_registers::written_all(c.registers, m, first, k);
     c.registers = registers;
     effect::start_programming(effect::with_core(w, c))
 }

@@ -37,9 +37,9 @@ use Rattle.ranges.proofs.RegistersKept.{dynamic-kept, dynamic-defined, reload-k
 use Rattle.select.specs.declared.Choice.{Choice}
 use Rattle.select.specs.declared.Choice.the-variants.{NotAcked, Reading, Writing}
 use Rattle.select.specs.Select.{choose, selectOf, firstOf}
-use Rattle.user_rule.specs.UserRule.{mailboxAcked, userAcked}
+use Rattle.rule.specs.UserRule.{mailboxAcked, userAcked}
 use Rattle.rule.specs.Rule.{spaceAcked, acked}
-use Rattle.system_rule.specs.SystemRule.{writtenAll}
+use Rattle.written_registers.specs.Written.{writtenAll}
 use Rattle.rule.proofs.AckedByte.{acked-room, acked-space}
 use Rattle.select.proofs.First.{first-next}
 use Rattle.page.specs.PageRange.{pageAcked, busInRange}

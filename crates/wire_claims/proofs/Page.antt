@@ -21,11 +21,12 @@ use Rattle.tag.specs.declared.Core.{Core}
 use Rattle.tag.specs.Layout.{page}
 use Rattle.ranges.specs.Ranges.{registersInRange}
 use Rattle.ranges.proofs.RegistersKept.{written-kept}
-use Rattle.user_rule.specs.UserRule.{mailboxAcked, userAcked}
-use Rattle.system_rule.specs.SystemRule.{registerAcked, systemAcked, writtenAll}
+use Rattle.rule.specs.UserRule.{mailboxAcked, userAcked}
+use Rattle.written_registers.specs.Written.{writtenAll}
+use Rattle.rule.specs.SystemRule.{registerAcked, systemAcked}
 use Rattle.rule.specs.Rule.{spaceAcked, acked}
 use Rattle.page.specs.PageRange.{pageAcked}
-use Rattle.system_rule.proofs.Registers.{written-snoc}
+use Rattle.written_registers.proofs.Registers.{written-snoc}
 use Rattle.rule.proofs.AckedByte.{acked-room, acked-space}
 use Rattle.page.proofs.Acks.{page-before, page-last}
 

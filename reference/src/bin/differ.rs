@@ -8,18 +8,15 @@
 use std::collections::BTreeMap;
 use std::io::{stdout, Result, Write};
 use std::process::exit;
-use std::time::{Duration, Instant};
 
 use reference::bench;
-use reference::cut::cut;
 use reference::dice::Dice;
 use reference::feed::{run_program, Output};
+use reference::outcome::{self, Outcome};
 use reference::pieces::{pieces, Style, STYLES};
 use reference::script::{long_script, script, text, Line, Script};
 
 const LINES: usize = 2000;
-/// So long a difference is cut.
-const CUTTING: Duration = Duration::from_secs(60);
 const COMMANDS: [&str; 18] = [
     "02", "20", "21", "22", "23", "24", "25", "26", "2C", "A0", "A1", "AA", "AB", "AC", "AD", "AE",
     "B1", "B3",
@@ -29,24 +26,6 @@ fn run_reference(script: &[u8]) -> Result<Output> {
     let mut output = Vec::new();
     bench::run(script, &mut output)?;
     Ok(Output::new(&output, true))
-}
-
-/// What the program printed, what the reference did, and in how many pieces the program was fed.
-struct Outcome {
-    one: Output,
-    two: Output,
-    pieces: u64,
-}
-
-impl Outcome {
-    /// The first place at which they differ. A program that fails after its last line differs there.
-    fn first_difference(&self) -> Option<usize> {
-        let (one, two) = (&self.one, &self.two);
-        let most = one.lines.len().max(two.lines.len());
-        (0..most)
-            .find(|&place| one.lines.get(place) != two.lines.get(place))
-            .or((one.ended != two.ended).then(|| most.saturating_sub(1)))
-    }
 }
 
 /// What was answered, by kind, and by command for frames.
@@ -76,10 +55,8 @@ impl Tally {
 
     fn add_all(&mut self, lines: &[Line], outcome: &Outcome) {
         self.pieces += outcome.pieces;
-        for (line, answer) in lines.iter().zip(&outcome.two.lines) {
-            let answer = answer.strip_suffix(b"\n").unwrap_or(answer);
-            let tab = answer.iter().position(|&byte| byte == b'\t');
-            self.add(line, &answer[tab.map_or(0, |tab| tab + 1)..]);
+        for (line, answer) in outcome.answers(lines) {
+            self.add(line, answer);
         }
     }
 
@@ -164,45 +141,12 @@ impl Trial {
     }
 }
 
-/// The difference and the shortest script found for it.
+/// The difference, and how the script differs from its lines.
 fn report(program: &str, trial: &Trial, outcome: &Outcome, place: usize) -> Result<()> {
-    let (lines, ended) = (&trial.script.lines, trial.script.ended);
+    let run = |lines: &[Line]| trial.run(program, lines);
+    outcome::report(trial.seed, &trial.script.lines, outcome, place, run)?;
     let mut out = stdout().lock();
-    let line = match lines.get(place) {
-        Some(line) => String::from_utf8_lossy(line).into_owned(),
-        None => "(no line)".to_string(),
-    };
-    writeln!(out, "seed {} differs", trial.seed)?;
-    writeln!(out, "line:      {line}")?;
-    writeln!(out, "program:   {}", outcome.one.show(place))?;
-    writeln!(out, "reference: {}", outcome.two.show(place))?;
-    out.flush()?;
-    let (mut runs, start) = (0, Instant::now());
-    let short = cut(lines, &mut |lines| {
-        if start.elapsed() > CUTTING {
-            return None;
-        }
-        runs += 1;
-        trial.run(program, lines).ok()?.first_difference()
-    });
-    let Outcome { one, two, .. } = trial.run(program, &short)?;
-    writeln!(
-        out,
-        "cut from {} lines to {} in {runs} runs:",
-        lines.len(),
-        short.len()
-    )?;
-    out.write_all(&text(&short, true))?;
-    writeln!(out, "answers of the program and of the reference:")?;
-    for place in 0..one.lines.len().max(two.lines.len()).max(short.len()) {
-        let (one, two) = (one.show(place), two.show(place));
-        let mark = if one == two { "" } else { "\t<- differs" };
-        writeln!(out, "{one}\t{two}{mark}")?;
-    }
-    if !one.ended {
-        writeln!(out, "the program failed")?;
-    }
-    if !ended {
+    if !trial.script.ended {
         writeln!(out, "the script's last line has no line feed")?;
     }
     if let Some(style) = trial.style {

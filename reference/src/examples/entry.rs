@@ -1,5 +1,6 @@
-//! The entry points. C: a call, its code, its value (two bytes) and the frame. N: the fresh tag. J, O: the length of
-//! the memory and of the reply buffer that calls hand in. E: the CRCs of all memory and of all reply bytes.
+//! The entry points. C: a call, its code, its value (two bytes) and the frame. N: the fresh tag. Z: the state.
+//! J, O: the length of the memory and of the reply buffer that calls hand in. E: the CRCs of all memory and of all reply
+//! bytes.
 
 use std::io::{Read, Result, Write};
 

@@ -2,6 +2,7 @@
 
 use super::{Author, Line};
 use crate::bench::LONGEST_LINE;
+use crate::dice::Dice;
 
 /// Lines the bench program must not take.
 const WRONG_LINES: [&str; 39] = [
@@ -122,26 +123,31 @@ impl Author {
         line
     }
 
-    /// An earlier line with a character lost, doubled or changed; at times it is still right.
+    /// An earlier line, changed.
     fn changed_line(&mut self) -> Line {
         let mut line = match self.lines.len() {
             0 => b"V\t1".to_vec(),
             count => self.lines[self.dice.below(count)].clone(),
         };
         line.truncate(LONGEST_LINE);
-        let place = self.dice.below(line.len());
-        if line.is_empty() {
-            return b"\0".to_vec();
-        }
-        let other = self.dice.pick(b"\t \r\0\x800AafgVS");
-        match self.dice.below(4) {
-            0 => {
-                line.remove(place);
-            }
-            1 => line.insert(place, other),
-            2 => line.push(other),
-            _ => line[place] = other,
-        }
-        line
+        changed(&mut self.dice, line)
     }
+}
+
+/// A line with a character lost, put in, put behind or changed; at times it is still right.
+pub fn changed(dice: &mut Dice, mut line: Line) -> Line {
+    let place = dice.below(line.len());
+    if line.is_empty() {
+        return b"\0".to_vec();
+    }
+    let other = dice.pick(b"\t \r\0\x800AafgVS");
+    match dice.below(4) {
+        0 => {
+            line.remove(place);
+        }
+        1 => line.insert(place, other),
+        2 => line.push(other),
+        _ => line[place] = other,
+    }
+    line
 }

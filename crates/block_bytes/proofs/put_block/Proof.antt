@@ -29,10 +29,10 @@ returns c =
     let bytes = c .before .before in
     let h = then1 .if1 .taken in
     let a = start .args in (
-      sym (length-with (a .r) (a .session) (a .m .now) (a .option) (a .block) h),
+      sym (length-with (a .c .registers) (a .session) (a .m .now) (a .option) (a .block) h),
       bytes .put-bytes .ensures
           ∙ rw (after-put .put .ensures, after-status-of .status-of .ensures)
-          (ap (sets (a .part .now) 0) (sym (block-with (a .r) (a .session) (a .m .now) (a .option) (a .block) h))),
+          (ap (sets (a .part .now) 0) (sym (block-with (a .c .registers) (a .session) (a .m .now) (a .option) (a .block) h))),
     )
 
 put-bytes-requires-2 : tie.Need-put-bytes-requires-2
@@ -48,9 +48,9 @@ returns-2 c =
     let bytes = c .before .before in
     let h = else1 .if1 .left in
     let a = start .args in (
-      sym (length-plain (a .r) (a .session) (a .m .now) (a .option) (a .block) h),
+      sym (length-plain (a .c .registers) (a .session) (a .m .now) (a .option) (a .block) h),
       bytes .put-bytes2 .ensures
-          ∙ ap (sets (a .part .now) 0) (sym (block-plain (a .r) (a .session) (a .m .now) (a .option) (a .block) h)),
+          ∙ ap (sets (a .part .now) 0) (sym (block-plain (a .c .registers) (a .session) (a .m .now) (a .option) (a .block) h)),
     )
 
 pub put-block-spec : {M : Type 1} → statement M

@@ -14,16 +14,16 @@ returns : tie.Need-returns
 returns c =
     let start : tie.Start = search needs in
     let a = start .args in (
-      sym (length-with (a .r) (a .session) (a .m .now) (a .option) (a .block) (c .if2 .taken)),
-      sym (sets-past (blockOf (a .r) (a .session) (a .m .now) (a .option) (a .block)) (a .out .now) (a .at) (omega arith)),
+      sym (length-with (a .c .registers) (a .session) (a .m .now) (a .option) (a .block) (c .if2 .taken)),
+      sym (sets-past (blockOf (a .c .registers) (a .session) (a .m .now) (a .option) (a .block)) (a .out .now) (a .at) (omega arith)),
     )
 
 returns-2 : tie.Need-returns-2
 returns-2 c =
     let start : tie.Start = search needs in
     let a = start .args in (
-      sym (length-plain (a .r) (a .session) (a .m .now) (a .option) (a .block) (c .if2 .left)),
-      sym (sets-past (blockOf (a .r) (a .session) (a .m .now) (a .option) (a .block)) (a .out .now) (a .at) (omega arith)),
+      sym (length-plain (a .c .registers) (a .session) (a .m .now) (a .option) (a .block) (c .if2 .left)),
+      sym (sets-past (blockOf (a .c .registers) (a .session) (a .m .now) (a .option) (a .block)) (a .out .now) (a .at) (omega arith)),
     )
 
 sub-put-block : tie.Need-sub-put-block
@@ -49,7 +49,7 @@ returns-3 c =
     let o = a .out .now in (
       part .ensures .0,
       ap (putMid (a .at) (length o - a .at) o) (part .ensures .1)
-          ∙ part-sets (blockOf (a .r) (a .session) (a .m .now) (a .option) (a .block)) o (a .at) (omega arith),
+          ∙ part-sets (blockOf (a .c .registers) (a .session) (a .m .now) (a .option) (a .block)) o (a .at) (omega arith),
     )
 
 pub put-block-at-spec : {M : Type 1} → statement M

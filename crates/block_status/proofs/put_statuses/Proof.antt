@@ -12,10 +12,10 @@ use Rattle.block_status.proofs.put_statuses.Statement.{statement}
 use Rattle.block_status.proofs.put_statuses.Tie as tie
 
 abbrev Inv-loop : tie.InvT-loop
-Inv-loop out₀ r session first n k₀ out k = (k ≤ n) × ((out ≡ sets out₀ 1 (statusesOf r session first k)) × (length out ≡ length out₀))
+Inv-loop out₀ c m session first n k₀ out k = (k ≤ n) × ((out ≡ sets out₀ 1 (statusesOf (c .registers) session first k)) × (length out ≡ length out₀))
 
 abbrev μ-loop : tie.MeasureT-loop
-μ-loop out₀ r session first n k₀ out k = n - k
+μ-loop out₀ c m session first n k₀ out k = n - k
 
 loop-holds : tie.Need-loop-holds Inv-loop μ-loop
 unfolding statusesOf
@@ -47,16 +47,16 @@ loop-again c =
     let put = c .before .before in
     let l = at-loop .loop in
     let a = start .args in
-    let done = statusesOf (a .r) (a .session) (a .first) (l .k) in
-    let next = statusOf (a .r) (a .session) (a .first + l .k) in (
+    let done = statusesOf (a .c .registers) (a .session) (a .first) (l .k) in
+    let next = statusOf (a .c .registers) (a .session) (a .first + l .k) in (
       omega arith,
       (
         put .put-in .ensures
             ∙ ap (set (l .out) (1 + l .k)) (after-status-of .status-of .ensures)
             ∙ ap (λ (o : List ℕ). set o (1 + l .k) next) (l .inv .1 .0)
-            ∙ ap (λ (n : ℕ). set (sets (a .out .now) 1 done) (1 + n) next) (sym (length-statuses (a .r) (a .session) (a .first) (l .k)))
+            ∙ ap (λ (n : ℕ). set (sets (a .out .now) 1 done) (1 + n) next) (sym (length-statuses (a .c .registers) (a .session) (a .first) (l .k)))
             ∙ sym (sets-snoc done (a .out .now) 1 next)
-            ∙ ap (sets (a .out .now) 1) (sym (statuses-more (a .r) (a .session) (a .first) (l .k))),
+            ∙ ap (sets (a .out .now) 1) (sym (statuses-more (a .c .registers) (a .session) (a .first) (l .k))),
         put .put-in .kept .0 ∙ l .inv .1 .1,
       ),
     )
@@ -67,9 +67,9 @@ same-length c = c .before .loop .inv .1 .1
 returns : tie.Need-returns Inv-loop μ-loop
 returns c =
     let l = c .before .loop in
-    let a = c .before .before .before .args in
+    let a = c .before .before .before .before .args in
     let e : l .k ≡ a .n = omega arith in
-    l .inv .1 .0 ∙ ap (λ (n : ℕ). sets (a .out .now) 1 (statusesOf (a .r) (a .session) (a .first) n)) e
+    l .inv .1 .0 ∙ ap (λ (n : ℕ). sets (a .out .now) 1 (statusesOf (a .c .registers) (a .session) (a .first) n)) e
 
 pub put-statuses-spec : {M : Type 1} → statement M
 put-statuses-spec =

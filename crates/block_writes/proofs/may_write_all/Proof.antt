@@ -1,27 +1,32 @@
 use mathlib.Core.Path.{_≡_, refl, ap, _∙_}
-use Prim.Native.Nat.{_-_, _≤_}
+use Prim.Native.Nat.{_+_, _-_, _≤_}
 use native.Mathlib.Omega.{arith}
 use borrow.Author.Needs.{needs}
 use native.Mathlib.Numerals.{add-one}
+use Rattle.write_reasons.specs.Reasons.{isAllowed}
 use Rattle.block_writes.specs.Writes.{mayWriteAll}
+use Rattle.block_writes.proofs.Inside.{one-block}
 use Rattle.block_writes.proofs.may_write_all.Statement.{statement}
 use Rattle.block_writes.proofs.may_write_all.Tie as tie
 
 abbrev Inv-loop : tie.InvT-loop
-Inv-loop r session first n all₀ k₀ all k = (k ≤ n) × (all ≡ mayWriteAll r session first k)
+Inv-loop c m session first n all₀ k₀ all k = (k ≤ n) × (all ≡ mayWriteAll (c .registers) session first k)
 
 abbrev μ-loop : tie.MeasureT-loop
-μ-loop r session first n all₀ k₀ all k = n - k
+μ-loop c m session first n all₀ k₀ all k = n - k
 
 loop-holds : tie.Need-loop-holds Inv-loop μ-loop
 unfolding mayWriteAll
 loop-holds c = (omega arith, refl)
 
-add-may-write : tie.Need-add-may-write Inv-loop μ-loop
-add-may-write c = omega arith
+add-block : tie.Need-add-block Inv-loop μ-loop
+add-block c = omega arith
 
-may-write-requires : tie.Need-may-write-requires Inv-loop μ-loop
-may-write-requires c κs = search needs
+verdict-requires : tie.Need-verdict-requires Inv-loop μ-loop
+verdict-requires c κs = search needs
+
+is-allowed-requires : tie.Need-is-allowed-requires Inv-loop μ-loop
+is-allowed-requires c κs = search needs
 
 add-k : tie.Need-add-k Inv-loop μ-loop
 add-k c = omega arith
@@ -32,15 +37,20 @@ loop-less c = omega arith
 loop-again : tie.Need-loop-again Inv-loop μ-loop
 unfolding mayWriteAll
 loop-again c =
-    let l = c .before .before .loop in
-    (omega arith, rw (l .inv .1, c .may-write .ensures, add-one (l .k)))
+    let at-loop : tie.At-loop Inv-loop μ-loop = search needs in
+    let start : tie.Start Inv-loop μ-loop = search needs in
+    let l = at-loop .loop in
+    let a = start .args in
+    let one = c .is-allowed .ensures ∙ ap isAllowed (c .before .verdict .ensures) ∙ one-block (a .c) (a .session) (a .first + l .k) (omega arith) in
+    (omega arith, rw (l .inv .1, one, add-one (l .k)))
 
 returns : tie.Need-returns Inv-loop μ-loop
 returns c =
     let l = c .before .loop in
-    let a = c .before .before .args in
+    let start : tie.Start Inv-loop μ-loop = search needs in
+    let a = start .args in
     let e : l .k ≡ a .n = omega arith in
-    l .inv .1 ∙ ap (mayWriteAll (a .r) (a .session) (a .first)) e
+    l .inv .1 ∙ ap (mayWriteAll (a .c .registers) (a .session) (a .first)) e
 
 pub may-write-all-spec : {M : Type 1} → statement M
 may-write-all-spec =
@@ -49,8 +59,9 @@ may-write-all-spec =
     Inv-loop
     μ-loop
     loop-holds
-    add-may-write
-    may-write-requires
+    add-block
+    verdict-requires
+    is-allowed-requires
     add-k
     loop-less
     loop-again

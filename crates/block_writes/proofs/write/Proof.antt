@@ -3,7 +3,10 @@ use Rattle.errors.specs.declared.RadioError.the-variants.{TooManyBlocks, NoSuch
 use Rattle.reply.specs.Reply.{good, fault}
 use Rattle.reply.proofs.Finish.{said}
 use Rattle.block_writes.specs.Writes.{writeOf}
+use mathlib.Core.Path.{sym, _∙_}
 use mathlib.Core.List.{[]}
+use native.Mathlib.Omega.{arith}
+use Rattle.block_writes.proofs.Inside.{inside}
 use borrow.Author.Needs.{needs}
 use Rattle.block_writes.proofs.write.Statement.{statement}
 use Rattle.block_writes.proofs.write.Tie as tie
@@ -62,13 +65,19 @@ add-may-write-all : tie.Need-add-may-write-all
 add-may-write-all c = search needs
 
 may-write-all-requires : tie.Need-may-write-all-requires
-may-write-all-requires c κs = search needs
+may-write-all-requires c κs =
+    let after-leaves-area : tie.After-leaves-area = search needs in
+    let else3 : tie.Else3 = search needs in
+    omega (arith, inside _ _ _ (sym (after-leaves-area .leaves-area .ensures) ∙ else3 .if3 .left))
 
 error-requires-4 : tie.Need-error-requires-4
 error-requires-4 c κs = search needs
 
 same-length-4 : tie.Need-same-length-4
 same-length-4 c = search needs
+
+same-length-5 : tie.Need-same-length-5
+same-length-5 c = search needs
 
 returns-4 : tie.Need-returns-4
 unfolding writeOf
@@ -96,11 +105,11 @@ put-bytes-requires c κs = search needs
 done-requires : tie.Need-done-requires
 done-requires c κs = search needs
 
-same-length-5 : tie.Need-same-length-5
-same-length-5 c = search needs
-
 same-length-6 : tie.Need-same-length-6
 same-length-6 c = search needs
+
+same-length-7 : tie.Need-same-length-7
+same-length-7 c = search needs
 
 returns-5 : tie.Need-returns-5
 unfolding writeOf
@@ -133,12 +142,13 @@ write-spec =
     may-write-all-requires
     error-requires-4
     same-length-4
+    same-length-5
     returns-4
     mul-put-bytes
     add-put-bytes
     mul-put-bytes-2
     put-bytes-requires
     done-requires
-    same-length-5
     same-length-6
+    same-length-7
     returns-5)

@@ -14,13 +14,13 @@ use Rattle.blocks.proofs.put_blocks.Statement.{statement}
 use Rattle.blocks.proofs.put_blocks.Tie as tie
 
 abbrev Inv-loop : tie.InvT-loop
-Inv-loop out₀ r session m option first n at₀ k₀ out at k =
+Inv-loop out₀ c session m option first n at₀ k₀ out at k =
     (k ≤ n)
-    × ((at ≡ 1 + length (blocksOf r session m option first k))
-    × ((out ≡ sets out₀ 1 (blocksOf r session m option first k)) × (length out ≡ length out₀)))
+    × ((at ≡ 1 + length (blocksOf (c .registers) session m option first k))
+    × ((out ≡ sets out₀ 1 (blocksOf (c .registers) session m option first k)) × (length out ≡ length out₀)))
 
 abbrev μ-loop : tie.MeasureT-loop
-μ-loop out₀ r session m option first n at₀ k₀ out at k = n - k
+μ-loop out₀ c session m option first n at₀ k₀ out at k = n - k
 
 loop-holds : tie.Need-loop-holds Inv-loop μ-loop
 unfolding blocksOf
@@ -40,7 +40,7 @@ add-at c =
     let l = at-loop .loop in
     let a = start .args in
     let h : call .put-block-at .result ≤ 5 = subst (λ (n : ℕ). n ≤ 5) (sym (call .put-block-at .ensures .0)) (block-le _ _ _ _ _) in
-    omega (arith, h, l .inv .1 .0, blocks-le (a .r) (a .session) (a .m .now) (a .option) (a .first) (l .k))
+    omega (arith, h, l .inv .1 .0, blocks-le (a .c .registers) (a .session) (a .m .now) (a .option) (a .first) (l .k))
 
 add-k : tie.Need-add-k Inv-loop μ-loop
 add-k c = omega arith
@@ -55,22 +55,22 @@ loop-again c =
     let call = c .before .before in
     let l = at-loop .loop in
     let a = start .args in
-    let done = blocksOf (a .r) (a .session) (a .m .now) (a .option) (a .first) (l .k) in
-    let next = blockOf (a .r) (a .session) (a .m .now) (a .option) (a .first + l .k) in (
+    let done = blocksOf (a .c .registers) (a .session) (a .m .now) (a .option) (a .first) (l .k) in
+    let next = blockOf (a .c .registers) (a .session) (a .m .now) (a .option) (a .first + l .k) in (
       omega arith,
       (
         omega (
           arith,
           l .inv .1 .0,
           call .put-block-at .ensures .0,
-          blocks-length (a .r) (a .session) (a .m .now) (a .option) (a .first) (l .k),
+          blocks-length (a .c .registers) (a .session) (a .m .now) (a .option) (a .first) (l .k),
         ),
         (
           call .put-block-at .ensures .1
               ∙ ap (λ (o : List ℕ). sets o (l .at) next) (l .inv .1 .1 .0)
               ∙ ap (λ (n : ℕ). sets (sets (a .out .now) 1 done) n next) (l .inv .1 .0)
               ∙ sym (sets-append done next (a .out .now) 1)
-              ∙ ap (sets (a .out .now) 1) (sym (blocks-more (a .r) (a .session) (a .m .now) (a .option) (a .first) (l .k))),
+              ∙ ap (sets (a .out .now) 1) (sym (blocks-more (a .c .registers) (a .session) (a .m .now) (a .option) (a .first) (l .k))),
           call .put-block-at .kept .0 ∙ l .inv .1 .1 .1,
         ),
       ),
@@ -85,8 +85,8 @@ returns c =
     let l = c .before .loop in
     let a = start .args in
     let e : l .k ≡ a .n = omega arith in (
-      l .inv .1 .0 ∙ ap (λ (n : ℕ). 1 + length (blocksOf (a .r) (a .session) (a .m .now) (a .option) (a .first) n)) e,
-      l .inv .1 .1 .0 ∙ ap (λ (n : ℕ). sets (a .out .now) 1 (blocksOf (a .r) (a .session) (a .m .now) (a .option) (a .first) n)) e,
+      l .inv .1 .0 ∙ ap (λ (n : ℕ). 1 + length (blocksOf (a .c .registers) (a .session) (a .m .now) (a .option) (a .first) n)) e,
+      l .inv .1 .1 .0 ∙ ap (λ (n : ℕ). sets (a .out .now) 1 (blocksOf (a .c .registers) (a .session) (a .m .now) (a .option) (a .first) n)) e,
     )
 
 pub put-blocks-spec : {M : Type 1} → statement M

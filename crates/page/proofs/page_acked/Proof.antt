@@ -15,7 +15,7 @@ system-page-requires : tie.Need-system-page-requires
 system-page-requires c κs = search needs
 
 returns : tie.Need-returns
-returns c = rw (c .before .enum-told .given .1) (c .user-page .ensures _)
+returns c = rw (c .before .enum-told .given .1) (c .user-page .ensures)
 
 returns-2 : tie.Need-returns-2
 returns-2 c = rw (c .before .enum-told2 .given .1) (c .system-page .ensures)

@@ -30,13 +30,13 @@ cast-byte-in c = search needs
 byte-in-requires : tie.Need-byte-in-requires Inv-loop μ-loop
 byte-in-requires c κs = search needs
 
-acked-requires : tie.Need-acked-requires Inv-loop μ-loop
-acked-requires c κs = search needs
+allowed-requires : tie.Need-allowed-requires Inv-loop μ-loop
+allowed-requires c κs = search needs
 
 returns : tie.Need-returns Inv-loop μ-loop
 returns c =
     let read = c .before .before in
-    refused-at _ _ _ _ _ _ _ (omega arith) (rw (read .byte-in .ensures) at (sym (c .before .acked .ensures) ∙ not-true _ (c .if1 .taken)))
+    refused-at _ _ _ _ _ _ _ (omega arith) (rw (read .byte-in .ensures) at (sym (c .before .allowed .ensures) ∙ not-true _ (c .if1 .taken)))
 
 add-i : tie.Need-add-i Inv-loop μ-loop
 add-i c = omega arith
@@ -48,7 +48,7 @@ loop-again : tie.Need-loop-again Inv-loop μ-loop
 loop-again c =
     let read = c .before .before in
     let l = read .before .before .loop in
-    (next-acked _ _ _ _ _ _ (l .inv .0) (rw (read .byte-in .ensures) at (sym (c .before .acked .ensures) ∙ not-false _ (c .if1 .left))), omega arith)
+    (next-acked _ _ _ _ _ _ (l .inv .0) (rw (read .byte-in .ensures) at (sym (c .before .allowed .ensures) ∙ not-false _ (c .if1 .left))), omega arith)
 
 returns-2 : tie.Need-returns-2 Inv-loop μ-loop
 returns-2 c =
@@ -66,7 +66,7 @@ system-page-spec =
     loop-holds
     cast-byte-in
     byte-in-requires
-    acked-requires
+    allowed-requires
     returns
     add-i
     loop-less

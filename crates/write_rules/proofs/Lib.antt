@@ -1,0 +1,5 @@
+pub mod Rows
+pub mod Chain
+pub mod First
+pub mod Sides
+pub mod Edges

@@ -1,0 +1,5 @@
+pub mod Situation
+pub mod Conditions
+pub mod Verdict
+pub mod Edges
+pub mod Claims

@@ -1,0 +1,1 @@
+// The rules that forbid a write have no code here: write_verdict decides by them.

@@ -1,6 +1,6 @@
 -- A1's codes are the verdict's. Assumes nothing.
-use mathlib.Core.Path.{_≡_, refl, sym, ap, _∙_}
-use mathlib.Core.Bool.{Bool, true, false, not, _||_}
+use mathlib.Core.Path.{_≡_, refl}
+use mathlib.Core.Bool.{Bool, true, false, not}
 use mathlib.Core.List.{List, [], _∷_}
 use Prim.Native.Nat.{ℕ}
 use lib.Dec.{eqb}
@@ -10,21 +10,16 @@ use Rattle.parts.specs.Pick.{pick}
 use Rattle.parts.specs.Bits.{isSet}
 use Rattle.register_table.specs.Table.{isPointer}
 use Rattle.areas.specs.Ends.{endAllows}
-use Rattle.errors.specs.declared.RadioError.{RadioError}
-use Rattle.errors.specs.declared.RadioError.the-variants.{NoSuchRegister, ConfigurationClosed, EndRefused}
+use Rattle.errors.specs.declared.RadioError.the-variants.{ConfigurationClosed}
 use Rattle.reply.specs.declared.RadioSide.{RadioSide}
-use Rattle.reply.specs.Reply.{good}
-use Rattle.reply.specs.Outcome.{CommandResult, commandResult, fails, withRadioCore}
-use Rattle.write_reasons.specs.declared.SessionKey.the-variants.{Numbered}
 use Rattle.write_reasons.specs.declared.WriteReason.{WriteReason}
-use Rattle.write_reasons.specs.declared.WriteReason.the-variants.{LegSpoiled, OutsideMap, MailboxModeOn, ModeOff, MailboxBusy, MailboxLegNotFrom2008, AnotherArea, LockedBlock, AreaNeverWritable, ConfigurationLocked, SessionNeeded, RegisterReadOnly, PasswordCode, EndaRule, PageFull}
-use Rattle.write_reasons.specs.declared.WriteVerdict.{WriteVerdict}
-use Rattle.write_reasons.specs.declared.WriteVerdict.the-variants.{Allowed, Forbidden}
+use Rattle.write_reasons.specs.declared.WriteReason.the-variants.{OutsideMap, EndaRule}
 use Rattle.write_reasons.proofs.WriteReason.{the-type}
+use Rattle.write_reasons.proofs.Laws.{is-other}
 use Rattle.write_rules.specs.Situation.{pointerPlace, pointerSituation}
 use Rattle.write_rules.specs.Verdict.{writeVerdict}
 use Rattle.write_rules.proofs.Chain.{radio-unmapped, pointer-chain}
-use Rattle.config.specs.Config.{writtenCore, writeConfigOf}
+use Rattle.config.specs.Config.{writeConfigOf}
 use Rattle.config.specs.Claims.{configError, configBy, ConfigByVerdict}
 
 -- the reasons but for those with an error of their own, by their numbers in the enum
@@ -33,21 +28,7 @@ others = 0 ∷ 2 ∷ 3 ∷ 4 ∷ 5 ∷ 6 ∷ 7 ∷ 8 ∷ 9 ∷ 10 ∷ 11 ∷ 12 
 
 pub closed : (reason : WriteReason) → OneOf others (tagOf the-type reason) → ConfigurationClosed ≡ configError reason
 unfolding configError pick
-closed LegSpoiled h = refl
-closed OutsideMap h = absurd (miss others 1 tt h)
-closed MailboxModeOn h = refl
-closed ModeOff h = refl
-closed MailboxBusy h = refl
-closed MailboxLegNotFrom2008 h = refl
-closed AnotherArea h = refl
-closed LockedBlock h = refl
-closed AreaNeverWritable h = refl
-closed ConfigurationLocked h = refl
-closed (SessionNeeded key) h = refl
-closed RegisterReadOnly h = refl
-closed PasswordCode h = refl
-closed EndaRule h = absurd (miss others 13 tt h)
-closed PageFull h = refl
+closed reason h = rw (is-other reason OutsideMap others h (miss others 1 tt), is-other reason EndaRule others h (miss others 13 tt))
 
 module _ (v : RadioSide) (m : List ℕ) (pointer x : ℕ) where
   row : (b p q : Bool) (e : Bool) → isPointer pointer ≡ b → isSet 1 (v .core .registers .config .bits) ≡ p → not (eqb (v .air .session) 1) ≡ q

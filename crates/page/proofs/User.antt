@@ -149,7 +149,7 @@ module _ (c : Core) (session : Bool) (f : ℕ) where
         (acked-at (suc n) n h (omega arith)))
         (acked-at (suc n) p h (omega arith)))
 
-  -- the code's three cases: no byte, a page of at most 4, a longer one
+  -- the code's cases: no byte, a page of at most 4, one past block 0, a longer one
   pub by-none : (m : List ℕ) (k : ℕ) → k ≡ 0 → true ≡ pageAcked User c session f m k
   unfolding pageAcked
   by-none m k e = rw e
@@ -157,14 +157,24 @@ module _ (c : Core) (session : Bool) (f : ℕ) where
   sized : (m : List ℕ) (k : ℕ) → (k ≡ 0 → ⊥) → pageAcked User c session f m (suc (k - 1)) ≡ pageAcked User c session f m k
   sized m k g = ap (pageAcked User c session f m) (omega arith)
 
-  pub by-two : (m d e : List ℕ) (k x y : ℕ) → (k ≡ 0 → ⊥) → k - 1 < 4
+  -- the first byte and the last, where place p of the last meets each block in between that could be locked
+  ends : (m d e : List ℕ) (k x y : ℕ) → (k ≡ 0 → ⊥) → ((i : ℕ) → i ≤ k - 1 → Meets (k - 1) i)
       → (acked User c session f 0 d x && acked User c session f (k - 1) e y) ≡ pageAcked User c session f m k
   unfolding acked spaceAcked
-  by-two m d e k x y g l =
+  ends m d e k x y g meets =
       two (userAcked c session f 0) (ltb (k - 1) 256) (userAcked c session f (k - 1))
       ∙ again (ltb (k - 1) 256 && userAcked c session f 0) (userAcked c session f (k - 1))
-      ∙ three m (k - 1) (k - 1) (omega arith) (λ i j a b. omega arith)
+      ∙ three m (k - 1) (k - 1) (omega arith) meets
       ∙ sized m k g
+
+  pub by-two : (m d e : List ℕ) (k x y : ℕ) → (k ≡ 0 → ⊥) → k - 1 < 4
+      → (acked User c session f 0 d x && acked User c session f (k - 1) e y) ≡ pageAcked User c session f m k
+  by-two m d e k x y g l = ends m d e k x y g (λ i j a b. omega arith)
+
+  -- past block 0 no later block is locked
+  pub past-first : (m d e : List ℕ) (k x y : ℕ) → (k ≡ 0 → ⊥) → 4 ≤ f
+      → (acked User c session f 0 d x && acked User c session f (k - 1) e y) ≡ pageAcked User c session f m k
+  past-first m d e k x y g l = ends m d e k x y g (λ i j a b. absurd (omega arith))
 
   pub by-three : (m d e h : List ℕ) (k x y z : ℕ) → (k ≡ 0 → ⊥) → 4 ≤ k - 1
       → (acked User c session f 0 d x && acked User c session f (k - 1) e y && acked User c session f 4 h z) ≡ pageAcked User c session f m k

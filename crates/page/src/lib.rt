@@ -26,7 +26,8 @@ fn allowed(c: Core, session: bool, m: &[u8], space: Space, first: u16, k: u16, x
 }
 
 // A page of user space, whatever its bytes. At most three places decide for all: the first and the last, since the bytes
-// between two of one area lie in it, and place 4 in the block after the first, since only blocks 0 and 1 can be locked.
+// between two of one area lie in it, and from block 0 on place 4 in the block after it, since only blocks 0 and 1 can be
+// locked.
 fn user_page(c: Core, session: bool, m: &[u8], first: u16, k: u16) -> bool
     ensures { λ r. ⌜ r ≡ pageAcked User c session first (now (m .entry)) k ⌝ }
 {
@@ -38,6 +39,9 @@ fn user_page(c: Core, session: bool, m: &[u8], first: u16, k: u16) -> bool
     let last_allowed = allowed(c, session, m, Space::User, first, last, 0);
     let both = first_allowed & last_allowed;
     if last < 4 {
+        return both;
+    }
+    if 4 <= first {
         return both;
     }
     both & allowed(c, session, m, Space::User, first, 4, 0)

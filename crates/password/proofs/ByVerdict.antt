@@ -7,11 +7,12 @@ use lib.Dec.{ltb, eqb}
 use types.Run.{OneOf, miss}
 use denote.Enum.Declared.{tagOf}
 use Rattle.parts.specs.Pick.{pick}
-use Rattle.errors.specs.declared.RadioError.the-variants.{NoSuchPassword, PasswordSessionClosed}
+use Rattle.errors.specs.declared.RadioError.the-variants.{PasswordSessionClosed}
 use Rattle.reply.specs.declared.RadioSide.{RadioSide}
 use Rattle.write_reasons.specs.declared.WriteReason.{WriteReason}
-use Rattle.write_reasons.specs.declared.WriteReason.the-variants.{LegSpoiled, OutsideMap, MailboxModeOn, ModeOff, MailboxBusy, MailboxLegNotFrom2008, AnotherArea, LockedBlock, AreaNeverWritable, ConfigurationLocked, SessionNeeded, RegisterReadOnly, PasswordCode, EndaRule, PageFull}
+use Rattle.write_reasons.specs.declared.WriteReason.the-variants.{OutsideMap}
 use Rattle.write_reasons.proofs.WriteReason.{the-type}
+use Rattle.write_reasons.proofs.Laws.{is-other}
 use Rattle.write_rules.specs.Situation.{passwordPlace, passwordSituation}
 use Rattle.write_rules.specs.Verdict.{writeVerdict}
 use Rattle.write_rules.proofs.Chain.{radio-unmapped, password-number-chain}
@@ -24,21 +25,7 @@ others = 0 ∷ 2 ∷ 3 ∷ 4 ∷ 5 ∷ 6 ∷ 7 ∷ 8 ∷ 9 ∷ 10 ∷ 11 ∷ 12 
 
 pub closed : (reason : WriteReason) → OneOf others (tagOf the-type reason) → PasswordSessionClosed ≡ passwordError reason
 unfolding passwordError pick
-closed LegSpoiled h = refl
-closed OutsideMap h = absurd (miss others 1 tt h)
-closed MailboxModeOn h = refl
-closed ModeOff h = refl
-closed MailboxBusy h = refl
-closed MailboxLegNotFrom2008 h = refl
-closed AnotherArea h = refl
-closed LockedBlock h = refl
-closed AreaNeverWritable h = refl
-closed ConfigurationLocked h = refl
-closed (SessionNeeded key) h = refl
-closed RegisterReadOnly h = refl
-closed PasswordCode h = refl
-closed EndaRule h = refl
-closed PageFull h = refl
+closed reason h = rw (is-other reason OutsideMap others h (miss others 1 tt))
 
 module _ (v : RadioSide) (m : List ℕ) (n : ℕ) (frame : List ℕ) (at : ℕ) where
   row : (b p : Bool) → ltb 3 n ≡ b → not (eqb (v .air .session) (n + 1)) ≡ p

@@ -1,4 +1,4 @@
-use Rattle.page.proofs.User.{by-none, by-two, by-three}
+use Rattle.page.proofs.User.{by-none, by-two, past-first, by-three}
 use borrow.Author.Needs.{needs}
 use Rattle.page.proofs.user_page.Statement.{statement}
 use Rattle.page.proofs.user_page.Tie as tie
@@ -21,15 +21,21 @@ returns-2 c =
     let first = c .before .before in
     rw (last .allowed2 .ensures, first .allowed .ensures) (by-two _ _ _ _ _ _ _ _ _ (first .before .if1 .left) (c .if2 .taken))
 
-allowed-requires-3 : tie.Need-allowed-requires-3
-allowed-requires-3 c κs = search needs
-
 returns-3 : tie.Need-returns-3
 returns-3 c =
     let last = c .before .before in
     let first = c .before .before .before in
+    rw (last .allowed2 .ensures, first .allowed .ensures) (past-first _ _ _ _ _ _ _ _ _ (first .before .if1 .left) (c .if3 .taken))
+
+allowed-requires-3 : tie.Need-allowed-requires-3
+allowed-requires-3 c κs = search needs
+
+returns-4 : tie.Need-returns-4
+returns-4 c =
+    let last = c .before .before .before in
+    let first = c .before .before .before .before in
     rw (c .allowed3 .ensures, last .allowed2 .ensures, first .allowed .ensures)
-    (by-three _ _ _ _ _ _ _ _ _ _ _ (first .before .if1 .left) (c .before .if2 .left))
+    (by-three _ _ _ _ _ _ _ _ _ _ _ (first .before .if1 .left) (c .before .before .if2 .left))
 
 pub user-page-spec : {M : Type 1} → statement M
 user-page-spec =
@@ -40,5 +46,6 @@ user-page-spec =
     allowed-requires
     allowed-requires-2
     returns-2
+    returns-3
     allowed-requires-3
-    returns-3)
+    returns-4)

@@ -1,12 +1,12 @@
 -- A page of user space: its first byte, its last and one in the block after the first decide for all. Assumes nothing.
 use mathlib.Core.Path.{_≡_, refl, sym, ap, _∙_}
-use mathlib.Core.Bool.{Bool, true, false, not, and-true, and-false, false≢true, _&&_, _||_}
+use mathlib.Core.Bool.{Bool, true, false, not, false≢true, _&&_, _||_}
 use mathlib.Core.List.{List}
 use Prim.Native.Nat.{ℕ, zero, suc, _+_, _-_, _/_, _≤_, _<_}
 use native.Mathlib.Omega.{arith}
 use lib.Dec.{leb, ltb, eqb}
 use lib.ListN.{getD}
-use borrow.Author.Tests.{leb-false, lt-leb, ltb-true, ltb-false, lt-ltb, eqb-true, eq-eqb, not-true}
+use borrow.Author.Tests.{leb-true, leb-false, lt-leb, ltb-true, ltb-false, lt-ltb, eqb-true, eqb-false, eq-eqb, not-true}
 use Rattle.parts.specs.Pick.{pick}
 use Rattle.parts.proofs.Bools.{and-left, and-right, and-both}
 use Rattle.parts.proofs.Picks.{pick-case}
@@ -24,21 +24,14 @@ use Rattle.rule.proofs.AckedByte.{acked-room, acked-space}
 use Rattle.page.specs.PageRange.{pageAcked}
 use Rattle.page.proofs.Acks.{page-before, page-last, one-more}
 
+neither : (i : ℕ) → (i ≡ 0 → ⊥) → (i ≡ 1 → ⊥) → i < 2 → ⊥
+neither i a b l = omega arith
+
 -- two tests, each of which follows from the other
 same : (a b : Bool) → (a ≡ true → b ≡ true) → (b ≡ true → a ≡ true) → a ≡ b
 same true b f g = sym (f refl)
 same false true f g = g refl
 same false false f g = refl
-
--- the room asked once
-two : (a r z : Bool) → (a && (r && z)) ≡ (r && a && z)
-two true r z = rw (and-true r)
-two false r z = rw (and-false r)
-
-again : (a b : Bool) → (a && b) ≡ (a && b && b)
-again true true = refl
-again true false = refl
-again false b = refl
 
 module _ (c : Core) (session : Bool) (f : ℕ) where
   -- ---- the memory
@@ -149,36 +142,113 @@ module _ (c : Core) (session : Bool) (f : ℕ) where
         (acked-at (suc n) n h (omega arith)))
         (acked-at (suc n) p h (omega arith)))
 
-  -- the code's cases: no byte, a page of at most 4, one past block 0, a longer one
-  pub by-none : (m : List ℕ) (k : ℕ) → k ≡ 0 → true ≡ pageAcked User c session f m k
-  unfolding pageAcked
-  by-none m k e = rw e
+  -- ---- the places that the code asks
+  -- past blocks 0 and 1 no block is locked, so the last byte speaks for the first
+  first-too : 8 ≤ f → (n : ℕ) → Allowed n → Allowed 0
+  first-too l n z =
+      let ends = c .registers .ends in
+      let same-place : f + 0 ≡ f = omega arith in
+      let area : areaOfByte ends f ≡ areaOfByte ends (f + 0) = ap (areaOfByte ends) (sym same-place) in
+      let e : areaOfBlock ends ((f + 0) / 4) ≡ areaOfBlock ends ((f + n) / 4) =
+      sym (byte-in-blocks-area ends (f + 0)) ∙ sym area ∙ z .area ∙ byte-in-blocks-area ends (f + n) in
+      record { inside = omega (arith, z .inside); off = z .off; area = area; free = unlocked (c .registers .ccfile) ((f + 0) / 4) (omega arith); right = ap (writeRight (c .registers) (Wire session)) e ∙ z .right }
 
-  sized : (m : List ℕ) (k : ℕ) → (k ≡ 0 → ⊥) → pageAcked User c session f m (suc (k - 1)) ≡ pageAcked User c session f m k
-  sized m k g = ap (pageAcked User c session f m) (omega arith)
+  user-first : 8 ≤ f → (n : ℕ) (s t : Bool)
+      → pick s (memoryAcked c session f n) (pick t (eqb n 0) (mailboxAcked (c .mailbox) f)) ≡ true
+      → pick s (memoryAcked c session f 0) (pick t (eqb 0 0) (mailboxAcked (c .mailbox) f)) ≡ true
+  unfolding pick
+  user-first l n true t h = acks 0 (first-too l n (allowed n h))
+  user-first l n false true h = refl
+  user-first l n false false h = h
 
-  -- the first byte and the last, where place p of the last meets each block in between that could be locked
-  ends : (m d e : List ℕ) (k x y : ℕ) → (k ≡ 0 → ⊥) → ((i : ℕ) → i ≤ k - 1 → Meets (k - 1) i)
-      → (acked User c session f 0 d x && acked User c session f (k - 1) e y) ≡ pageAcked User c session f m k
-  unfolding acked spaceAcked
-  ends m d e k x y g meets =
-      two (userAcked c session f 0) (ltb (k - 1) 256) (userAcked c session f (k - 1))
-      ∙ again (ltb (k - 1) 256 && userAcked c session f 0) (userAcked c session f (k - 1))
-      ∙ three m (k - 1) (k - 1) (omega arith) meets
-      ∙ sized m k g
+  from-last : 8 ≤ f → (n : ℕ) → userAcked c session f n ≡ true → userAcked c session f 0 ≡ true
+  unfolding userAcked
+  from-last l n h = user-first l n (ltb f 512) (eqb f 0x2003 || eqb f 0x2006) h
 
-  pub by-two : (m d e : List ℕ) (k x y : ℕ) → (k ≡ 0 → ⊥) → k - 1 < 4
-      → (acked User c session f 0 d x && acked User c session f (k - 1) e y) ≡ pageAcked User c session f m k
-  by-two m d e k x y g l = ends m d e k x y g (λ i j a b. omega arith)
+  module _ (m : List ℕ) (k : ℕ) where
+    abbrev askedPlace : ℕ → ℕ
+    askedPlace i = pick (eqb i 0) (k - 1) (pick (eqb i 1) 0 4)
 
-  -- past block 0 no later block is locked
-  pub past-first : (m d e : List ℕ) (k x y : ℕ) → (k ≡ 0 → ⊥) → 4 ≤ f
-      → (acked User c session f 0 d x && acked User c session f (k - 1) e y) ≡ pageAcked User c session f m k
-  past-first m d e k x y g l = ends m d e k x y g (λ i j a b. absurd (omega arith))
+    abbrev pub ackedAt : ℕ → Bool
+    ackedAt i = acked User c session f (askedPlace i) (page (askedPlace i) m) 0
 
-  pub by-three : (m d e h : List ℕ) (k x y z : ℕ) → (k ≡ 0 → ⊥) → 4 ≤ k - 1
-      → (acked User c session f 0 d x && acked User c session f (k - 1) e y && acked User c session f 4 h z) ≡ pageAcked User c session f m k
-  unfolding acked spaceAcked
-  by-three m d e h k x y z g l =
-      ap (λ (b : Bool). b && userAcked c session f 4) (two (userAcked c session f 0) (ltb (k - 1) 256) (userAcked c session f (k - 1)))
-      ∙ three m (k - 1) 4 l (λ i j a b. omega arith) ∙ sized m k g
+    -- the first i of them are Acked
+    unfoldable pub askedTo : ℕ → Bool
+    askedTo zero = true
+    askedTo (suc i) = askedTo i && ackedAt i
+
+    abbrev pub askedPlaces : ℕ
+    askedPlaces = pick (leb 8 f) 1 (pick (ltb (k - 1) 4) 2 3)
+
+    module _ (some : k ≡ 0 → ⊥) where
+      sized : pageAcked User c session f m (suc (k - 1)) ≡ pageAcked User c session f m k
+      sized = ap (pageAcked User c session f m) (omega arith)
+
+      -- of an Acked page each asked place is Acked
+      bound-more : (i : ℕ) (a b s t : Bool) → eqb i 0 ≡ a → eqb i 1 ≡ b → leb 8 f ≡ s → ltb (k - 1) 4 ≡ t → i < pick s 1 (pick t 2 3) → pick a (k - 1) (pick b 0 4) ≤ k - 1
+      unfolding pick
+      bound-more i true b s t ea eb es et l = omega arith
+      bound-more i false true s t ea eb es et l = omega arith
+      bound-more i false false true t ea eb es et l = absurd (eqb-false i 0 ea (omega arith))
+      bound-more i false false false true ea eb es et l = absurd (neither i (eqb-false i 0 ea) (eqb-false i 1 eb) l)
+      bound-more i false false false false ea eb es et l = ltb-false (k - 1) 4 et
+
+      bound : (i : ℕ) → i < askedPlaces → askedPlace i ≤ k - 1
+      bound i l = bound-more i _ _ _ _ refl refl refl refl l
+
+      room : pageAcked User c session f m k ≡ true → k - 1 < 256
+      room h = acked-room User c session f (k - 1) (page (k - 1) m) (getD m (768 + (k - 1)) 0) (page-last User c session f m (k - 1) (sized ∙ h))
+
+      acked-here : (i : ℕ) → i ≤ k - 1 → pageAcked User c session f m k ≡ true → acked User c session f i (page i m) 0 ≡ true
+      unfolding acked spaceAcked
+      acked-here i l h = rw (lt-ltb i 256 (omega (arith, room h, l)), acked-at m k i h (omega (arith, l)))
+
+      refused-by : (i : ℕ) (b : Bool) → i < askedPlaces → ackedAt i ≡ false → pageAcked User c session f m k ≡ b → false ≡ b
+      refused-by i true l h e = sym h ∙ acked-here (askedPlace i) (bound i l) e
+      refused-by i false l h e = refl
+
+      pub refused : (i : ℕ) → i < askedPlaces → ackedAt i ≡ false → false ≡ pageAcked User c session f m k
+      refused i l h = refused-by i (pageAcked User c session f m k) l h refl
+
+      -- and they decide for all
+      last-room : ackedAt 0 ≡ true → ltb (k - 1) 256 ≡ true
+      unfolding pick acked
+      last-room h = and-left (ltb (k - 1) 256) (spaceAcked User c session f (k - 1) (page (k - 1) m) 0) h
+
+      user-acked : (i : ℕ) → acked User c session f i (page i m) 0 ≡ true → userAcked c session f i ≡ true
+      unfolding spaceAcked
+      user-acked i h = acked-space User c session f i (page i m) 0 h
+
+      last-acked : ackedAt 0 ≡ true → userAcked c session f (k - 1) ≡ true
+      unfolding pick
+      last-acked h = user-acked (k - 1) h
+
+      whole : (p : ℕ) → p ≤ k - 1 → ((i : ℕ) → i ≤ k - 1 → Meets p i) → ackedAt 0 ≡ true → userAcked c session f 0 ≡ true → userAcked c session f p ≡ true
+          → true ≡ pageAcked User c session f m k
+      whole p l meets h a b =
+          let n = k - 1 in
+          let u = userAcked c session f in
+          sym (sym (three m n p l meets ∙ sized)
+          ∙ and-both (ltb n 256 && u 0 && u n) (u p) (and-both (ltb n 256 && u 0) (u n) (and-both (ltb n 256) (u 0) (last-room h) a) (last-acked h)) b)
+
+      accepted-more : (s t : Bool) → leb 8 f ≡ s → ltb (k - 1) 4 ≡ t → askedTo (pick s 1 (pick t 2 3)) ≡ true → true ≡ pageAcked User c session f m k
+      unfolding askedTo pick
+      accepted-more true t es et h =
+          let l = leb-true 8 f es in
+          whole (k - 1) (omega arith) (λ i j a b. absurd (omega arith)) h (from-last l (k - 1) (last-acked h)) (last-acked h)
+      accepted-more false true es et h =
+          let l = ltb-true (k - 1) 4 et in
+          let last = and-left (ackedAt 0) (ackedAt 1) h in
+          whole (k - 1) (omega arith) (λ i j a b. omega arith) last (user-acked 0 (and-right (ackedAt 0) (ackedAt 1) h)) (last-acked last)
+      accepted-more false false es et h =
+          let l = ltb-false (k - 1) 4 et in
+          let two = and-left (ackedAt 0 && ackedAt 1) (ackedAt 2) h in
+          whole 4 l (λ i j a b. omega arith) (and-left (ackedAt 0) (ackedAt 1) two) (user-acked 0 (and-right (ackedAt 0) (ackedAt 1) two))
+          (user-acked 4 (and-right (ackedAt 0 && ackedAt 1) (ackedAt 2) h))
+
+      pub accepted : askedTo askedPlaces ≡ true → true ≡ pageAcked User c session f m k
+      accepted h = accepted-more (leb 8 f) (ltb (k - 1) 4) refl refl h
+
+    pub no-byte : k ≡ 0 → true ≡ pageAcked User c session f m k
+    unfolding pageAcked
+    no-byte e = rw e

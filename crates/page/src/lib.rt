@@ -1,6 +1,8 @@
 // The range on page bytes: each would be Acked at its place.
 ghost use mathlib.Core.Path.{_≡_};
 ghost use Rattle.bus.specs.declared.Space.the-variants.{User, System};
+ghost use lib.Dec.{leb, ltb, eqb};
+ghost use Rattle.parts.specs.Pick.{pick};
 ghost use Rattle.tag.specs.Layout.{page};
 ghost use Rattle.rule.specs.Rule.{acked};
 ghost use Rattle.page.specs.PageRange.{pageAcked, busInRange};
@@ -25,9 +27,34 @@ fn allowed(c: Core, session: bool, m: &[u8], space: Space, first: u16, k: u16, x
     verdict.is_allowed()
 }
 
-// A page of user space, whatever its bytes. At most three places decide for all: the first and the last, since the bytes
-// between two of one area lie in it, and from block 0 on place 4 in the block after it, since only blocks 0 and 1 can be
-// locked.
+// How many places decide for a page of user space: the last alone where none of its blocks can be locked, since the bytes
+// between two of one area lie in it; else the first too, and place 4 in the block after it.
+fn places(first: u16, last: u16) -> u16
+    ensures { λ r. ⌜ r ≡ pick (leb 8 first) 1 (pick (ltb last 4) 2 3) ⌝ }
+{
+    if 8 <= first {
+        return 1;
+    }
+    if last < 4 {
+        return 2;
+    }
+    3
+}
+
+// Which places they are.
+fn place(i: u16, last: u16) -> u16
+    ensures { λ r. ⌜ r ≡ pick (eqb i 0) last (pick (eqb i 1) 0 4) ⌝ }
+{
+    if i == 0 {
+        return last;
+    }
+    if i == 1 {
+        return 0;
+    }
+    4
+}
+
+// A page of user space, whatever its bytes. It stops at the first place that would not be Acked.
 fn user_page(c: Core, session: bool, m: &[u8], first: u16, k: u16) -> bool
     ensures { λ r. ⌜ r ≡ pageAcked User c session first (now (m .entry)) k ⌝ }
 {
@@ -35,16 +62,15 @@ fn user_page(c: Core, session: bool, m: &[u8], first: u16, k: u16) -> bool
         return true;
     }
     let last = k - 1;
-    let first_allowed = allowed(c, session, m, Space::User, first, 0, 0);
-    let last_allowed = allowed(c, session, m, Space::User, first, last, 0);
-    let both = first_allowed & last_allowed;
-    if last < 4 {
-        return both;
+    let n = places(first, last);
+    let mut i: u16 = 0;
+    while i < n {
+        if !allowed(c, session, m, Space::User, first, place(i, last), 0) {
+            return false;
+        }
+        i += 1;
     }
-    if 4 <= first {
-        return both;
-    }
-    both & allowed(c, session, m, Space::User, first, 4, 0)
+    true
 }
 
 // A page of system space, byte for byte. It stops at the first that would not be Acked.

@@ -66,16 +66,17 @@ pub fn write(v: RadioSide, m: &[u8], out: &mut [u8], n: u8, frame: &[u8], at: us
     };
     let verdict = write_verdict::verdict(v.core, m, asked);
     match verdict {
-        WriteVerdict::Allowed => {
-            let passwords = v.core.passwords.with_radio(n, Password::at(frame, at));
-            RadioOutcome {
-                answer: reply::done(out),
-                side: v.with_passwords(passwords),
-            }
+        WriteVerdict::Allowed => {}
+        WriteVerdict::Forbidden(reason) => {
+            return RadioOutcome {
+                answer: reply::error(out, password_error(reason)),
+                side: v,
+            };
         }
-        WriteVerdict::Forbidden(reason) => RadioOutcome {
-            answer: reply::error(out, password_error(reason)),
-            side: v,
-        },
+    }
+    let passwords = v.core.passwords.with_radio(n, Password::at(frame, at));
+    RadioOutcome {
+        answer: reply::done(out),
+        side: v.with_passwords(passwords),
     }
 }

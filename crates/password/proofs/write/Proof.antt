@@ -14,18 +14,6 @@ verdict-requires c κs = search needs
 enum-told : tie.Need-enum-told
 enum-told c = search needs
 
-at-requires : tie.Need-at-requires
-at-requires c κs = search needs
-
-with-radio-requires : tie.Need-with-radio-requires
-with-radio-requires c κs = search needs
-
-done-requires : tie.Need-done-requires
-done-requires c κs = search needs
-
-with-passwords-requires : tie.Need-with-passwords-requires
-with-passwords-requires c κs = search needs
-
 enum-known-verdict : tie.Need-enum-known-verdict
 enum-known-verdict c = search needs
 
@@ -41,6 +29,32 @@ same-length c = search needs
 returns : tie.Need-returns
 unfolding passwordBy
 returns c =
+    let call = c .before .before in
+    let named = call .before in
+    let known = named .before .before .before in
+    let judged = known .before .before in
+    let a = judged .before .before .before .before .args in
+    said (writePasswordOf (a .v) (a .m .now) (a .n) (a .frame .now) (a .at)) _ (fault (named .password-error .result)) (call .error .ensures)
+    (rw (password-by-verdict (a .v) (a .m .now) (a .n) (a .frame .now) (a .at), ← judged .verdict .ensures, known .verdict2 .given .1, named .password-error .ensures))
+
+at-requires : tie.Need-at-requires
+at-requires c κs = search needs
+
+with-radio-requires : tie.Need-with-radio-requires
+with-radio-requires c κs = search needs
+
+done-requires : tie.Need-done-requires
+done-requires c κs = search needs
+
+with-passwords-requires : tie.Need-with-passwords-requires
+with-passwords-requires c κs = search needs
+
+same-length-2 : tie.Need-same-length-2
+same-length-2 c = search needs
+
+returns-2 : tie.Need-returns-2
+unfolding passwordBy
+returns-2 c =
     let call = c .before .before .before in
     let radio = call .before .before in
     let told = radio .before .before in
@@ -49,36 +63,20 @@ returns c =
     said (writePasswordOf (a .v) (a .m .now) (a .n) (a .frame .now) (a .at)) _ (good []) (call .done .ensures)
     (rw (password-by-verdict (a .v) (a .m .now) (a .n) (a .frame .now) (a .at), ← judged .verdict .ensures, told .enum-told .given .1, c .with-passwords .ensures, radio .with-radio .ensures, radio .before .at .ensures))
 
-same-length-2 : tie.Need-same-length-2
-same-length-2 c = search needs
-
-returns-2 : tie.Need-returns-2
-unfolding passwordBy
-returns-2 c =
-    let start : tie.Start = search needs in
-    let after-verdict : tie.After-verdict = search needs in
-    let a = start .args in
-    let by = password-by-verdict (a .v) (a .m .now) (a .n) (a .frame .now) (a .at) in
-    let after-known : tie.After-verdict2 = search needs in
-    let after-password-error : tie.After-password-error = search needs in
-    let after-error : tie.After-error = search needs in
-    said (writePasswordOf (a .v) (a .m .now) (a .n) (a .frame .now) (a .at)) _ (fault (after-password-error .password-error .result)) (after-error .error .ensures)
-    (rw (by, ← after-verdict .verdict .ensures, after-known .verdict2 .given .1, after-password-error .password-error .ensures))
-
 pub write-spec : {M : Type 1} → statement M
 write-spec =
     tie.close
     (tie.spec
     verdict-requires
     enum-told
-    at-requires
-    with-radio-requires
-    done-requires
-    with-passwords-requires
     enum-known-verdict
     password-error-requires
     error-requires
     same-length
     returns
+    at-requires
+    with-radio-requires
+    done-requires
+    with-passwords-requires
     same-length-2
     returns-2)

@@ -165,5 +165,5 @@ int main(void)
     }
     of_step = depth();
     printf("stack: fresh %u, crc %u, step %u bytes; longest reply %u\n", of_fresh, of_crc, of_step, longest - ST25DV_REPLY);
-    return 4 * of_fresh > 3 * ENOUGH || 4 * of_crc > 3 * ENOUGH || 4 * of_step > 3 * ENOUGH;
+    return 5 * of_fresh > 4 * ENOUGH || 5 * of_crc > 4 * ENOUGH || 5 * of_step > 4 * ENOUGH;
 }

@@ -48,6 +48,64 @@ extern "C" {
 #define ST25DV_BYTE 0x200u    /* + the byte fetched, 0 to 255 */
 #define ST25DV_REPLY 0x1000u  /* + the reply's length, its CRC included; it stands in the reply buffer from place 0 on */
 
+/* ---- rules: what st25dv_explain adds to ST25DV_NONE, each with its short name. A number stays when rules are added. */
+/* an N on a data byte */
+#define ST25DV_RULE_LEG_SPOILED 1u /* leg spoiled */
+#define ST25DV_RULE_OUTSIDE_MAP 2u /* outside the map */
+#define ST25DV_RULE_MAILBOX_MODE_ON 3u /* mailbox mode on */
+#define ST25DV_RULE_MODE_OFF 4u /* mode off */
+#define ST25DV_RULE_MAILBOX_BUSY 5u /* mailbox busy */
+#define ST25DV_RULE_MAILBOX_LEG_NOT_FROM_2008 6u /* mailbox leg not from 2008h */
+#define ST25DV_RULE_ANOTHER_AREA 7u /* another area */
+#define ST25DV_RULE_LOCKED_BLOCK 8u /* locked block */
+/* 9 area never writable and 10 configuration locked are of radio writes, whose errors have numbers of their own */
+#define ST25DV_RULE_SESSION_NEEDED 11u /* session needed */
+#define ST25DV_RULE_REGISTER_READ_ONLY 12u /* register read only */
+#define ST25DV_RULE_PASSWORD_CODE 13u /* password code */
+#define ST25DV_RULE_ENDA 14u /* ENDA rule */
+#define ST25DV_RULE_PAGE_FULL 15u /* page full */
+/* any other N */
+#define ST25DV_RULE_NO_VCC 16u /* no VCC */
+#define ST25DV_RULE_NO_START 17u /* no Start */
+#define ST25DV_RULE_READ_LEG 18u /* read leg */
+#define ST25DV_RULE_OTHER_SELECT_BYTE 19u /* other select byte */
+#define ST25DV_RULE_PROGRAMMING 20u /* programming */
+/* a frame that gets no reply, then the errors, then those of a command's row */
+#define ST25DV_RULE_FIELD_OFF 21u /* field off */
+#define ST25DV_RULE_RF_SLEEP 22u /* RF_MNGT_Dyn b1 */
+#define ST25DV_RULE_FRAME_LENGTH 23u /* under 4 or over 270 bytes */
+#define ST25DV_RULE_BAD_CRC 24u /* bad CRC */
+#define ST25DV_RULE_INVENTORY_FLAG 25u /* inventory flag */
+#define ST25DV_RULE_SELECT_AND_ADDRESS 26u /* both select and address */
+#define ST25DV_RULE_MAKER 27u /* 02h missing or other */
+#define ST25DV_RULE_UID 28u /* UID short or, except in Select, other */
+#define ST25DV_RULE_NOT_SELECTED 29u /* select flag when not Selected */
+#define ST25DV_RULE_QUIET 30u /* neither flag when Quiet */
+#define ST25DV_RULE_NOT_ADDRESSED 31u /* Select or Stay Quiet not addressed */
+#define ST25DV_RULE_OWN_SILENCE 32u /* own silence */
+#define ST25DV_RULE_SHUT_OUT 33u /* shut out */
+#define ST25DV_RULE_UNKNOWN_COMMAND 34u /* 01h (unknown command) */
+#define ST25DV_RULE_UNSUPPORTED_FLAGS 35u /* 03h (extension, reserved bit or unsupported option) */
+#define ST25DV_RULE_WRONG_LENGTH 36u /* 02h (wrong length) */
+#define ST25DV_RULE_NO_SUCH_BLOCK 37u /* 10h (20, 23, 21, 24, 2C: first above 127) */
+#define ST25DV_RULE_READ_LEAVES_AREA 38u /* 0Fh (20, 23: leaves area or memory) */
+#define ST25DV_RULE_READ_PROTECTED 39u /* 15h (20, 23: protected) */
+#define ST25DV_RULE_TOO_MANY_BLOCKS 40u /* 0Fh (24: count-1 above 3) */
+#define ST25DV_RULE_WRITE_LEAVES_AREA 41u /* 0Fh-2 (21, 24: leaves area or memory) */
+#define ST25DV_RULE_WRITE_FORBIDDEN 42u /* 12h (21, 24: no right or locked) */
+#define ST25DV_RULE_NOT_LOCKABLE 43u /* 10h (22: block above 1) */
+#define ST25DV_RULE_ALREADY_LOCKED 44u /* 11h (22: already locked) */
+#define ST25DV_RULE_NO_SUCH_REGISTER 45u /* 10h (A0, A1: another pointer) */
+#define ST25DV_RULE_CONFIGURATION_CLOSED 46u /* 12h (A1: LOCK_CFG or password 0 session closed) */
+#define ST25DV_RULE_END_REFUSED 47u /* 0Fh (A1: ENDA) */
+#define ST25DV_RULE_NO_SUCH_DYNAMIC_REGISTER 48u /* 10h (AD, AE: another pointer) */
+#define ST25DV_RULE_MAILBOX_UNAVAILABLE 49u /* 0Fh (AA: MB_EN 0 or a PUT) */
+#define ST25DV_RULE_MAILBOX_DISABLED 50u /* 0Fh (AB, AC: MB_EN is 0) */
+#define ST25DV_RULE_PAST_MESSAGE 51u /* 0Fh-2 (AC: past or empty) */
+#define ST25DV_RULE_NO_SUCH_PASSWORD 52u /* 10h (B3, B1: n above 3) */
+#define ST25DV_RULE_WRONG_PASSWORD 53u /* 0Fh (B3: wrong) */
+#define ST25DV_RULE_PASSWORD_SESSION_CLOSED 54u /* 12h (B1: not session n) */
+
 /* ---- places of the state's bytes; a number of two bytes has its low byte first. Flags are 0 or 1. */
 #define ST25DV_AT_FIELD 0u          /* flag */
 #define ST25DV_AT_RADIO_STATE 1u    /* ST25DV_READY, ST25DV_QUIET or ST25DV_SELECTED */
@@ -128,6 +186,15 @@ uint32_t st25dv_step(uint8_t *state, size_t state_bytes,
                      uint8_t *reply, size_t reply_bytes,
                      uint32_t code, uint32_t value,
                      const uint8_t *frame, size_t frame_bytes);
+
+/* Which rule explains the answer that st25dv_step would give to the same arguments: asked before it, and changes no
+ * byte. Answers the refusal that st25dv_step would answer; ST25DV_NONE where that would give no NoAck, error reply or
+ * silence to a frame; else ST25DV_NONE + ST25DV_RULE_.. */
+uint32_t st25dv_explain(const uint8_t *state, size_t state_bytes,
+                        const uint8_t *memory, size_t memory_bytes,
+                        const uint8_t *reply, size_t reply_bytes,
+                        uint32_t code, uint32_t value,
+                        const uint8_t *frame, size_t frame_bytes);
 
 /* The CRC of a list of bytes (ISO/IEC 13239). A frame ends in that of the bytes before it, low byte first. */
 uint16_t st25dv_crc(const uint8_t *bytes, size_t count);

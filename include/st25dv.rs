@@ -29,6 +29,58 @@ pub const NOACK: u32 = 0x102;
 pub const SILENCE: u32 = 0x103;
 pub const BYTE: u32 = 0x200;
 pub const REPLY: u32 = 0x1000;
+pub const RULE_LEG_SPOILED: u32 = 1;
+pub const RULE_OUTSIDE_MAP: u32 = 2;
+pub const RULE_MAILBOX_MODE_ON: u32 = 3;
+pub const RULE_MODE_OFF: u32 = 4;
+pub const RULE_MAILBOX_BUSY: u32 = 5;
+pub const RULE_MAILBOX_LEG_NOT_FROM_2008: u32 = 6;
+pub const RULE_ANOTHER_AREA: u32 = 7;
+pub const RULE_LOCKED_BLOCK: u32 = 8;
+pub const RULE_SESSION_NEEDED: u32 = 11;
+pub const RULE_REGISTER_READ_ONLY: u32 = 12;
+pub const RULE_PASSWORD_CODE: u32 = 13;
+pub const RULE_ENDA: u32 = 14;
+pub const RULE_PAGE_FULL: u32 = 15;
+pub const RULE_NO_VCC: u32 = 16;
+pub const RULE_NO_START: u32 = 17;
+pub const RULE_READ_LEG: u32 = 18;
+pub const RULE_OTHER_SELECT_BYTE: u32 = 19;
+pub const RULE_PROGRAMMING: u32 = 20;
+pub const RULE_FIELD_OFF: u32 = 21;
+pub const RULE_RF_SLEEP: u32 = 22;
+pub const RULE_FRAME_LENGTH: u32 = 23;
+pub const RULE_BAD_CRC: u32 = 24;
+pub const RULE_INVENTORY_FLAG: u32 = 25;
+pub const RULE_SELECT_AND_ADDRESS: u32 = 26;
+pub const RULE_MAKER: u32 = 27;
+pub const RULE_UID: u32 = 28;
+pub const RULE_NOT_SELECTED: u32 = 29;
+pub const RULE_QUIET: u32 = 30;
+pub const RULE_NOT_ADDRESSED: u32 = 31;
+pub const RULE_OWN_SILENCE: u32 = 32;
+pub const RULE_SHUT_OUT: u32 = 33;
+pub const RULE_UNKNOWN_COMMAND: u32 = 34;
+pub const RULE_UNSUPPORTED_FLAGS: u32 = 35;
+pub const RULE_WRONG_LENGTH: u32 = 36;
+pub const RULE_NO_SUCH_BLOCK: u32 = 37;
+pub const RULE_READ_LEAVES_AREA: u32 = 38;
+pub const RULE_READ_PROTECTED: u32 = 39;
+pub const RULE_TOO_MANY_BLOCKS: u32 = 40;
+pub const RULE_WRITE_LEAVES_AREA: u32 = 41;
+pub const RULE_WRITE_FORBIDDEN: u32 = 42;
+pub const RULE_NOT_LOCKABLE: u32 = 43;
+pub const RULE_ALREADY_LOCKED: u32 = 44;
+pub const RULE_NO_SUCH_REGISTER: u32 = 45;
+pub const RULE_CONFIGURATION_CLOSED: u32 = 46;
+pub const RULE_END_REFUSED: u32 = 47;
+pub const RULE_NO_SUCH_DYNAMIC_REGISTER: u32 = 48;
+pub const RULE_MAILBOX_UNAVAILABLE: u32 = 49;
+pub const RULE_MAILBOX_DISABLED: u32 = 50;
+pub const RULE_PAST_MESSAGE: u32 = 51;
+pub const RULE_NO_SUCH_PASSWORD: u32 = 52;
+pub const RULE_WRONG_PASSWORD: u32 = 53;
+pub const RULE_PASSWORD_SESSION_CLOSED: u32 = 54;
 pub const AT_FIELD: usize = 0;
 pub const AT_RADIO_STATE: usize = 1;
 pub const AT_RADIO_SESSION: usize = 2;
@@ -88,6 +140,7 @@ pub const SPACE_USER: u32 = 0;
 pub const SPACE_SYSTEM: u32 = 1;
 
 #[link(name = "capi", kind = "static")]
+#[link(name = "capi_explain", kind = "static")]
 extern "C" {
     pub fn st25dv_fresh(
         uid: *const u8,
@@ -103,6 +156,18 @@ extern "C" {
         memory: *mut u8,
         memory_bytes: usize,
         reply: *mut u8,
+        reply_bytes: usize,
+        code: u32,
+        value: u32,
+        frame: *const u8,
+        frame_bytes: usize,
+    ) -> u32;
+    pub fn st25dv_explain(
+        state: *const u8,
+        state_bytes: usize,
+        memory: *const u8,
+        memory_bytes: usize,
+        reply: *const u8,
         reply_bytes: usize,
         code: u32,
         value: u32,

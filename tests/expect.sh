@@ -93,7 +93,8 @@ gone() { # PID
     ! process "$1" || [ "$state" = Z ]
 }
 
-# Writes two lines to a command, the second in two pieces, and asks for each answer before it goes on.
+# Writes lines to a command, the second in two pieces, and asks for each answer before it goes on. Names of rules do not
+# count.
 answers_at_once() { # COMMAND..
     rm -f "$room/to" "$room/from"
     mkfifo "$room/to" "$room/from" || exit 2
@@ -102,14 +103,14 @@ answers_at_once() { # COMMAND..
     printf 'V\t1\nB\tA' >&7
     one=$(timeout 20 sh -c 'read -r line && echo "$line"' <&8) || failed 'no answer to line 1 while the input stays open'
     printf '6\nS\nB\tA6' >&7
-    two=$(timeout 20 sh -c 'read -r two && read -r three && echo "$two, $three"' <&8) || failed 'no answer to lines 2 and 3 while the input stays open'
+    two=$(timeout 20 sh -c 'read -r two && read -r three && printf "%s\n" "$two" "$three"' <&8) || failed 'no answer to lines 2 and 3 while the input stays open'
     exec 7>&-
     last=$(timeout 20 cat <&8)
     exec 8<&-
     wait "$!"
     status=$?
-    printf '1\t-, 2\tN, 3\t-, 4\tA\n' > "$room/wanted"
-    echo "$one, $two, $last" | cmp -s - "$room/wanted" || failed "the answers are $one, $two, $last"
+    printf '%s\n' 1 - 2 N 3 - 4 A | paste - - > "$room/wanted"
+    printf '%s\n' "$one" "$two" "$last" | cut -f1,2 | cmp -s - "$room/wanted" || failed "the answers are $one, $two, $last"
     no_err
     status_is 0
 }

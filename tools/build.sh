@@ -151,11 +151,19 @@ run_rt() { # LOG WORD..
     return "$b_status"
 }
 
+# The command that has a crate proved and built.
+who_builds() { # CRATE
+    case $1 in
+    explain) echo ./bench --explain ;;
+    *) echo ./bench ;;
+    esac
+}
+
 # Proves and builds FILE. Where the sources change meanwhile, is_built sees it.
 prove() { # CRATE FILE COMMAND
     command -v rt > /dev/null || fault "$2 is not built from these sources, and rt, the Rattle kit, is not in PATH" || return
     mkdir -p "$root/target" 2> /dev/null && [ -w "$root/target" ] ||
-        fault "$2 is not built from these sources, and you may not write to $root; who may runs ./bench once" || return
+        fault "$2 is not built from these sources, and you may not write to $root; who may runs $(who_builds "$1") once" || return
     b_kit=$(rt version) && b_sources=$(sources_of "$1") || return
     # rt takes what it has proved for built. Where that is gone, or another file stands there, it is to forget it.
     if [ ! -e "$root/$2" ] || [ "$(head -n 2 "$root/target/$1.built" 2> /dev/null)" = "$b_kit
@@ -183,6 +191,13 @@ build() { # CRATE FILE COMMAND
     done
 }
 
-build_program() { build bench target/bin/bench check; }
+# The bench program, or `explain`, which names rules.
+build_program() { # [NAME]
+    build "${1:-bench}" "target/bin/${1:-bench}" check
+}
 
-build_library() { build capi target/staticlib/libcapi.a staticlib; }
+# Both archives: what steps a tag, and what explains a call.
+build_library() {
+    build capi target/staticlib/libcapi.a staticlib &&
+        build capi_explain target/staticlib/libcapi_explain.a staticlib
+}

@@ -1,6 +1,7 @@
-/* Every number of st25dv.h against the library, by its name: signals, answers, refusals, lengths, and places and values
- * of the state. The test keeps an image of what is lent, changes it by the header's names as document 01 says, and
- * compares all of it with what the library left after each call. Prints what failed; ends with 1 if anything did. */
+/* Every number of st25dv.h against the library, by its name: signals, answers, refusals, rules, lengths, and places and
+ * values of the state. The test keeps an image of what is lent, changes it by the header's names as document 01 says, and
+ * compares all of it with what the library left after each call. st25dv_explain is asked before each st25dv_step. Prints
+ * what failed; ends with 1 if anything did. */
 #include <stdio.h>
 #include <string.h>
 
@@ -9,6 +10,7 @@
 /* More than any length, so that a wrong one stays inside; the bytes past a length must stay too. */
 #define ROOM 2048u
 #define COUNT(a) (sizeof(a) / sizeof *(a))
+#define RULE(name) #name, ST25DV_RULE_##name /* its name and its number */
 
 struct lent {
     uint8_t state[ROOM], memory[ROOM], reply[ROOM];
@@ -16,6 +18,7 @@ struct lent {
 
 static struct lent now; /* what the library has */
 static struct lent due; /* what it should have */
+static uint32_t why;    /* what st25dv_explain answered before the last step */
 static unsigned failures;
 
 static const uint8_t uid[ROOM] = {0x01, 0x02, 0x03, 0x04, 0x05, 0x24, 0x02, 0xE0};
@@ -40,6 +43,12 @@ static void agree(const char *what, uint32_t is, uint32_t should)
         fail(what, "answer", 0, is, should);
 }
 
+static void explained(const char *what, uint32_t should)
+{
+    if (why != should)
+        fail(what, "explanation", 0, why, should);
+}
+
 static void compare_bytes(const char *what, const char *of, const uint8_t *is, const uint8_t *should)
 {
     size_t i;
@@ -48,12 +57,17 @@ static void compare_bytes(const char *what, const char *of, const uint8_t *is, c
             fail(what, of, i, is[i], should[i]);
 }
 
+static void compare_with(const char *what, const struct lent *should)
+{
+    compare_bytes(what, "state byte", now.state, should->state);
+    compare_bytes(what, "memory byte", now.memory, should->memory);
+    compare_bytes(what, "reply byte", now.reply, should->reply);
+}
+
 /* Goes on from what the library has, so that each failure is told once. */
 static void compare(const char *what)
 {
-    compare_bytes(what, "state byte", now.state, due.state);
-    compare_bytes(what, "memory byte", now.memory, due.memory);
-    compare_bytes(what, "reply byte", now.reply, due.reply);
+    compare_with(what, &due);
     due = now;
 }
 
@@ -95,29 +109,43 @@ static void store(size_t place, uint8_t value)
 }
 
 /* ---- calls */
+/* st25dv_explain, which must change no byte, and st25dv_step, both with these arguments. */
 static uint32_t call(size_t state, size_t memory, size_t reply, uint32_t code, uint32_t value, const uint8_t *frame, size_t n)
 {
+    static struct lent before;
+    before = now;
+    why = st25dv_explain(now.state, state, now.memory, memory, now.reply, reply, code, value, frame, n);
+    compare_with("explain", &before);
     return st25dv_step(now.state, state, now.memory, memory, now.reply, reply, code, value, frame, n);
+}
+
+/* A signal, its answer, and the rule that explains it: 0 if it is no NoAck, error reply or silence. */
+static void judged(const char *what, uint32_t code, uint32_t value, const uint8_t *frame, size_t n, uint32_t answer, uint32_t rule)
+{
+    agree(what, call(ST25DV_STATE_BYTES, ST25DV_MEMORY_BYTES, ST25DV_REPLY_BYTES, code, value, frame, n), answer);
+    explained(what, answer < ST25DV_NONE ? answer : ST25DV_NONE + rule);
 }
 
 static void step(const char *what, uint32_t code, uint32_t value, uint32_t answer)
 {
-    agree(what, call(ST25DV_STATE_BYTES, ST25DV_MEMORY_BYTES, ST25DV_REPLY_BYTES, code, value, NULL, 0), answer);
+    judged(what, code, value, NULL, 0, answer, 0);
     compare(what);
 }
 
-/* A frame without its CRC, and its answer. The reply's first byte and CRC are looked at; its bytes are not the header's. */
-static void ask(const char *what, const uint8_t *request, size_t n, uint32_t answer, uint8_t status)
+static void noack(const char *what, uint8_t byte, uint32_t rule)
 {
-    uint8_t frame[280];
+    judged(what, ST25DV_SEND, byte, NULL, 0, ST25DV_NOACK, rule);
+    compare(what);
+}
+
+/* A frame. The reply's first byte and CRC are looked at; its bytes are not the header's. */
+static void hand_in(const char *what, const uint8_t *frame, size_t n, uint32_t answer, uint32_t rule)
+{
     size_t end = answer - ST25DV_REPLY;
-    uint16_t crc = st25dv_crc(request, n);
-    memcpy(frame, request, n);
-    frame[n] = (uint8_t)(crc & 0xFF);
-    frame[n + 1] = (uint8_t)(crc >> 8);
-    agree(what, call(ST25DV_STATE_BYTES, ST25DV_MEMORY_BYTES, ST25DV_REPLY_BYTES, ST25DV_FRAME, 0, frame, n + 2), answer);
+    uint8_t status = rule == 0 ? 0x00 : 0x01;
+    judged(what, ST25DV_FRAME, 0, frame, n, answer, rule);
     if (answer >= ST25DV_REPLY + 3 && end <= ST25DV_REPLY_BYTES && end < ROOM) {
-        crc = st25dv_crc(now.reply, end - 2);
+        uint16_t crc = st25dv_crc(now.reply, end - 2);
         if (now.reply[0] != status)
             fail(what, "reply byte", 0, now.reply[0], status);
         if (now.reply[end - 2] != (crc & 0xFF) || now.reply[end - 1] != crc >> 8)
@@ -125,6 +153,25 @@ static void ask(const char *what, const uint8_t *request, size_t n, uint32_t ans
         memcpy(due.reply, now.reply, end);
     }
     compare(what);
+}
+
+/* A frame without its CRC. */
+static void ask(const char *what, const uint8_t *request, size_t n, uint32_t answer, uint32_t rule)
+{
+    uint8_t frame[280];
+    uint16_t crc = st25dv_crc(request, n);
+    memcpy(frame, request, n);
+    frame[n] = (uint8_t)(crc & 0xFF);
+    frame[n + 1] = (uint8_t)(crc >> 8);
+    hand_in(what, frame, n + 2, answer, rule);
+}
+
+/* A frame that meets an error, or silence where the code is 0. */
+static void unserved(const char *what, const uint8_t *request, size_t n, uint8_t code, uint32_t rule)
+{
+    ask(what, request, n, code == 0 ? ST25DV_SILENCE : ST25DV_REPLY + 4, rule);
+    if (code != 0 && now.reply[1] != code)
+        fail(what, "error code", 1, now.reply[1], code);
 }
 
 static void fresh(void)
@@ -290,7 +337,7 @@ static void reads(void)
     set_word(ST25DV_AT_COUNTER, 3);
     step("fetch with Ack", ST25DV_FETCH, 1, ST25DV_BYTE);
     stop("Stop of a read leg");
-    step("byte with no Start", ST25DV_SEND, 0xA6, ST25DV_NOACK);
+    noack("byte with no Start", 0xA6, ST25DV_RULE_NO_START);
 }
 
 static void writes(void)
@@ -305,7 +352,8 @@ static void writes(void)
     stop_and_program("user memory written");
     user(0x0200);
     set(ST25DV_AT_SPOILED, 1);
-    step("byte past the memory", ST25DV_SEND, 0x44, ST25DV_NOACK);
+    noack("byte past the memory", 0x44, ST25DV_RULE_OUTSIDE_MAP);
+    noack("byte of a spoiled leg", 0x44, ST25DV_RULE_LEG_SPOILED);
     set(ST25DV_AT_SPOILED, 0);
     stop("Stop of a spoiled leg");
 }
@@ -355,18 +403,18 @@ static void repeated_starts(void)
     data(sleep, 1);
     set(ST25DV_AT_RF_MNGT_DYN, 0x02);
     read_on();
-    ask("frame in a transfer opened with 00h", read_block, sizeof read_block, ST25DV_REPLY + 4, 0x01);
+    unserved("frame in a transfer opened with 00h", read_block, sizeof read_block, 0x0F, ST25DV_RULE_SHUT_OUT);
     stop("Stop of a read leg");
-    ask("frame after it", read_block, sizeof read_block, ST25DV_SILENCE, 0);
+    unserved("frame after it", read_block, sizeof read_block, 0, ST25DV_RULE_RF_SLEEP);
     user(0x2003);
     data(none, 1);
     set(ST25DV_AT_RF_MNGT_DYN, 0x00);
     leg_over();
     start();
-    ask("frame in a transfer opened with 02h", read_block, sizeof read_block, ST25DV_SILENCE, 0);
+    unserved("frame in a transfer opened with 02h", read_block, sizeof read_block, 0, ST25DV_RULE_RF_SLEEP);
     set(ST25DV_AT_TRANSFER_OPEN, 0);
     stop("Stop after a Start");
-    ask("frame after it", read_block, sizeof read_block, ST25DV_REPLY + 7, 0x00);
+    ask("frame after it", read_block, sizeof read_block, ST25DV_REPLY + 7, 0);
 }
 
 /* ---- the mailbox */
@@ -399,7 +447,7 @@ static void host_message(void)
     set_word(ST25DV_AT_MESSAGE_LENGTH, sizeof message);
     stop("message put by the host");
     set(ST25DV_AT_HOST_PUT, 0);
-    ask("Read Message", read_whole, sizeof read_whole, ST25DV_REPLY + 1 + sizeof message + 2, 0x00);
+    ask("Read Message", read_whole, sizeof read_whole, ST25DV_REPLY + 1 + sizeof message + 2, 0);
 }
 
 /* The till puts 3 bytes, the host fetches the last. */
@@ -413,7 +461,7 @@ static void till_message(void)
     set(ST25DV_AT_RF_CURRENT, 1);
     set(ST25DV_AT_HOST_CURRENT, 0);
     set_word(ST25DV_AT_MESSAGE_LENGTH, 3);
-    ask("Write Message", put, sizeof put, ST25DV_REPLY + 3, 0x00);
+    ask("Write Message", put, sizeof put, ST25DV_REPLY + 3, 0);
     user(0x200A);
     read_on();
     set(ST25DV_AT_LAST_FETCHED, 1);
@@ -435,16 +483,17 @@ static void mailbox(void)
 static void radio_states(void)
 {
     uint8_t request[10] = {0x22, 0x02};
-    static const uint8_t reset[2] = {0x12, 0x26};
+    static const uint8_t reset[2] = {0x12, 0x26}, read_block[3] = {0x02, 0x20, 0x00};
     powered();
     memcpy(request + 2, uid, 8);
     set(ST25DV_AT_RADIO_STATE, ST25DV_QUIET);
-    ask("Stay Quiet", request, sizeof request, ST25DV_SILENCE, 0);
+    unserved("Stay Quiet", request, sizeof request, 0, ST25DV_RULE_OWN_SILENCE);
+    unserved("frame to a Quiet tag", read_block, sizeof read_block, 0, ST25DV_RULE_QUIET);
     request[1] = 0x25;
     set(ST25DV_AT_RADIO_STATE, ST25DV_SELECTED);
-    ask("Select", request, sizeof request, ST25DV_REPLY + 3, 0x00);
+    ask("Select", request, sizeof request, ST25DV_REPLY + 3, 0);
     set(ST25DV_AT_RADIO_STATE, ST25DV_READY);
-    ask("Reset to Ready", reset, sizeof reset, ST25DV_REPLY + 3, 0x00);
+    ask("Reset to Ready", reset, sizeof reset, ST25DV_REPLY + 3, 0);
 }
 
 static void radio_password(uint8_t n, size_t place, uint32_t session)
@@ -453,15 +502,15 @@ static void radio_password(uint8_t n, size_t place, uint32_t session)
     static const uint8_t password[8] = {9, 8, 7, 6, 5, 4, 3, 2};
     request[3] = n;
     set(ST25DV_AT_RADIO_SESSION, session);
-    ask("Present Password", request, sizeof request, ST25DV_REPLY + 3, 0x00);
+    ask("Present Password", request, sizeof request, ST25DV_REPLY + 3, 0);
     request[1] = 0xB1;
     memcpy(request + 4, password, sizeof password);
     set_bytes(place, password, sizeof password);
-    ask("Write Password", request, sizeof request, ST25DV_REPLY + 3, 0x00);
+    ask("Write Password", request, sizeof request, ST25DV_REPLY + 3, 0);
     request[1] = 0xB3;
     request[4] = 0x00;
     set(ST25DV_AT_RADIO_SESSION, ST25DV_SESSION_NONE);
-    ask("Present Password, wrong", request, sizeof request, ST25DV_REPLY + 4, 0x01);
+    unserved("Present Password, wrong", request, sizeof request, 0x0F, ST25DV_RULE_WRONG_PASSWORD);
 }
 
 static void radio_passwords(void)
@@ -478,7 +527,157 @@ static void longest_reply(void)
 {
     static const uint8_t read_all[4] = {0x42, 0x23, 0x00, 0x7F};
     powered();
-    ask("Read Multiple Blocks", read_all, sizeof read_all, ST25DV_REPLY + ST25DV_REPLY_BYTES, 0x00);
+    ask("Read Multiple Blocks", read_all, sizeof read_all, ST25DV_REPLY + ST25DV_REPLY_BYTES, 0);
+}
+
+/* ---- rules */
+/* The data byte that spoils the leg; its Stop writes nothing. */
+static void spoils(const char *what, uint8_t byte, uint32_t rule)
+{
+    set(ST25DV_AT_SPOILED, 1);
+    noack(what, byte, rule);
+    set(ST25DV_AT_SPOILED, 0);
+    stop("Stop of a spoiled leg");
+}
+
+/* The select byte that leaves the bus idle. */
+static void not_selected(const char *what, uint8_t byte, uint32_t rule)
+{
+    start();
+    set(ST25DV_AT_BUS, ST25DV_BUS_IDLE);
+    noack(what, byte, rule);
+}
+
+static void rules_of_other_bytes(void)
+{
+    static const uint8_t byte[1] = {0x5A};
+    fresh();
+    noack("byte without VCC", 0xA6, ST25DV_RULE_NO_VCC);
+    powered();
+    not_selected("another select byte", 0xA8, ST25DV_RULE_OTHER_SELECT_BYTE);
+    noack("byte after it", 0xA6, ST25DV_RULE_NO_START);
+    select_for_reading(0xA7, ST25DV_SPACE_USER);
+    noack("byte in a read leg", 0x00, ST25DV_RULE_READ_LEG);
+    stop("Stop of a read leg");
+    user(0x0000);
+    data(byte, 1);
+    store(ST25DV_MEMORY_AT_USER, byte[0]);
+    set(ST25DV_AT_PROGRAMMING, 1);
+    stop("byte written");
+    not_selected("select while programming", 0xA6, ST25DV_RULE_PROGRAMMING);
+}
+
+/* Data bytes that a fresh tag NoAcks at once. */
+static void rules_of_first_bytes(void)
+{
+    static const uint8_t zeros[8], page[256];
+    powered();
+    user(0x0200);
+    spoils("byte past the memory", 0x00, ST25DV_RULE_OUTSIDE_MAP);
+    user(0x2008);
+    spoils("mailbox byte with MB_EN 0", 0x00, ST25DV_RULE_MODE_OFF);
+    user(0x2004);
+    spoils("I2C_SSO_Dyn", 0x00, ST25DV_RULE_REGISTER_READ_ONLY);
+    system_space(0x0003);
+    spoils("register without a session", 0x00, ST25DV_RULE_SESSION_NEEDED);
+    system_space(0x0900);
+    data(zeros, sizeof zeros);
+    spoils("password code 08h", 0x08, ST25DV_RULE_PASSWORD_CODE);
+    user(0x0000);
+    data(page, sizeof page);
+    spoils("a 257th byte", 0x00, ST25DV_RULE_PAGE_FULL);
+}
+
+static void rules_of_areas(void)
+{
+    static const uint8_t zeros[1], lock[3] = {0x02, 0x22, 0x00}, write_block[7] = {0x02, 0x21, 0x00}, read_block[3] = {0x02, 0x20, 0x08};
+    powered();
+    open_i2c_session();
+    system_space(0x0005);
+    spoils("ENDA1 above 0Fh", 0x10, ST25DV_RULE_ENDA);
+    write_register(0x0005, ST25DV_AT_ENDA1, 0x00);
+    write_register(0x0006, ST25DV_AT_RFA2SS, 0x08);
+    user(0x001F);
+    data(zeros, 1);
+    spoils("byte of area 2", 0x00, ST25DV_RULE_ANOTHER_AREA);
+    unserved("read of area 2", read_block, sizeof read_block, 0x15, ST25DV_RULE_READ_PROTECTED);
+    set(ST25DV_AT_LOCK_CCFILE, 0x01);
+    ask("Lock Block", lock, sizeof lock, ST25DV_REPLY + 3, 0);
+    unserved("Lock Block again", lock, sizeof lock, 0x11, ST25DV_RULE_ALREADY_LOCKED);
+    unserved("write of a locked block", write_block, sizeof write_block, 0x12, ST25DV_RULE_WRITE_FORBIDDEN);
+    user(0x0003);
+    spoils("byte of a locked block", 0x00, ST25DV_RULE_LOCKED_BLOCK);
+}
+
+static void rules_of_the_mailbox(void)
+{
+    static const uint8_t message[1] = {0x5A}, read_whole[5] = {0x02, 0xAC, 0x02, 0x00, 0x00};
+    enable_mailbox();
+    user(0x0000);
+    spoils("memory byte with MB_EN 1", 0x00, ST25DV_RULE_MAILBOX_MODE_ON);
+    user(0x2009);
+    spoils("message from its second byte on", 0x00, ST25DV_RULE_MAILBOX_LEG_NOT_FROM_2008);
+    unserved("Read Message, empty", read_whole, sizeof read_whole, 0x0F, ST25DV_RULE_PAST_MESSAGE);
+    user(0x2008);
+    data(message, 1);
+    store(ST25DV_MEMORY_AT_MAILBOX, message[0]);
+    set(ST25DV_AT_HOST_PUT, 1);
+    set(ST25DV_AT_HOST_CURRENT, 1);
+    set_word(ST25DV_AT_MESSAGE_LENGTH, 1);
+    stop("message put by the host");
+    user(0x2008);
+    spoils("message before it was read", 0x00, ST25DV_RULE_MAILBOX_BUSY);
+}
+
+static void rules_of_reception(void)
+{
+    static const uint8_t request[3] = {0x02, 0x20, 0x00}, frame[5] = {0x02, 0x20, 0x00, 0x00, 0x00};
+    static const uint8_t present[12] = {0x02, 0xB3, 0x02, 0x00}, write_end[5] = {0x02, 0xA1, 0x02, 0x05, 0x10};
+    fresh();
+    unserved("frame without a field", request, sizeof request, 0, ST25DV_RULE_FIELD_OFF);
+    powered();
+    hand_in("frame with another CRC", frame, sizeof frame, ST25DV_SILENCE, ST25DV_RULE_BAD_CRC);
+    set(ST25DV_AT_RADIO_SESSION, ST25DV_SESSION_PASSWORD_0);
+    ask("Present Password", present, sizeof present, ST25DV_REPLY + 3, 0);
+    unserved("ENDA1 above 0Fh by radio", write_end, sizeof write_end, 0x0F, ST25DV_RULE_END_REFUSED);
+}
+
+/* Requests that a fresh tag in the field does not serve, with the error's code, or 0 for silence. */
+static void rules_of_requests(void)
+{
+    static const struct {
+        const char *name;
+        uint32_t rule;
+        uint8_t code, bytes, request[24];
+    } rows[] = {
+        {RULE(FRAME_LENGTH), 0, 1, {0x02}},
+        {RULE(INVENTORY_FLAG), 0, 3, {0x06, 0x20, 0x00}},
+        {RULE(SELECT_AND_ADDRESS), 0, 3, {0x32, 0x20, 0x00}},
+        {RULE(MAKER), 0, 3, {0x02, 0xAB, 0x04}},
+        {RULE(UID), 0, 3, {0x22, 0x20, 0x00}},
+        {RULE(NOT_SELECTED), 0, 3, {0x12, 0x20, 0x00}},
+        {RULE(NOT_ADDRESSED), 0, 2, {0x02, 0x25}},
+        {RULE(UNKNOWN_COMMAND), 0x01, 2, {0x02, 0x30}},
+        {RULE(UNSUPPORTED_FLAGS), 0x03, 3, {0x0A, 0x20, 0x00}},
+        {RULE(WRONG_LENGTH), 0x02, 2, {0x02, 0x20}},
+        {RULE(NO_SUCH_BLOCK), 0x10, 3, {0x02, 0x20, 0x80}},
+        {RULE(READ_LEAVES_AREA), 0x0F, 4, {0x02, 0x23, 0x7F, 0x01}},
+        {RULE(TOO_MANY_BLOCKS), 0x0F, 24, {0x02, 0x24, 0x00, 0x04}},
+        {RULE(WRITE_LEAVES_AREA), 0x0F, 12, {0x02, 0x24, 0x7F, 0x01}},
+        {RULE(NOT_LOCKABLE), 0x10, 3, {0x02, 0x22, 0x02}},
+        {RULE(NO_SUCH_REGISTER), 0x10, 4, {0x02, 0xA0, 0x02, 0x0B}},
+        {RULE(CONFIGURATION_CLOSED), 0x12, 5, {0x02, 0xA1, 0x02, 0x03, 0x00}},
+        {RULE(NO_SUCH_DYNAMIC_REGISTER), 0x10, 4, {0x02, 0xAD, 0x02, 0x03}},
+        {RULE(MAILBOX_UNAVAILABLE), 0x0F, 5, {0x02, 0xAA, 0x02, 0x00, 0x5A}},
+        {RULE(MAILBOX_DISABLED), 0x0F, 3, {0x02, 0xAB, 0x02}},
+        {RULE(NO_SUCH_PASSWORD), 0x10, 12, {0x02, 0xB3, 0x02, 0x04}},
+        {RULE(WRONG_PASSWORD), 0x0F, 12, {0x02, 0xB3, 0x02, 0x00, 0x01}},
+        {RULE(PASSWORD_SESSION_CLOSED), 0x12, 12, {0x02, 0xB1, 0x02, 0x00}},
+    };
+    size_t i;
+    powered();
+    for (i = 0; i < COUNT(rows); i++)
+        unserved(rows[i].name, rows[i].request, rows[i].bytes, rows[i].code, rows[i].rule);
 }
 
 /* ---- refusals */
@@ -553,6 +752,7 @@ static void refused_steps(void)
                                        faults & 1 ? ST25DV_MEMORY_BYTES - 1 + 2 * more : ST25DV_MEMORY_BYTES,
                                        faults & 2 ? ST25DV_REPLY_BYTES - 1 : ST25DV_REPLY_BYTES + more,
                                        ST25DV_FETCH, faults & 4 ? 2 : 1, NULL, 0), first);
+        explained("step with faults", first);
         compare("step with faults");
     }
 }
@@ -581,11 +781,14 @@ static void null_buffers(void)
     agree("no memory", st25dv_step(now.state, ST25DV_STATE_BYTES, NULL, 0, now.reply, ST25DV_REPLY_BYTES, ST25DV_STOP, 0, NULL, 0), ST25DV_REFUSED_MEMORY_LENGTH);
     agree("no reply", st25dv_step(now.state, ST25DV_STATE_BYTES, now.memory, ST25DV_MEMORY_BYTES, NULL, 0, ST25DV_STOP, 0, NULL, 0), ST25DV_REFUSED_REPLY_SHORT);
     agree("no state", st25dv_step(NULL, 0, now.memory, ST25DV_MEMORY_BYTES, now.reply, ST25DV_REPLY_BYTES, ST25DV_STOP, 0, NULL, 0), ST25DV_REFUSED_STATE_LENGTH);
+    agree("no memory to explain", st25dv_explain(now.state, ST25DV_STATE_BYTES, NULL, 0, now.reply, ST25DV_REPLY_BYTES, ST25DV_STOP, 0, NULL, 0), ST25DV_REFUSED_MEMORY_LENGTH);
+    agree("no reply to explain", st25dv_explain(now.state, ST25DV_STATE_BYTES, now.memory, ST25DV_MEMORY_BYTES, NULL, 0, ST25DV_STOP, 0, NULL, 0), ST25DV_REFUSED_REPLY_SHORT);
+    agree("no state to explain", st25dv_explain(NULL, 0, now.memory, ST25DV_MEMORY_BYTES, now.reply, ST25DV_REPLY_BYTES, ST25DV_STOP, 0, NULL, 0), ST25DV_REFUSED_STATE_LENGTH);
     agree("no fresh memory", st25dv_fresh(uid, ST25DV_UID_BYTES, NULL, 0, now.state, ST25DV_STATE_BYTES), ST25DV_REFUSED_MEMORY_LENGTH);
     agree("no fresh state", st25dv_fresh(uid, ST25DV_UID_BYTES, now.memory, ST25DV_MEMORY_BYTES, NULL, 0), ST25DV_REFUSED_STATE_LENGTH);
     agree("no UID", st25dv_fresh(NULL, 0, now.memory, ST25DV_MEMORY_BYTES, now.state, ST25DV_STATE_BYTES), ST25DV_REFUSED_UID_LENGTH);
     agree("CRC of no byte", st25dv_crc(NULL, 0), 0x0000);
-    step("empty frame", ST25DV_FRAME, 0, ST25DV_SILENCE);
+    hand_in("empty frame", NULL, 0, ST25DV_SILENCE, ST25DV_RULE_FRAME_LENGTH);
 }
 
 int main(void)
@@ -598,6 +801,12 @@ int main(void)
     radio_states();
     radio_passwords();
     longest_reply();
+    rules_of_other_bytes();
+    rules_of_first_bytes();
+    rules_of_areas();
+    rules_of_the_mailbox();
+    rules_of_reception();
+    rules_of_requests();
     refused_values();
     refused_signals();
     refused_steps();

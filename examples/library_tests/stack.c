@@ -1,6 +1,6 @@
-/* How much stack the library takes. The calls run on a stack of their own that is painted before; the deepest byte that
- * lost its paint tells. The signals come from a fixed random source, which reaches every kind of leg and every command,
- * the longest frames and replies among them. Prints the bytes; ends with 1 if less than a quarter is left of what
+/* How much stack the library takes. Each function runs on a stack of its own that is painted before; the deepest byte
+ * that lost its paint tells. The signals come from a fixed random source, which reaches every kind of leg and every
+ * command, the longest frames and replies among them. Prints the bytes; ends with 1 if less than a fifth is left of what
  * docs/LIBRARY.md says is enough. */
 #define _XOPEN_SOURCE 700
 #include <stdio.h>
@@ -15,7 +15,9 @@
 #define CALLS 300000
 #define PICK(a) (a)[below(sizeof(a))]
 
-static uint8_t stack[STACK], state[ST25DV_STATE_BYTES], memory[ST25DV_MEMORY_BYTES], reply[ST25DV_REPLY_BYTES];
+enum function { FRESH, CRC, EXPLAIN, STEP, FUNCTIONS };
+
+static uint8_t stacks[FUNCTIONS][STACK], state[ST25DV_STATE_BYTES], memory[ST25DV_MEMORY_BYTES], reply[ST25DV_REPLY_BYTES];
 static uint8_t frame[600];
 static size_t frame_bytes;
 static uint32_t code, value, answer;
@@ -108,7 +110,12 @@ static void make_signal(void)
     make_frame();
 }
 
-/* ---- the painted stack */
+/* ---- the painted stacks */
+static void explain(void)
+{
+    answer = st25dv_explain(state, sizeof state, memory, sizeof memory, reply, sizeof reply, code, value, frame, frame_bytes);
+}
+
 static void step(void)
 {
     answer = st25dv_step(state, sizeof state, memory, sizeof memory, reply, sizeof reply, code, value, frame, frame_bytes);
@@ -124,46 +131,53 @@ static void crc(void)
     answer = st25dv_crc(frame, frame_bytes);
 }
 
-static void run_inside(void (*what)(void))
+static void run_inside(enum function which)
 {
+    static void (*const functions[FUNCTIONS])(void) = {fresh, crc, explain, step};
     getcontext(&inside);
-    inside.uc_stack.ss_sp = stack;
-    inside.uc_stack.ss_size = sizeof stack;
+    inside.uc_stack.ss_sp = stacks[which];
+    inside.uc_stack.ss_size = STACK;
     inside.uc_link = &outside;
-    makecontext(&inside, what, 0);
+    makecontext(&inside, functions[which], 0);
     swapcontext(&outside, &inside);
 }
 
 /* The bytes down to the deepest that lost its paint, those of the function around the call included. */
-static unsigned depth(void)
+static unsigned depth(enum function which)
 {
     unsigned painted = 0;
-    while (painted < STACK && stack[painted] == PAINT)
+    while (painted < STACK && stacks[which][painted] == PAINT)
         painted++;
-    memset(stack, PAINT, sizeof stack);
     return STACK - painted;
+}
+
+static int fits(enum function which)
+{
+    return 5 * depth(which) <= 4 * ENOUGH;
+}
+
+static int refused(enum function which)
+{
+    run_inside(which);
+    if (answer < ST25DV_NONE)
+        printf("stack: a call was refused: %u\n", (unsigned)answer);
+    return answer < ST25DV_NONE;
 }
 
 int main(void)
 {
-    unsigned i, of_fresh, of_crc, of_step, longest = 0;
-    depth();
-    run_inside(fresh);
-    of_fresh = depth();
+    unsigned i, longest = 0;
+    memset(stacks, PAINT, sizeof stacks);
+    run_inside(FRESH);
     make_frame();
-    run_inside(crc);
-    of_crc = depth();
+    run_inside(CRC);
     for (i = 0; i < CALLS; i++) {
         make_signal();
-        run_inside(step);
-        if (answer < ST25DV_NONE) {
-            printf("stack: a call was refused: %u\n", (unsigned)answer);
+        if (refused(EXPLAIN) || refused(STEP))
             return 1;
-        }
         if (answer > longest)
             longest = answer;
     }
-    of_step = depth();
-    printf("stack: fresh %u, crc %u, step %u bytes; longest reply %u\n", of_fresh, of_crc, of_step, longest - ST25DV_REPLY);
-    return 5 * of_fresh > 4 * ENOUGH || 5 * of_crc > 4 * ENOUGH || 5 * of_step > 4 * ENOUGH;
+    printf("stack: fresh %u, crc %u, explain %u, step %u bytes; longest reply %u\n", depth(FRESH), depth(CRC), depth(EXPLAIN), depth(STEP), longest - ST25DV_REPLY);
+    return !(fits(FRESH) && fits(CRC) && fits(EXPLAIN) && fits(STEP));
 }

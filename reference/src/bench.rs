@@ -3,6 +3,7 @@
 use std::io::{BufWriter, Read, Result, Write};
 
 use crate::crc::crc_bytes;
+use crate::explain::{explain, Rule};
 use crate::model::{self, Answer, Signal};
 use crate::tag::{Tag, MEMORY_SIZE, REPLY_SIZE};
 
@@ -166,6 +167,22 @@ impl Bench {
             Err(_) => output.write_all(b"?"),
         }
     }
+
+    /// The same with the name of the rule that gave it behind a NoAck, an error or silence; the rule.
+    pub fn explain(
+        &mut self,
+        line: Option<&[u8]>,
+        output: &mut impl Write,
+    ) -> Result<Option<Rule>> {
+        let signal = line.and_then(|line| read_line(line, &mut self.frame));
+        // The tag is asked before the line acts on it.
+        let rule = signal.and_then(|signal| explain(&self.tag, &self.memory, signal));
+        self.answer(line, output)?;
+        if let Some(rule) = rule {
+            write!(output, "\t{}", rule.name())?;
+        }
+        Ok(rule)
+    }
 }
 
 /// Writes what `answer` writes for each line, behind the line's number.
@@ -189,4 +206,17 @@ pub fn answer_lines<const N: usize, W: Write>(
 pub fn run<W: Write>(input: impl Read, output: W) -> Result<()> {
     let mut bench = Bench::fresh();
     answer_lines::<LONGEST_LINE, W>(input, output, |line, output| bench.answer(line, output))
+}
+
+/// The program that explains: 02, Ask 3. `each` gets the rules that are named.
+pub fn run_explaining<W: Write>(
+    input: impl Read,
+    output: W,
+    mut each: impl FnMut(Rule),
+) -> Result<()> {
+    let mut bench = Bench::fresh();
+    answer_lines::<LONGEST_LINE, W>(input, output, |line, output| {
+        bench.explain(line, output)?.into_iter().for_each(&mut each);
+        Ok(())
+    })
 }

@@ -1,5 +1,6 @@
 //! Calls that a caller gets wrong in one way or in several at once.
 
+use crate::crc::crc_bytes;
 use crate::dice::Dice;
 use crate::model::{self, Refusal};
 use crate::state::{at, REFUSED_STATE_LENGTH, REFUSED_UID_LENGTH, STATE_SIZE};
@@ -139,7 +140,7 @@ fn break_state(dice: &mut Dice, state: &mut [u8]) {
 
 /// Something that the caller hands in, changed; it may still be right.
 pub fn change(dice: &mut Dice, lent: &mut Lent, call: &mut Call) {
-    match dice.below(8) {
+    match dice.below(10) {
         0 => resize(dice, &mut lent.state, STATE_SIZE),
         1 => resize(dice, &mut lent.memory, MEMORY_SIZE),
         2 => resize(dice, &mut lent.reply, REPLY_SIZE),
@@ -149,11 +150,33 @@ pub fn change(dice: &mut Dice, lent: &mut Lent, call: &mut Call) {
             let place = PAGE_PLACE + dice.below(20);
             lent.memory[place] = dice.byte();
         }
+        6 | 7 => change_frame(dice, &mut call.frame),
         _ => {
             for _ in 0..=dice.below(2) {
                 change_state(dice, &mut lent.state);
             }
         }
+    }
+}
+
+/// Another length or byte, the CRC's two among them; at times the CRC is made right again.
+fn change_frame(dice: &mut Dice, frame: &mut Vec<u8>) {
+    let place = dice.below(frame.len());
+    match dice.below(6) {
+        0 => frame.truncate(dice.below(6)),
+        1 => frame.resize(dice.pick(&[269, 270, 271, 300]), 0x33),
+        2 => frame.push(dice.byte()),
+        3 => frame.rotate_left(place),
+        _ => {
+            if let Some(byte) = frame.get_mut(place) {
+                *byte ^= 1 << dice.below(8);
+            }
+        }
+    }
+    let body = frame.len().saturating_sub(2);
+    if frame.len() >= 2 && dice.one_in(3) {
+        let check = crc_bytes(&frame[..body]);
+        frame[body..].copy_from_slice(&check);
     }
 }
 

@@ -6,11 +6,13 @@ pub mod crc;
 pub mod cut;
 pub mod dice;
 pub mod examples;
+pub mod explain;
 pub mod faults;
 pub mod feed;
 #[cfg(feature = "library")]
 pub mod library;
 pub mod model;
+pub mod names;
 pub mod outcome;
 pub mod pieces;
 pub mod questions;

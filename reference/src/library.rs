@@ -42,6 +42,31 @@ pub fn step(
     }
 }
 
+/// It must change no byte; the slices are lent as those of `step` are, so that a changed one shows.
+pub fn explain(
+    state: &mut [u8],
+    memory: &mut [u8],
+    reply: &mut [u8],
+    code: u32,
+    value: u32,
+    frame: &[u8],
+) -> u32 {
+    unsafe {
+        linked::st25dv_explain(
+            state.as_mut_ptr(),
+            state.len(),
+            memory.as_mut_ptr(),
+            memory.len(),
+            reply.as_mut_ptr(),
+            reply.len(),
+            code,
+            value,
+            frame.as_ptr(),
+            frame.len(),
+        )
+    }
+}
+
 pub fn crc(bytes: &[u8]) -> u16 {
     unsafe { linked::st25dv_crc(bytes.as_ptr(), bytes.len()) }
 }

@@ -1,5 +1,6 @@
 //! One call of the model: refusals, ranges, and the signal itself.
 
+use crate::explain::{self, Rule};
 use crate::tag::*;
 use crate::{radio, wire};
 
@@ -49,11 +50,30 @@ pub fn step(
     reply: &mut [u8],
     signal: Signal,
 ) -> Result<Answer, Refusal> {
-    judge_call(memory, reply, signal)?;
-    if !in_range(tag, memory) {
-        return Err(Refusal::Range);
-    }
+    judge(tag, memory, reply, signal)?;
     Ok(act(tag, memory, reply, signal))
+}
+
+/// The rule that gives the NoAck, error or silence of that step; none if it answers otherwise.
+pub fn explain(
+    tag: &Tag,
+    memory: &[u8],
+    reply: &[u8],
+    signal: Signal,
+) -> Result<Option<Rule>, Refusal> {
+    judge(tag, memory, reply, signal)?;
+    let memory = memory.try_into().map_err(|_| Refusal::Memory)?;
+    Ok(explain::explain(tag, memory, signal))
+}
+
+/// The refusals, in order.
+fn judge(tag: &Tag, memory: &[u8], reply: &[u8], signal: Signal) -> Result<(), Refusal> {
+    judge_call(memory, reply, signal)?;
+    if in_range(tag, memory) {
+        Ok(())
+    } else {
+        Err(Refusal::Range)
+    }
 }
 
 /// The refusals that do not look at the tag: 1 to 3.

@@ -4,22 +4,22 @@ use crate::crc::{crc, crc_bytes};
 use crate::tag::*;
 
 // Flags. 01h and 02h choose the answer's modulation only (D27).
-const INVENTORY: u8 = 0x04;
-const EXTENSION: u8 = 0x08;
-const SELECT_FLAG: u8 = 0x10;
-const ADDRESS: u8 = 0x20;
-const OPTION: u8 = 0x40;
-const RESERVED: u8 = 0x80;
+pub const INVENTORY: u8 = 0x04;
+pub const EXTENSION: u8 = 0x08;
+pub const SELECT_FLAG: u8 = 0x10;
+pub const ADDRESS: u8 = 0x20;
+pub const OPTION: u8 = 0x40;
+pub const RESERVED: u8 = 0x80;
 
-const STAY_QUIET: u8 = 0x02;
-const SELECT: u8 = 0x25;
+pub const STAY_QUIET: u8 = 0x02;
+pub const SELECT: u8 = 0x25;
 const RESET: u8 = 0x26;
-const FIRST_CUSTOM: u8 = 0xA0;
-const MAKER: u8 = 0x02;
+pub const FIRST_CUSTOM: u8 = 0xA0;
+pub const MAKER: u8 = 0x02;
 
 // RF_MNGT_Dyn.
-const RF_DISABLE: u8 = 0x01;
-const RF_SLEEP: u8 = 0x02;
+pub const RF_DISABLE: u8 = 0x01;
+pub const RF_SLEEP: u8 = 0x02;
 
 // Error codes.
 const UNKNOWN_COMMAND: u8 = 0x01;

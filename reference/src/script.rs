@@ -4,6 +4,7 @@
 //! the tag stands: supplies, sessions, ends, passwords, mailbox. Most of what it writes is valid
 //! there; the rest is broken on purpose.
 
+mod crowded;
 mod frames;
 mod legs;
 mod noise;
@@ -42,6 +43,30 @@ pub fn script(seed: u64, size: usize) -> Script {
     author.opening();
     while author.lines.len() < size {
         author.act();
+    }
+    author.lines.truncate(size);
+    Script {
+        lines: author.lines,
+        ended: !author.dice.one_in(4),
+    }
+}
+
+/// A seed's script for the naming of rules, `size` lines long: frames and legs that several rules
+/// forbid are frequent.
+pub fn crowded_script(seed: u64, size: usize) -> Script {
+    let mut author = Author::new(seed);
+    author.opening();
+    while author.lines.len() < size {
+        author.act();
+        if author.dice.one_in(2) {
+            author.crowded_frames();
+        }
+        if author.dice.one_in(12) {
+            author.crowded_leg();
+        }
+        if author.dice.one_in(200) {
+            author.crowded_page();
+        }
     }
     author.lines.truncate(size);
     Script {

@@ -1,5 +1,6 @@
 //! The tag's state as 84 bytes, by the table of docs/LIBRARY.md, and the library's calls over them.
 
+use crate::explain::Rule;
 use crate::model::{self, Answer, Refusal, Signal};
 use crate::tag::*;
 
@@ -249,8 +250,19 @@ fn signal(code: u32, value: u32, frame: &[u8]) -> Signal<'_> {
     }
 }
 
-/// One call over the state's bytes. 1 to 3 need no state; the state's length is judged right
-/// before the first refusal that reads it.
+/// The tag of a call, or the number of a refusal. 1 to 3 need no state; the state's length is
+/// judged right before the first refusal that reads it.
+fn tag_of(state: &[u8], memory: &[u8], reply: &[u8], signal: Signal) -> Result<Tag, u32> {
+    if let Err(refusal) = model::judge_call(memory, reply, signal) {
+        return Err(number(Err(refusal)));
+    }
+    let Ok(bytes) = <&[u8; STATE_SIZE]>::try_from(state) else {
+        return Err(REFUSED_STATE_LENGTH);
+    };
+    decode(bytes).ok_or(number(Err(Refusal::Range)))
+}
+
+/// One call over the state's bytes.
 pub fn step(
     state: &mut [u8],
     memory: &mut [u8],
@@ -260,20 +272,35 @@ pub fn step(
     frame: &[u8],
 ) -> u32 {
     let signal = signal(code, value, frame);
-    if let Err(refusal) = model::judge_call(memory, reply, signal) {
-        return number(Err(refusal));
-    }
-    let Ok(bytes) = <&mut [u8; STATE_SIZE]>::try_from(state) else {
-        return REFUSED_STATE_LENGTH;
-    };
-    let Some(mut tag) = decode(bytes) else {
-        return number(Err(Refusal::Range));
+    let mut tag = match tag_of(state, memory, reply, signal) {
+        Ok(tag) => tag,
+        Err(refusal) => return refusal,
     };
     let answer = model::step(&mut tag, memory, reply, signal);
     if answer.is_ok() {
-        *bytes = encode(&tag);
+        state.copy_from_slice(&encode(&tag));
     }
     number(answer)
+}
+
+/// The rule that gives that call's NoAck, error or silence: its number over 0x100, or 0x100 alone.
+pub fn explain(
+    state: &[u8],
+    memory: &[u8],
+    reply: &[u8],
+    code: u32,
+    value: u32,
+    frame: &[u8],
+) -> u32 {
+    let signal = signal(code, value, frame);
+    let tag = match tag_of(state, memory, reply, signal) {
+        Ok(tag) => tag,
+        Err(refusal) => return refusal,
+    };
+    match model::explain(&tag, memory, reply, signal) {
+        Ok(rule) => 0x100 + rule.map_or(0, Rule::number),
+        Err(refusal) => number(Err(refusal)),
+    }
 }
 
 /// The fresh tag's bytes; the memory is cleared. 01's refusal 1 comes first here too.

@@ -243,8 +243,13 @@ impl DataByte {
 }
 
 /// Whether this password's session is the open one; where none is named none is.
-fn session_open(tag: &Tag, password: Option<u8>) -> bool {
+pub fn session_open(tag: &Tag, password: Option<u8>) -> bool {
     password.is_some() && tag.radio_session.checked_sub(1) == password
+}
+
+/// 01: RFAiSS bits 1-0 "name password 1 to 3 (0: none opens it)".
+pub fn named_password(rfass: u8) -> Option<u8> {
+    Some(rfass & 3).filter(|&number| number != 0)
 }
 
 /// 01, 21 and 24: "10h; .. 12h no right or locked".
@@ -252,8 +257,7 @@ fn block_rules(tag: &Tag, block: usize) -> Rules {
     use Reason::*;
     let registers = &tag.registers;
     let rfass = registers.rfass[area_of_block(&registers.enda, block)];
-    // 01: "name password 1 to 3 (0: none opens it)".
-    let password = Some(rfass & 3).filter(|&number| number != 0);
+    let password = named_password(rfass);
     let setting = rfass >> 2 & 3;
     let closed = matches!(setting, 1 | 2) && !session_open(tag, password);
     vec![

@@ -2,10 +2,10 @@
 
 use crate::tag::*;
 
-const USER_WRITE: u8 = 0xA6;
-const USER_READ: u8 = 0xA7;
-const SYSTEM_WRITE: u8 = 0xAE;
-const SYSTEM_READ: u8 = 0xAF;
+pub const USER_WRITE: u8 = 0xA6;
+pub const USER_READ: u8 = 0xA7;
+pub const SYSTEM_WRITE: u8 = 0xAE;
+pub const SYSTEM_READ: u8 = 0xAF;
 
 pub const PASSWORD_LEG: usize = 17;
 pub const CODE_PLACE: usize = 8;

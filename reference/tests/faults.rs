@@ -4,6 +4,7 @@ use std::collections::BTreeSet;
 
 use reference::bench::UID;
 use reference::dice::Dice;
+use reference::explain::Rule;
 use reference::faults::{change, chosen, kept, make, several, Call, Kept, Lent, OF_FRESH, OF_STEP};
 use reference::state::{self, at, STATE_SIZE};
 use reference::tag::{MEMORY_SIZE, REPLY_SIZE};
@@ -32,10 +33,16 @@ fn step(lent: &mut Lent, call: &Call) -> u32 {
     state::step(state, memory, reply, call.code, call.value, &call.frame)
 }
 
+fn explain(lent: &Lent, call: &Call) -> u32 {
+    let (s, m, r) = (&lent.state, &lent.memory, &lent.reply);
+    state::explain(s, m, r, call.code, call.value, &call.frame)
+}
+
 #[test]
 fn the_first_fault_is_the_answer() {
     let mut dice = Dice::new(1);
     let (mut lent, call) = right();
+    assert_eq!(explain(&lent, &call), 0x100 + Rule::NoVcc.number());
     assert_eq!(step(&mut lent, &call), 0x102);
     for bits in 1..1 << OF_STEP.len() {
         let faults = chosen(&OF_STEP, bits);
@@ -45,6 +52,7 @@ fn the_first_fault_is_the_answer() {
                 make(&mut dice, fault, &mut lent, &mut call);
             }
             let before = lent.clone();
+            assert_eq!(explain(&lent, &call), faults[0].number(), "{faults:?}");
             assert_eq!(step(&mut lent, &call), faults[0].number(), "{faults:?}");
             assert!(lent == before, "{faults:?}");
         }

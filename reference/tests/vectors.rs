@@ -1,5 +1,5 @@
 //! The reference's answers to the scripts of tests/ and examples/scripts/, and to that of the crate `bench`, are those
-//! that stand beside them.
+//! that stand beside them; with their names where those stand beside them too.
 
 use std::fs;
 use std::io::Result;
@@ -26,6 +26,14 @@ fn compare(script: &Path, answers: &Path) -> Result<()> {
     Ok(())
 }
 
+/// The answers with their names.
+fn compare_names(script: &Path, names: &Path) -> Result<()> {
+    let mut output = Vec::new();
+    bench::run_explaining(&fs::read(script)?[..], &mut output, |_| {})?;
+    assert!(output == fs::read(names)?, "{} differs", names.display());
+    Ok(())
+}
+
 #[test]
 fn the_crate_bench() -> Result<()> {
     let folder = Path::new(env!("CARGO_MANIFEST_DIR")).join("../crates/bench");
@@ -41,6 +49,20 @@ fn scripts_and_answers() -> Result<()> {
             count += 1;
         }
     }
-    assert!(count >= 55);
+    assert!(count >= 68);
+    Ok(())
+}
+
+#[test]
+fn scripts_and_names() -> Result<()> {
+    let mut count = 0;
+    for path in scripts("tests/vectors")? {
+        let names = path.with_extension("explain");
+        if names.exists() {
+            compare_names(&path, &names)?;
+            count += 1;
+        }
+    }
+    assert!(count >= 13);
     Ok(())
 }

@@ -1,8 +1,9 @@
 // Commands that write and lock blocks of user memory.
 ghost use mathlib.Core.Path.{_≡_};
-ghost use Prim.Native.Nat.{_+_, _≤_};
+ghost use Prim.Native.Nat.{_+_};
 ghost use Rattle.reply.specs.Outcome.{radioResult, finish};
-ghost use Rattle.block_writes.specs.Writes.{mayWriteAll, writeOf, lockOf};
+ghost use Rattle.block_writes.specs.Writes.{writeOf, lockOf};
+ghost use Rattle.block_writes.specs.Claims.{allAllowed};
 use errors::RadioError;
 use register_types::LockCcFile;
 use reply::RadioOutcome;
@@ -10,11 +11,11 @@ use reply::RadioSide;
 use tag::Core;
 use write_reasons::WriteAsked;
 
-// Whether the radio may write n blocks of the memory from the first on.
-fn may_write_all(c: Core, m: &[u8], session: u8, first: u8, n: u16) -> bool
-    requires { ⌜ first + n ≤ 128 ⌝ }
-    ensures { λ b. ⌜ b ≡ mayWriteAll (c .registers) session first n ⌝ }
+// Whether the verdict allows the radio each of the blocks from the first on, more being one less than their number.
+pub fn all_allowed(c: Core, m: &[u8], session: u8, first: u8, more: u8) -> bool
+    ensures { λ b. ⌜ b ≡ allAllowed c session first (more + 1) ⌝ }
 {
+    let n = more as u16 + 1;
     let mut all = true;
     let mut k: u16 = 0;
     while k < n {
@@ -57,7 +58,7 @@ pub fn write(
         let answer = reply::error(out, RadioError::WriteLeavesArea);
         return RadioOutcome { answer, side: v };
     }
-    if !may_write_all(v.core, m, v.air.session, first, more as u16 + 1) {
+    if !all_allowed(v.core, m, v.air.session, first, more) {
         let answer = reply::error(out, RadioError::WriteForbidden);
         return RadioOutcome { answer, side: v };
     }

@@ -25,7 +25,8 @@ use Rattle.system_leg.specs.SystemLeg.{passwordWritten, systemWritten}
 use Rattle.leg.specs.Leg.{legWritten, actsAtStart, settle}
 use Rattle.fetch.specs.Fetch.{memoryByte, mailboxByte, userByte, systemByte, fetched, isLast}
 use Rattle.signal.specs.Signal.{dueOf, startAt, startOf, stopAt}
-use Rattle.send.specs.Send.{selectBy, dataOf, sendAt}
+use Rattle.data_byte.specs.DataByte.{dataOf}
+use Rattle.send.specs.Send.{selectBy, sendAt}
 use Rattle.wire.specs.Wire.{fetchAt, signalOf}
 use Rattle.signal_table.specs.Table.{signalTable, signalFound, isFound, signalInRange, signalIn, signalBy, sentByte}
 use Rattle.reply.specs.Reply.{answerOf, bufferOf}

@@ -32,7 +32,7 @@ abbrev calledBy : List ℕ → StepResult → CallResult
 calledBy s e = callResult (answerNumber (e .answer)) (stateAfter s (e .answer) (e .tag)) (e .memory) (e .reply)
 
 -- refusals that a function of the outcome gives, judged once more inside it
-twice : {A B : Type 0} (f : A → B) (j q : Judgement) (refuses : Refusal → A) (serves : A)
+pub twice : {A B : Type 0} (f : A → B) (j q : Judgement) (refuses : Refusal → A) (serves : A)
     → unlessRefused j (λ r. f (refuses r)) (f (unlessRefused (unlessRefused j RefusedBy q) refuses serves)) ≡ f (unlessRefused (unlessRefused j RefusedBy q) refuses serves)
 unfolding unlessRefused
 twice f NoRefusal q refuses serves = refl

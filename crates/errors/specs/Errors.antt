@@ -48,3 +48,28 @@ errorCode NoSuchPassword = 0x10
 errorCode WrongPassword = 0x0F
 -- B1: "12h unless session n"
 errorCode PasswordSessionClosed = 0x12
+
+-- the number under which the rule is named in an explanation (docs/LIBRARY.md); those below are of the wire and of silence
+abbrev pub errorNumber : RadioError → ℕ
+errorNumber ShutOut = 33
+errorNumber UnknownCommand = 34
+errorNumber UnsupportedFlags = 35
+errorNumber WrongLength = 36
+errorNumber NoSuchBlock = 37
+errorNumber ReadLeavesArea = 38
+errorNumber ReadProtected = 39
+errorNumber TooManyBlocks = 40
+errorNumber WriteLeavesArea = 41
+errorNumber WriteForbidden = 42
+errorNumber NotLockable = 43
+errorNumber AlreadyLocked = 44
+errorNumber NoSuchRegister = 45
+errorNumber ConfigurationClosed = 46
+errorNumber EndRefused = 47
+errorNumber NoSuchDynamicRegister = 48
+errorNumber MailboxUnavailable = 49
+errorNumber MailboxDisabled = 50
+errorNumber PastMessage = 51
+errorNumber NoSuchPassword = 52
+errorNumber WrongPassword = 53
+errorNumber PasswordSessionClosed = 54

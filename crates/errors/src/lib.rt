@@ -1,6 +1,6 @@
 // The errors that a frame may be answered with.
 ghost use mathlib.Core.Path.{_≡_};
-ghost use Rattle.errors.specs.Errors.{errorCode};
+ghost use Rattle.errors.specs.Errors.{errorCode, errorNumber};
 
 // A case for each error rule of document 01, in its order.
 pub enum RadioError {
@@ -70,6 +70,36 @@ impl RadioError {
             RadioError::NoSuchPassword => 0x10,
             RadioError::WrongPassword => 0x0F,
             RadioError::PasswordSessionClosed => 0x12,
+        }
+    }
+
+    // The number under which the rule is named.
+    pub fn number(self) -> u8
+        ensures { λ r. ⌜ r ≡ errorNumber self ⌝ }
+    {
+        match self {
+            RadioError::ShutOut => 33,
+            RadioError::UnknownCommand => 34,
+            RadioError::UnsupportedFlags => 35,
+            RadioError::WrongLength => 36,
+            RadioError::NoSuchBlock => 37,
+            RadioError::ReadLeavesArea => 38,
+            RadioError::ReadProtected => 39,
+            RadioError::TooManyBlocks => 40,
+            RadioError::WriteLeavesArea => 41,
+            RadioError::WriteForbidden => 42,
+            RadioError::NotLockable => 43,
+            RadioError::AlreadyLocked => 44,
+            RadioError::NoSuchRegister => 45,
+            RadioError::ConfigurationClosed => 46,
+            RadioError::EndRefused => 47,
+            RadioError::NoSuchDynamicRegister => 48,
+            RadioError::MailboxUnavailable => 49,
+            RadioError::MailboxDisabled => 50,
+            RadioError::PastMessage => 51,
+            RadioError::NoSuchPassword => 52,
+            RadioError::WrongPassword => 53,
+            RadioError::PasswordSessionClosed => 54,
         }
     }
 }

@@ -1,1 +1,2 @@
 pub mod ShutOut
+pub mod Muted

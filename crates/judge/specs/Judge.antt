@@ -61,6 +61,10 @@ ruleError hasWrongLength = WrongLength
 unfoldable pub errorRules : List ErrorRule
 errorRules = isShutOut ∷ isUnknown ∷ hasBadFlags ∷ hasWrongLength ∷ []
 
+-- the error of the first that holds, or a request
+unfoldable pub firstError : List ℕ → RfMngt → Bool → Verdict
+firstError f dynamic busy = firstSays (errorHolds f dynamic busy) (λ rule. Error (ruleError rule)) Request errorRules
+
 -- the whole order: silence, the first error that holds, or a request
 unfoldable pub judge : List ℕ → Air → Uid → RfMngt → Bool → Verdict
 judge f a u dynamic busy =

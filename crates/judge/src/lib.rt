@@ -1,6 +1,6 @@
 // A frame judged: silence, an error, or a request to serve.
 ghost use mathlib.Core.Path.{_≡_};
-ghost use Rattle.judge.specs.Judge.{isMute, errorOf, shutOut, badFlags, wrongLength, judge};
+ghost use Rattle.judge.specs.Judge.{isMute, errorOf, shutOut, badFlags, wrongLength, firstError, judge};
 use air::Air;
 use errors::RadioError;
 use keys::Uid;
@@ -12,7 +12,8 @@ pub enum Verdict {
     Request,
 }
 
-fn is_mute(f: &[u8], u: Uid) -> bool
+// Whether the frame is a Stay Quiet, or a Select of another UID.
+pub fn is_mute(f: &[u8], u: Uid) -> bool
     ensures { λ r. ⌜ r ≡ isMute (now (f .entry)) u ⌝ }
 {
     let c = frame::command(f);
@@ -59,6 +60,25 @@ fn wrong_length(f: &[u8]) -> bool
     !(at + takes == end)
 }
 
+// The error of the first rule past the silence list that holds.
+pub fn first_error(f: &[u8], dynamic: RfMngt, busy: bool) -> Verdict
+    ensures { λ r. ⌜ r ≡ firstError (now (f .entry)) dynamic busy ⌝ }
+{
+    if (dynamic.bits / 1 % 2 == 1) | busy {
+        return Verdict::Error(RadioError::ShutOut);
+    }
+    if !commands::command_of(frame::command(f)).is_known() {
+        return Verdict::Error(RadioError::UnknownCommand);
+    }
+    if bad_flags(f) {
+        return Verdict::Error(RadioError::UnsupportedFlags);
+    }
+    if wrong_length(f) {
+        return Verdict::Error(RadioError::WrongLength);
+    }
+    Verdict::Request
+}
+
 // The verdict on a frame.
 pub fn judge(f: &[u8], a: Air, u: Uid, dynamic: RfMngt, busy: bool) -> Verdict
     ensures { λ r. ⌜ r ≡ judge (now (f .entry)) a u dynamic busy ⌝ }
@@ -66,17 +86,9 @@ pub fn judge(f: &[u8], a: Air, u: Uid, dynamic: RfMngt, busy: bool) -> Verdict
     if silence::is_silent(f, a, u, dynamic) {
         return Verdict::Silence;
     }
-    if (dynamic.bits / 1 % 2 == 1) | busy {
-        return error_of(f, u, RadioError::ShutOut);
+    match first_error(f, dynamic, busy) {
+        Verdict::Silence => Verdict::Silence,
+        Verdict::Error(error) => error_of(f, u, error),
+        Verdict::Request => Verdict::Request,
     }
-    if !commands::command_of(frame::command(f)).is_known() {
-        return error_of(f, u, RadioError::UnknownCommand);
-    }
-    if bad_flags(f) {
-        return error_of(f, u, RadioError::UnsupportedFlags);
-    }
-    if wrong_length(f) {
-        return error_of(f, u, RadioError::WrongLength);
-    }
-    Verdict::Request
 }

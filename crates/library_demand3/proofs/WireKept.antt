@@ -28,7 +28,8 @@ use Rattle.signal_table.specs.declared.WireSignal.{WireSignal}
 use Rattle.signal.specs.Signal.{WireResult, sideBus, dueOf, startAt, startOf, stopAt}
 use Rattle.state.specs.Claims.{PasswordsFit}
 use Rattle.state.proofs.Decoded.{eight-run}
-use Rattle.send.specs.Send.{selectBy, dataOf, sendAt}
+use Rattle.data_byte.specs.DataByte.{dataOf}
+use Rattle.send.specs.Send.{selectBy, sendAt}
 use Rattle.wire.specs.Wire.{fetchAt, signalOf}
 use Rattle.signal_table.specs.Table.{sentByte}
 use Rattle.wire_claims.proofs.Cases.{signal-case}

@@ -25,7 +25,7 @@ pub fn length(v: RadioSide, m: &[u8], out: &mut [u8]) -> RadioOutcome
 }
 
 // How many bytes are asked for.
-fn asked(mailbox: Mailbox, pointer: u8, n: u8) -> u16
+pub fn asked(mailbox: Mailbox, pointer: u8, n: u8) -> u16
     ensures { λ r. ⌜ r ≡ asked mailbox pointer n ⌝ }
 {
     if (pointer == 0) & (n == 0) {

@@ -7,7 +7,8 @@ use mailbox::Mailbox;
 use reply::RadioOutcome;
 use reply::RadioSide;
 
-fn takes_message(mailbox: Mailbox) -> bool
+// Whether the radio may put a message.
+pub fn takes_message(mailbox: Mailbox) -> bool
     ensures { λ r. ⌜ r ≡ takesMessage mailbox ⌝ }
 {
     mailbox.enabled & !mailbox.host.put & !mailbox.rf.put

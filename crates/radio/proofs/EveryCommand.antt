@@ -43,6 +43,7 @@ use Rattle.commands.specs.declared.Command.the-variants.{StayQuiet, Select, Res
 use Rattle.commands.specs.declared.CommandCode.{CommandCode}
 use Rattle.commands.specs.declared.CommandCode.the-variants.{Unknown, Known}
 use Rattle.commands.specs.Table.{CodedRow, commandTable, commandOf}
+use Rattle.commands.proofs.Codes.{codeOf, differs, as-in-table, named}
 use Rattle.frame.specs.Fields.{command}
 use Rattle.judge.specs.declared.Verdict.{Verdict}
 use Rattle.judge.specs.declared.Verdict.the-variants.{Silence, Error, Request}
@@ -300,40 +301,6 @@ module _ (q : RequestFields) (v : RadioSide) (vcc : Bool) (m f : List ℕ) where
   every-command WritePassword = writes-password (q .first) (q .at + 1)
 
 -- ---- every frame
--- the code of each command: a request under another code than B3 is no PresentPassword
-codeOf : Command → ℕ
-codeOf StayQuiet = 0x02
-codeOf Select = 0x25
-codeOf ResetToReady = 0x26
-codeOf ReadSingleBlock = 0x20
-codeOf ReadMultipleBlocks = 0x23
-codeOf WriteSingleBlock = 0x21
-codeOf WriteMultipleBlocks = 0x24
-codeOf LockBlock = 0x22
-codeOf GetMultipleBlockSecurityStatus = 0x2C
-codeOf ReadConfiguration = 0xA0
-codeOf WriteConfiguration = 0xA1
-codeOf ReadDynamicConfiguration = 0xAD
-codeOf WriteDynamicConfiguration = 0xAE
-codeOf WriteMessage = 0xAA
-codeOf ReadMessageLength = 0xAB
-codeOf ReadMessage = 0xAC
-codeOf PresentPassword = 0xB3
-codeOf WritePassword = 0xB1
-
-differs : CodedRow → Bool
-differs coded = not (eqb (codeOf (coded .row .command)) (coded .code))
-
-as-in-table : anyHolds differs commandTable ≡ false
-unfolding anyHolds commandTable differs codeOf
-as-in-table = refl
-
-named : (code : ℕ) (coded : CodedRow) → eqb code (coded .code) ≡ true → differs coded ≡ false → codeOf (coded .row .command) ≡ code
-unfolding differs
-named code coded h k =
-    let own = codeOf (coded .row .command) in
-    eqb-true own (coded .code) (not-false (eqb own (coded .code)) k) ∙ sym (eqb-true code (coded .code) h)
-
 module _ (v : RadioSide) (vcc : Bool) (m f : List ℕ) where
   abbrev F : RequestFields → CommandResult → Type 0
   F q x = Behaves (command f ≡ 0xB3) q v vcc m f x

@@ -28,7 +28,7 @@ use Rattle.radio_claims.specs.Claims.{errorLeaves, ErrorCallsLeave}
 use Rattle.radio_claims.proofs.Errors.{frame-leaves}
 
 -- the first byte of a reply stands first in the buffer
-first-byte : (x : ℕ) (b o : List ℕ) → 0 < length o → getD (bufferOf (body (x ∷ b)) o) 0 0 ≡ x
+pub first-byte : (x : ℕ) (b o : List ℕ) → 0 < length o → getD (bufferOf (body (x ∷ b)) o) 0 0 ≡ x
 unfolding bufferOf closedAt
 first-byte x b o h =
     let stored = sets o 0 (x ∷ b) in

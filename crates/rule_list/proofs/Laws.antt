@@ -1,7 +1,9 @@
 -- Laws of lists of rules. Assumes nothing.
 use mathlib.Core.Path.{_≡_, refl, sym, ap}
-use mathlib.Core.Bool.{Bool, true, false, _||_, false≢true}
-use mathlib.Core.List.{List, [], _∷_, _++_}
+use mathlib.Core.Bool.{Bool, true, false, not, _||_, false≢true}
+use mathlib.Core.List.{List, [], _∷_, _++_, map}
+use Prim.Native.Nat.{ℕ}
+use lib.Dec.{eqb}
 use Rattle.parts.specs.Pick.{pick}
 use Rattle.rule_list.specs.RuleList.{anyHolds, firstSays}
 
@@ -47,3 +49,45 @@ any-append holds (r ∷ rs) qs = either (holds r) (any-append holds rs qs)
         → (b || anyHolds holds (rs ++ qs)) ≡ pick (b || anyHolds holds rs) true (anyHolds holds qs)
     either true e = refl
     either false e = e
+
+-- what is made of what the first rule says
+pub says-through : {R A B : Type 0} (g : A → B) (holds : R → Bool) (says : R → A) (last : A) (rs : List R)
+    → g (firstSays holds says last rs) ≡ firstSays holds (λ r. g (says r)) (g last) rs
+unfolding firstSays pick
+says-through g holds says last [] = refl
+says-through g holds says last (r ∷ rs) = either (holds r) (says-through g holds says last rs)
+  where
+    either : (b : Bool) → g (firstSays holds says last rs) ≡ firstSays holds (λ q. g (says q)) (g last) rs
+        → g (pick b (says r) (firstSays holds says last rs)) ≡ pick b (g (says r)) (firstSays holds (λ q. g (says q)) (g last) rs)
+    either true e = refl
+    either false e = e
+
+-- numbered rules, 0 being no number: a list that goes on where no rule of its first part holds
+module _ {R : Type 0} (holds : R → Bool) (number : R → ℕ) (numbered : (r : R) → eqb (number r) 0 ≡ false) where
+  pub numbered-or : (last : ℕ) (rs : List R) → firstSays holds number last rs ≡ pick (eqb (firstSays holds number 0 rs) 0) last (firstSays holds number 0 rs)
+  unfolding firstSays pick
+  numbered-or last [] = refl
+  numbered-or last (r ∷ rs) = more (holds r) (numbered-or last rs)
+    where
+      more : (b : Bool) → firstSays holds number last rs ≡ pick (eqb (firstSays holds number 0 rs) 0) last (firstSays holds number 0 rs)
+          → pick b (number r) (firstSays holds number last rs)
+          ≡ pick (eqb (pick b (number r) (firstSays holds number 0 rs)) 0) last (pick b (number r) (firstSays holds number 0 rs))
+      more true e = rw (numbered r)
+      more false e = e
+
+  pub numbered-any : (rs : List R) → anyHolds holds rs ≡ not (eqb (firstSays holds number 0 rs) 0)
+  unfolding anyHolds firstSays pick
+  numbered-any [] = refl
+  numbered-any (r ∷ rs) = more (holds r) (numbered-any rs)
+    where
+      more : (b : Bool) → anyHolds holds rs ≡ not (eqb (firstSays holds number 0 rs) 0)
+          → (b || anyHolds holds rs) ≡ not (eqb (pick b (number r) (firstSays holds number 0 rs)) 0)
+      more true e = rw (numbered r)
+      more false e = e
+
+-- a list made of another
+pub says-map : {Q R A : Type 0} (g : Q → R) (holds : R → Bool) (says : R → A) (last : A) (qs : List Q)
+    → firstSays holds says last (map g qs) ≡ firstSays (λ q. holds (g q)) (λ q. says (g q)) last qs
+unfolding firstSays
+says-map g holds says last [] = refl
+says-map g holds says last (q ∷ qs) = ap (pick (holds (g q)) (says (g q))) (says-map g holds says last qs)

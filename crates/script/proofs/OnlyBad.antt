@@ -42,7 +42,7 @@ use Rattle.model.proofs.Kept.{keeps, fresh-fits}
 use Rattle.hex.specs.Hex.{allHex, hexByte, hexBytes}
 use Rattle.hex.proofs.HexLaws.{value-small}
 use Rattle.reading.specs.Line.{ScriptLine, badLine, signalLine, frameLine, longest, alone, level, byteSent, frameSent, tabbed, lineOf}
-use Rattle.printing.specs.Text.{badText, answerText, lineText}
+use Rattle.printing.specs.Text.{badText, lineText}
 use Rattle.bench_start.specs.Start.{nextLine, benchUid, benchStartOf}
 use Rattle.script.specs.Bench.{benchCall, lineResult, benchOf}
 use Rattle.script.specs.Lines.{BenchState, lineFrom, benchAfter, afterLines, beforeLines}
@@ -160,35 +160,35 @@ step-room t m c =
     judged-case P _ _ _ (λ r h. refl) (λ h. act-room (signalOfCall c) t m (c .buffer) (c .frame))
 
 -- ---- a call from a bench that fits
-module _ (c : BenchState) (f : BenchFit c) where
+module _ (named : Bool) (c : BenchState) (f : BenchFit c) where
   none-refuses : (code value : ℕ) (s : List ℕ) → signalInRange code value ≡ true → judgement (argumentRules (handedIn (c .reply) code value s)) ≡ NoRefusal
   unfolding NoneApplies
   none-refuses code value s h = no-refusal (argumentRules (handedIn (c .reply) code value s)) (le-ltb (length (c .reply)) replyBytes (f .room), (ap not h, tt))
 
   call-answers : (code value : ℕ) (s : List ℕ) → signalInRange code value ≡ true
-      → benchCall (c .bench) (c .memory) (c .reply) code value s .text ≡ lineText (nextLine (c .bench)) badText → ⊥
+      → benchCall named (c .bench) (c .memory) (c .reply) code value s .text ≡ lineText (nextLine (c .bench)) badText → ⊥
   call-answers code value s h e =
       let t = c .bench .tag in
       let call = handedIn (c .reply) code value s in
       let r = stepOf t (c .memory) call in
-      marked (r .answer) (r .reply)
+      marked (r .answer) (r .reply) _
       (ap (λ (x : StepResult). isRefused (x .answer)) (fit-acts t (c .memory) call (f .tag) (none-refuses code value s h))
       ∙ act-served (signalOfCall call) t (c .memory) (c .reply) s)
-      (same-answer (nextLine (c .bench)) (answerText (r .answer) (r .reply)) badText e)
+      (same-answer (nextLine (c .bench)) _ badText e)
 
-  said-answers : (x : ScriptLine) → Sane x → lineResult x (c .bench) (c .memory) (c .reply) .text ≡ lineText (nextLine (c .bench)) badText → x ≡ badLine
+  said-answers : (x : ScriptLine) → Sane x → lineResult named x (c .bench) (c .memory) (c .reply) .text ≡ lineText (nextLine (c .bench)) badText → x ≡ badLine
   unfolding lineResult sane
   said-answers badLine h e = refl
   said-answers (signalLine code value) h e = absurd (call-answers code value [] h e)
   said-answers (frameLine s) h e = absurd (call-answers 8 0 (closed s) frame-known e)
 
-  call-fits : (code value : ℕ) (s : List ℕ) → areBytes s ≡ true → BenchFit (benchAfter (benchCall (c .bench) (c .memory) (c .reply) code value s))
+  call-fits : (code value : ℕ) (s : List ℕ) → areBytes s ≡ true → BenchFit (benchAfter (benchCall named (c .bench) (c .memory) (c .reply) code value s))
   call-fits code value s h = record {
     tag = keeps (c .bench .tag) (c .memory) (handedIn (c .reply) code value s) h (f .tag);
     room = omega (arith, f .room, step-room (c .bench .tag) (c .memory) (handedIn (c .reply) code value s));
   }
 
-  said-fits : (x : ScriptLine) → Sane x → BenchFit (benchAfter (lineResult x (c .bench) (c .memory) (c .reply)))
+  said-fits : (x : ScriptLine) → Sane x → BenchFit (benchAfter (lineResult named x (c .bench) (c .memory) (c .reply)))
   unfolding lineResult sane areBytes
   said-fits badLine h = record { tag = f .tag; room = f .room }
   said-fits (signalLine code value) h = call-fits code value [] refl
@@ -206,16 +206,16 @@ start-fits m o l room =
 
 pub line-keeps-fit : LineKeepsFit
 unfolding benchOf
-line-keeps-fit c s f = said-fits c f (lineOf s) (line-sane s)
+line-keeps-fit named c s f = said-fits named c f (lineOf s) (line-sane s)
 
-lines-keep-fit : (ls : List (List ℕ)) (c : BenchState) → BenchFit c → BenchFit (afterLines c ls)
+lines-keep-fit : (named : Bool) (ls : List (List ℕ)) (c : BenchState) → BenchFit c → BenchFit (afterLines named c ls)
 unfolding afterLines
-lines-keep-fit [] c f = f
-lines-keep-fit (l ∷ ls) c f = lines-keep-fit ls (benchAfter (lineFrom c l)) (line-keeps-fit c l f)
+lines-keep-fit named [] c f = f
+lines-keep-fit named (l ∷ ls) c f = lines-keep-fit named ls (benchAfter (lineFrom named c l)) (line-keeps-fit named c l f)
 
 pub only-bad-refused : OnlyBadRefused
 unfolding benchOf lineResult
-only-bad-refused m o l room ls s =
-    let c = afterLines (beforeLines m o) ls in
-    let f = lines-keep-fit ls (beforeLines m o) (start-fits m o l room) in
-    (λ e. said-answers c f (lineOf s) (line-sane s) e, λ e. ap (λ (x : ScriptLine). lineResult x (c .bench) (c .memory) (c .reply)) e)
+only-bad-refused named m o l room ls s =
+    let c = afterLines named (beforeLines m o) ls in
+    let f = lines-keep-fit named ls (beforeLines m o) (start-fits m o l room) in
+    (λ e. said-answers named c f (lineOf s) (line-sane s) e, λ e. ap (λ (x : ScriptLine). lineResult named x (c .bench) (c .memory) (c .reply)) e)

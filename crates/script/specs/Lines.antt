@@ -1,4 +1,5 @@
 -- Lines, one after the other.
+use mathlib.Core.Bool.{Bool}
 use mathlib.Core.List.{List, [], _∷_}
 use Prim.Native.Nat.{ℕ}
 use Rattle.bench_start.specs.declared.Bench.{Bench}
@@ -15,17 +16,17 @@ abbrev pub benchState : Bench → List ℕ → List ℕ → BenchState
 benchState bench m o = record { bench = bench; memory = m; reply = o }
 
 -- the line s from there
-abbrev pub lineFrom : BenchState → List ℕ → LineResult
-lineFrom state s = benchOf (state .bench) (state .memory) (state .reply) s
+abbrev pub lineFrom : Bool → BenchState → List ℕ → LineResult
+lineFrom named state s = benchOf named (state .bench) (state .memory) (state .reply) s
 
 -- what it hands on to the next
 abbrev pub benchAfter : LineResult → BenchState
 benchAfter result = benchState (result .bench) (result .memory) (result .reply)
 
 -- lines, the first one first
-unfoldable pub afterLines : BenchState → List (List ℕ) → BenchState
-afterLines state [] = state
-afterLines state (s ∷ lines) = afterLines (benchAfter (lineFrom state s)) lines
+unfoldable pub afterLines : Bool → BenchState → List (List ℕ) → BenchState
+afterLines named state [] = state
+afterLines named state (s ∷ lines) = afterLines named (benchAfter (lineFrom named state s)) lines
 
 -- before line 1, with the lent memory m and the reply buffer o
 abbrev pub beforeLines : List ℕ → List ℕ → BenchState

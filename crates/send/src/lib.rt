@@ -1,10 +1,8 @@
-// A byte sent on the bus: the select, the address and the data bytes.
+// A byte sent on the bus: the select, the address, and by `data_byte` the data bytes.
 ghost use mathlib.Core.Path.{_≡_};
 ghost use mathlib.Core.Bool.{false};
 ghost use Rattle.bus.specs.declared.Bus.the-variants.{DataLeg};
-ghost use Rattle.select.specs.Select.{choose, address, firstOf};
-ghost use Rattle.write_reasons.specs.declared.WriteAsked.the-variants.{DataByte};
-ghost use Rattle.signal.specs.declared.WireAnswer.the-variants.{NoAck};
+ghost use Rattle.select.specs.Select.{choose, address};
 ghost use Rattle.signal.specs.Signal.{wireResult, sideLine};
 ghost use Rattle.send.specs.Send.{selectBy, sendAt};
 use bus::Bus;
@@ -14,7 +12,6 @@ use select::Choice;
 use signal::WireAnswer;
 use signal::WireOutcome;
 use tag::WireSide;
-use write_reasons::WriteAsked;
 
 // The first byte sent after a Start.
 fn select(kept: OpenTransfer, w: WireSide, m: &[u8], x: u8) -> WireOutcome
@@ -50,69 +47,6 @@ fn select(kept: OpenTransfer, w: WireSide, m: &[u8], x: u8) -> WireOutcome
     }
 }
 
-// What is asked about a data byte.
-fn asked_of(w: WireSide, space: Space, k: u16, spoiled: bool, x: u8) -> WriteAsked
-    ensures { λ r. ⌜ r ≡ DataByte (w .host .session) spoiled space (firstOf (w .host .counter) k) k x ⌝ }
-{
-    WriteAsked::DataByte {
-        session: w.host.session,
-        spoiled: spoiled,
-        space: space,
-        first: select::first_of(w.host.counter, k),
-        k: k,
-        x: x,
-    }
-}
-
-// A data byte: where the verdict allows it, it is Acked and taken into the page. A NoAck spoils the leg.
-fn send_data(
-    kept: OpenTransfer,
-    space: Space,
-    k: u16,
-    spoiled: bool,
-    w: WireSide,
-    m: &mut [u8],
-    x: u8,
-) -> WireOutcome
-    ensures { λ r. ⌜ wireResult (r .answer) (r .side) (now (m .exit)) ≡ sendAt (DataLeg kept space k spoiled) w (now (m .entry)) x ⌝ }
-{
-    let verdict = write_verdict::verdict(w.core, m, asked_of(w, space, k, spoiled, x));
-    if verdict.is_allowed() {
-        parts::put_in(m, tag::PAGE_AT, k as usize, x);
-        let next = bus::next_address(w.host.counter);
-        let count = k + 1;
-        let leg = Bus::DataLeg {
-            kept: kept,
-            space: space,
-            count: count,
-            spoiled: false,
-        };
-        return WireOutcome {
-            answer: WireAnswer::Ack,
-            side: signal::with_line(w, next, leg),
-        };
-    }
-    if spoiled {
-        return no_ack(w);
-    }
-    let leg = Bus::DataLeg {
-        kept: kept,
-        space: space,
-        count: k,
-        spoiled: true,
-    };
-    no_ack(signal::with_bus(w, leg))
-}
-
-fn no_ack(w: WireSide) -> WireOutcome
-    ensures { λ r. ⌜ r ≡ record { answer = NoAck; side = w } ⌝ }
-{
-    WireOutcome {
-        answer: WireAnswer::NoAck,
-        side: w,
-    }
-}
-
 // The second byte of an address.
 fn low_address(kept: OpenTransfer, space: Space, high: u8, w: WireSide, x: u8) -> WireSide
     ensures { λ r. ⌜ r ≡ sideLine (address high x) (DataLeg kept space 0 false) w ⌝ }
@@ -131,14 +65,14 @@ pub fn send_at(b: Bus, w: WireSide, m: &mut [u8], x: u8) -> WireOutcome
     ensures { λ r. ⌜ wireResult (r .answer) (r .side) (now (m .exit)) ≡ sendAt b w (now (m .entry)) x ⌝ }
 {
     match b {
-        Bus::Idle => no_ack(w),
+        Bus::Idle => data_byte::no_ack(w),
         Bus::Started(transfer) => select(bus::kept_of(transfer, w.core.registers.dynamic), w, m, x),
         Bus::ReadLeg {
             kept,
             space,
             over,
             last,
-        } => no_ack(w),
+        } => data_byte::no_ack(w),
         Bus::WriteLeg { kept, space } => WireOutcome {
             answer: WireAnswer::Ack,
             side: signal::with_bus(
@@ -159,6 +93,6 @@ pub fn send_at(b: Bus, w: WireSide, m: &mut [u8], x: u8) -> WireOutcome
             space,
             count,
             spoiled,
-        } => send_data(kept, space, count, spoiled, w, m, x),
+        } => data_byte::send_data(kept, space, count, spoiled, w, m, x),
     }
 }

@@ -10,7 +10,7 @@ use Rattle.register_types.specs.declared.RfMngt.{RfMngt}
 use Rattle.air.specs.declared.Air.{Air}
 use Rattle.keys.specs.declared.Uid.{Uid}
 use Rattle.air.specs.Radio.{isQuiet, isSelected}
-use Rattle.rule_list.specs.RuleList.{anyHolds}
+use Rattle.rule_list.specs.RuleList.{anyHolds, firstSays}
 use Rattle.commands.specs.Table.{selectCode, stayQuietCode}
 use Rattle.frame.specs.Fields.{command, inventoryFlag, selectFlag, addressFlag, isCustom, paramPlace, crcPlace, ownUid}
 
@@ -48,6 +48,20 @@ silenceHolds f a u dynamic neitherWhenQuiet = not (selectFlag f) && not (address
 -- "Select or Stay Quiet not addressed"
 silenceHolds f a u dynamic notAddressed = (eqb (command f) selectCode || eqb (command f) stayQuietCode) && not (addressFlag f)
 
+-- the number under which the rule is named in an explanation (docs/LIBRARY.md); 0 is no rule
+unfoldable pub silenceNumber : SilenceRule → ℕ
+silenceNumber noField = 21
+silenceNumber rfSleep = 22
+silenceNumber badSize = 23
+silenceNumber badCrc = 24
+silenceNumber inventorySet = 25
+silenceNumber bothFlags = 26
+silenceNumber otherMaker = 27
+silenceNumber otherUid = 28
+silenceNumber notSelected = 29
+silenceNumber neitherWhenQuiet = 30
+silenceNumber notAddressed = 31
+
 -- the rules that every frame meets first
 unfoldable pub receptionSilences : List SilenceRule
 receptionSilences = noField ∷ rfSleep ∷ badSize ∷ badCrc ∷ []
@@ -59,6 +73,10 @@ addressSilences = inventorySet ∷ bothFlags ∷ otherMaker ∷ otherUid ∷ not
 -- 01's list, in its order
 unfoldable pub requestSilences : List SilenceRule
 requestSilences = receptionSilences ++ addressSilences
+
+-- the number of the first that holds, or 0
+unfoldable pub firstSilence : List ℕ → Air → Uid → RfMngt → ℕ
+firstSilence f a u dynamic = firstSays (silenceHolds f a u dynamic) silenceNumber 0 requestSilences
 
 unfoldable pub isSilent : List ℕ → Air → Uid → RfMngt → Bool
 isSilent f a u dynamic = anyHolds (silenceHolds f a u dynamic) requestSilences

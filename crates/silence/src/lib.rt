@@ -1,7 +1,7 @@
 // The silence list: whether a frame gets no answer and changes nothing.
 ghost use mathlib.Core.Path.{_≡_};
-ghost use Rattle.rule_list.specs.RuleList.{anyHolds};
-ghost use Rattle.silence.specs.Silence.{makerDiffers, uidDiffers, silenceHolds, receptionSilences, addressSilences, isSilent};
+ghost use Rattle.rule_list.specs.RuleList.{firstSays};
+ghost use Rattle.silence.specs.Silence.{makerDiffers, uidDiffers, silenceHolds, silenceNumber, receptionSilences, addressSilences, firstSilence, isSilent};
 use air::Air;
 use keys::Uid;
 use register_types::RfMngt;
@@ -31,65 +31,73 @@ fn uid_differs(f: &[u8], u: Uid) -> bool
 }
 
 // The rules that every frame meets first. The CRC is computed only where the length is right.
-fn fails_reception(f: &[u8], a: Air, dynamic: RfMngt) -> bool
-    ensures { λ r. ⌜ ((u : Uid) → r ≡ anyHolds (silenceHolds (now (f .entry)) a u dynamic) receptionSilences) ⌝ }
+fn first_of_reception(f: &[u8], a: Air, dynamic: RfMngt) -> u8
+    ensures { λ r. ⌜ ((u : Uid) → r ≡ firstSays (silenceHolds (now (f .entry)) a u dynamic) silenceNumber 0 receptionSilences) ⌝ }
 {
     if !a.field {
-        return true;
+        return 21;
     }
     if dynamic.bits / 2 % 2 == 1 {
-        return true;
+        return 22;
     }
     if (f.len() < 4) | (270 < f.len()) {
-        return true;
+        return 23;
     }
     if !crc::is_good(f) {
-        return true;
+        return 24;
     }
-    false
+    0
 }
 
 // And then a request.
-fn fails_address(f: &[u8], a: Air, u: Uid) -> bool
-    ensures { λ r. ⌜ ((dynamic : RfMngt) → r ≡ anyHolds (silenceHolds (now (f .entry)) a u dynamic) addressSilences) ⌝ }
+fn first_of_address(f: &[u8], a: Air, u: Uid) -> u8
+    ensures { λ r. ⌜ ((dynamic : RfMngt) → r ≡ firstSays (silenceHolds (now (f .entry)) a u dynamic) silenceNumber 0 addressSilences) ⌝ }
 {
     let radio = a.radio;
     let flags = parts::byte_at(f, 0);
     let select = flags / 0x10 % 2 == 1;
     let address = flags / 0x20 % 2 == 1;
     if flags / 0x04 % 2 == 1 {
-        return true;
+        return 25;
     }
     if select & address {
-        return true;
+        return 26;
     }
     if maker_differs(f) {
-        return true;
+        return 27;
     }
     if uid_differs(f, u) {
-        return true;
+        return 28;
     }
     let selected = air::is_selected(radio);
     if select & !selected {
-        return true;
+        return 29;
     }
     let quiet = air::is_quiet(radio);
     if !select & !address & quiet {
-        return true;
+        return 30;
     }
     let c = frame::command(f);
     if ((c == commands::SELECT) | (c == commands::STAY_QUIET)) & !address {
-        return true;
+        return 31;
     }
-    false
+    0
+}
+
+// The number of the first rule that holds, or 0.
+pub fn first_silence(f: &[u8], a: Air, u: Uid, dynamic: RfMngt) -> u8
+    ensures { λ r. ⌜ r ≡ firstSilence (now (f .entry)) a u dynamic ⌝ }
+{
+    let rule = first_of_reception(f, a, dynamic);
+    if rule != 0 {
+        return rule;
+    }
+    first_of_address(f, a, u)
 }
 
 // The silence list, one rule after the other up to the first that holds.
 pub fn is_silent(f: &[u8], a: Air, u: Uid, dynamic: RfMngt) -> bool
     ensures { λ r. ⌜ r ≡ isSilent (now (f .entry)) a u dynamic ⌝ }
 {
-    if fails_reception(f, a, dynamic) {
-        return true;
-    }
-    fails_address(f, a, u)
+    first_silence(f, a, u, dynamic) != 0
 }

@@ -48,13 +48,13 @@ module _ (at : ℕ) (out t ys : List ℕ) (room : at + length t ≤ length out)
   put-drop : drop (at + length t) (putMid at (length out - at) out ys) ≡ drop (length t) (drop at out)
   put-drop = ap (drop (at + length t)) put-is ∙ drop-at (take at out ++ t) (drop (length t) (drop at out)) (at + length t) long
 
-same-ahead : (i j r q : ℕ) (x y : List ℕ) (c u : BenchState) (s v : List ℕ) → i ≡ j → r ≡ q → x ≡ y → c ≡ u → s ≡ v
-    → ahead i x (pieceBy r c [] s) ≡ ahead j y (pieceBy q u [] v)
-same-ahead i j r q x y c u s v ei er ex ec es = rw (ei, er, ex, ec, es)
+same-ahead : (named : Bool) (i j r q : ℕ) (x y : List ℕ) (c u : BenchState) (s v : List ℕ) → i ≡ j → r ≡ q → x ≡ y → c ≡ u → s ≡ v
+    → ahead i x (pieceBy named r c [] s) ≡ ahead j y (pieceBy named q u [] v)
+same-ahead named i j r q x y c u s v ei er ex ec es = rw (ei, er, ex, ec, es)
 
 -- ---- before each turn: what was used and written, and then what is left, is the whole call
-pub record Goes (c₀ : BenchState) (h₀ s out₀ : List ℕ) (c : BenchState) (kept out : List ℕ) (n from at end : ℕ) : Type 0 where
-  pub so-far : pieceBy (length out₀) c₀ h₀ s ≡ ahead from (take at out) (pieceBy (length out₀ - at) c (take n kept) (drop from s))
+pub record Goes (named : Bool) (c₀ : BenchState) (h₀ s out₀ : List ℕ) (c : BenchState) (kept out : List ℕ) (n from at end : ℕ) : Type 0 where
+  pub so-far : pieceBy named (length out₀) c₀ h₀ s ≡ ahead from (take at out) (pieceBy named (length out₀ - at) c (take n kept) (drop from s))
   pub rest : drop at out ≡ drop at out₀
   pub out-len : length out ≡ length out₀
   pub fits : at ≤ length out₀
@@ -62,10 +62,10 @@ pub record Goes (c₀ : BenchState) (h₀ s out₀ : List ℕ) (c : BenchState) 
   pub next : end ≡ from + lineLength (drop from s)
   pub within : end ≤ length s
 
-pub begins : (c : BenchState) (kept s out : List ℕ) (n end : ℕ) → n ≤ keptMost → end ≡ 0 + lineLength s → Goes c (take n kept) s out c kept out n 0 0 end
-begins c kept s out n end few e =
+pub begins : (named : Bool) (c : BenchState) (kept s out : List ℕ) (n end : ℕ) → n ≤ keptMost → end ≡ 0 + lineLength s → Goes named c (take n kept) s out c kept out n 0 0 end
+begins named c kept s out n end few e =
     let z : length out - 0 ≡ length out = omega arith in
-    let y : 0 + pieceBy (length out) c (take n kept) s .used ≡ pieceBy (length out) c (take n kept) s .used = omega arith in
+    let y : 0 + pieceBy named (length out) c (take n kept) s .used ≡ pieceBy named (length out) c (take n kept) s .used = omega arith in
     record {
       so-far = rw (z, y);
       rest = refl;
@@ -76,21 +76,21 @@ begins c kept s out n end few e =
       within = omega (arith, line-le s);
     }
 
-module _ (c₀ : BenchState) (h₀ s out₀ : List ℕ) (c : BenchState) (kept out : List ℕ) (n from at end : ℕ)
-    (g : Goes c₀ h₀ s out₀ c kept out n from at end) where
+module _ (named : Bool) (c₀ : BenchState) (h₀ s out₀ : List ℕ) (c : BenchState) (kept out : List ℕ) (n from at end : ℕ)
+    (g : Goes named c₀ h₀ s out₀ c kept out n from at end) where
   k : lineLength (drop from s) ≡ end - from
   k = omega (arith, g .next)
 
   -- a line: its text, by the call of end_line
-  pub turns : (b : Bench) (len : ℕ) (m′ o′ kept′ ys : List ℕ) (end′ : ℕ) → end < length s → 1304 ≤ length out - at
-      → lineBuffers b len m′ o′ ys ≡ putLine (lineFrom c (take n kept ++ take (end - from) (drop from s))) (take (length out - at) (drop at out))
-      → len ≤ 1304 → length ys ≡ length (take (length out - at) (drop at out))
+  pub turns : (b : Bench) (len : ℕ) (m′ o′ kept′ ys : List ℕ) (end′ : ℕ) → end < length s → 1342 ≤ length out - at
+      → lineBuffers b len m′ o′ ys ≡ putLine (lineFrom named c (take n kept ++ take (end - from) (drop from s))) (take (length out - at) (drop at out))
+      → len ≤ 1342 → length ys ≡ length (take (length out - at) (drop at out))
       → end′ ≡ end + 1 + lineLength (drop (end + 1) s)
-      → Goes c₀ h₀ s out₀ (benchState b m′ o′) kept′ (putMid at (length out - at) out ys) 0 (end + 1) (at + len) end′
+      → Goes named c₀ h₀ s out₀ (benchState b m′ o′) kept′ (putMid at (length out - at) out ys) 0 (end + 1) (at + len) end′
   turns b len m′ o′ kept′ ys end′ less room e short hy next =
       let h = take n kept in
       let d = drop from s in
-      let a = lineFrom c (h ++ take (end - from) d) in
+      let a = lineFrom named c (h ++ take (end - from) d) in
       let el : len ≡ length (a .text) = ap (λ (x : LineBuffers). x .length) e in
       let ey : ys ≡ sets (take (length out - at) (drop at out)) 0 (a .text) = ap (λ (x : LineBuffers). x .buffer) e in
       let es : benchAfter a ≡ benchState b m′ o′ = ap (λ (x : LineBuffers). benchState (x .bench) (x .memory) (x .reply)) (sym e) in
@@ -101,10 +101,10 @@ module _ (c₀ : BenchState) (h₀ s out₀ : List ℕ) (c : BenchState) (kept o
         so-far =
             g .so-far
             ∙ ap (ahead from (take at out))
-            (line-step d (length out₀ - at) c h (omega (arith, k, length-drop from s, g .next)) (omega (arith, g .out-len))
-            ∙ ap (λ (j : ℕ). lineAt (length out₀ - at) d j (lineFrom c (h ++ take j d))) k)
-            ∙ ahead-ahead from (suc (end - from)) (take at out) (a .text) (pieceBy (length out₀ - at - length (a .text)) (benchAfter a) [] (drop (suc (end - from)) d))
-            ∙ same-ahead (from + suc (end - from)) (end + 1) (length out₀ - at - length (a .text)) (length out₀ - (at + len))
+            (line-step named d (length out₀ - at) c h (omega (arith, k, length-drop from s, g .next)) (omega (arith, g .out-len))
+            ∙ ap (λ (j : ℕ). lineAt named (length out₀ - at) d j (lineFrom named c (h ++ take j d))) k)
+            ∙ ahead-ahead from (suc (end - from)) (take at out) (a .text) (pieceBy named (length out₀ - at - length (a .text)) (benchAfter a) [] (drop (suc (end - from)) d))
+            ∙ same-ahead named (from + suc (end - from)) (end + 1) (length out₀ - at - length (a .text)) (length out₀ - (at + len))
             (take at out ++ a .text) (take (at + len) (putMid at (length out - at) out ys)) (benchAfter a) (benchState b m′ o′) (drop (suc (end - from)) d) (drop (end + 1) s)
             i q
             (sym (ap (λ (j : ℕ). take (at + j) (putMid at (length out - at) out ys)) el ∙ put-take at out (a .text) ys r ey))
@@ -124,19 +124,19 @@ module _ (c₀ : BenchState) (h₀ s out₀ : List ℕ) (c : BenchState) (kept o
       }
 
   -- no line feed is left, or no room: what follows is kept
-  pub ends : (h : List ℕ) → (ltb end (length s) && leb 1304 (length out - at)) ≡ false
+  pub ends : (h : List ℕ) → (ltb end (length s) && leb 1342 (length out - at)) ≡ false
       → h ≡ keep (take n kept ++ take (end - from) (drop from s))
-      → streamBuffers (c .bench) (c .memory) (c .reply) h end at out ≡ puts (pieceBy (length out₀) c₀ h₀ s) out₀
+      → streamBuffers (c .bench) (c .memory) (c .reply) h end at out ≡ puts (pieceBy named (length out₀) c₀ h₀ s) out₀
   ends h stop e =
       let d = drop from s in
       let p = take at out in
       let lp : length p ≡ at = omega (arith, length-take at out, g .fits, g .out-len) in
       let i : from + lineLength d ≡ end = sym (g .next) in
-      let w : pieceBy (length out₀) c₀ h₀ s ≡ pieceResult c h end p =
+      let w : pieceBy named (length out₀) c₀ h₀ s ≡ pieceResult c h end p =
       g .so-far
       ∙ ap (ahead from p)
-      (stop-step d (length out₀ - at) c (take n kept) (omega (arith, length-take n kept, g .few))
-      (λ l. omega (arith, g .out-len, leb-false 1304 (length out - at) (second (ltb end (length s)) (leb 1304 (length out - at)) stop (lt-ltb end (length s) (omega (arith, g .next, length-drop from s)))))))
+      (stop-step named d (length out₀ - at) c (take n kept) (omega (arith, length-take n kept, g .few))
+      (λ l. omega (arith, g .out-len, leb-false 1342 (length out - at) (second (ltb end (length s)) (leb 1342 (length out - at)) stop (lt-ltb end (length s) (omega (arith, g .next, length-drop from s)))))))
       ∙ rw (i, append-nil p, k, ← e) in
       let same : sets out₀ 0 p ≡ out =
       sets-eq p out₀ 0 (omega (arith, g .fits))

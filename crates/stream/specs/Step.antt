@@ -1,4 +1,5 @@
 -- A call with a piece of the input: byte by byte, until the piece is used up or a line feed comes and its text might not fit.
+use mathlib.Core.Bool.{Bool}
 use mathlib.Core.List.{List, [], _∷_, _++_}
 use Prim.Native.Nat.{ℕ, _+_, _-_}
 use lib.Dec.{eqb, ltb}
@@ -25,24 +26,25 @@ ahead k text result = pieceResult (result .carried) (result .held) (k + result .
 
 -- no text is longer (script's claim TextFits)
 abbrev pub textRoom : ℕ
-textRoom = 1304
+textRoom = 1342
 
 -- a line feed comes and there is no room for its text: it is not used
 abbrev pub noRoom : BenchState → List ℕ → PieceResult
 noRoom state held = pieceResult state held 0 []
 
--- the piece s, after the unfinished line held, with room for so many bytes of text
-unfoldable pub pieceBy : ℕ → BenchState → List ℕ → List ℕ → PieceResult
-pieceBy room state held [] = pieceResult state held 0 []
-pieceBy room state held (x ∷ s) =
+-- the piece s, after the unfinished line held, with room for so many bytes of text; named: with the names of rules
+unfoldable pub pieceBy : Bool → ℕ → BenchState → List ℕ → List ℕ → PieceResult
+pieceBy named room state held [] = pieceResult state held 0 []
+pieceBy named room state held (x ∷ s) =
+    let result = lineFrom named state held in
     pick (eqb x 10)
     (pick (ltb room textRoom) (noRoom state held)
-    (ahead 1 (lineFrom state held .text) (pieceBy (room - size (lineFrom state held .text)) (benchAfter (lineFrom state held)) [] s)))
-    (ahead 1 [] (pieceBy room state (keep (held ++ x ∷ [])) s))
+    (ahead 1 (result .text) (pieceBy named (room - size (result .text)) (benchAfter result) [] s)))
+    (ahead 1 [] (pieceBy named room state (keep (held ++ x ∷ [])) s))
 
 -- the end of the input: an unfinished line that has a byte gets its line feed
-unfoldable pub endOf : ℕ → BenchState → List ℕ → PieceResult
-endOf room state held = pick (eqb (size held) 0) (pieceResult state [] 0 []) (pieceBy room state held (10 ∷ []))
+unfoldable pub endOf : Bool → ℕ → BenchState → List ℕ → PieceResult
+endOf named room state held = pick (eqb (size held) 0) (pieceResult state [] 0 []) (pieceBy named room state held (10 ∷ []))
 
 -- ---- what both functions leave of the lent buffers: the texts stand in `buffer` from place 0 on. Of the buffer for an unfinished
 -- line only the line is said: what stands past it is the program's own choice, and neither function reads it.

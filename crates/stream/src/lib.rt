@@ -35,6 +35,7 @@ fn line_from<'a>(kept: &'a [u8], n: usize, s: &'a [u8]) -> &'a [u8]
 
 // The unfinished line ends with the bytes s.
 fn end_line(
+    named: bool,
     bench: Bench,
     m: &mut [u8; 1024],
     reply: &mut [u8; 643],
@@ -45,18 +46,19 @@ fn end_line(
     text: &mut [u8],
 ) -> LineOutcome
     requires { ⌜ have ≤ keptMost ⌝ }
-    ensures { λ r. ⌜ lineBuffers (r .bench) (r .length) (now (m .exit)) (now (reply .exit)) (now (text .exit)) ≡ putLine (lineFrom (benchState bench (now (m .entry)) (now (reply .entry))) (take have (now (kept .entry)) ++ now (s .entry))) (now (text .entry)) ⌝ }
+    ensures { λ r. ⌜ lineBuffers (r .bench) (r .length) (now (m .exit)) (now (reply .exit)) (now (text .exit)) ≡ putLine (lineFrom named (benchState bench (now (m .entry)) (now (reply .entry))) (take have (now (kept .entry)) ++ now (s .entry))) (now (text .entry)) ⌝ }
     ensures { λ r. ⌜ r .length ≤ textRoom ⌝ }
 {
     let n = unfinished::join(kept, have, s);
-    script::line(bench, m, reply, frame, line_from(kept, n, s), text)
+    script::line(named, bench, m, reply, frame, line_from(kept, n, s), text)
 }
 
 // A piece of the input, after an unfinished line: the first `have` bytes of `kept` (all, where it has fewer). What stands
 // past them is neither read nor promised. The texts stand in `out` from place 0 on. It stops before a line feed where
-// `out` has no room for 1,304 bytes more: the caller writes what stands there and calls again with the rest of the
-// piece.
+// `out` has no room for 1,342 bytes more: the caller writes what stands there and calls again with the rest of the
+// piece. `named`: with the names of rules.
 pub fn step(
+    named: bool,
     bench: Bench,
     m: &mut [u8; 1024],
     reply: &mut [u8; 643],
@@ -65,7 +67,7 @@ pub fn step(
     s: &[u8],
     out: &mut [u8],
 ) -> StreamOutcome
-    ensures { λ r. ⌜ streamBuffers (r .bench) (now (m .exit)) (now (reply .exit)) (take (r .have) (now (kept .exit))) (r .used) (r .wrote) (now (out .exit)) ≡ puts (pieceBy (length (now (out .entry))) (benchState bench (now (m .entry)) (now (reply .entry))) (take have (now (kept .entry))) (now (s .entry))) (now (out .entry)) ⌝ }
+    ensures { λ r. ⌜ streamBuffers (r .bench) (now (m .exit)) (now (reply .exit)) (take (r .have) (now (kept .exit))) (r .used) (r .wrote) (now (out .exit)) ≡ puts (pieceBy named (length (now (out .entry))) (benchState bench (now (m .entry)) (now (reply .entry))) (take have (now (kept .entry))) (now (s .entry))) (now (out .entry)) ⌝ }
     ensures { λ r. ⌜ (r .used ≤ length (now (s .entry))) × (r .wrote ≤ length (now (out .entry))) ⌝ }
 {
     let mut frame = [0u8; 602];
@@ -74,8 +76,9 @@ pub fn step(
     let mut from = 0;
     let mut at = 0;
     let mut end = lines::line_end(s, 0);
-    while (end < s.len()) & (1304 <= out.len() - at) {
+    while (end < s.len()) & (1342 <= out.len() - at) {
         let o = end_line(
+            named,
             bench,
             m,
             reply,
@@ -102,6 +105,7 @@ pub fn step(
 
 // The end of the input: an unfinished line that has a byte gets its line feed.
 pub fn end(
+    named: bool,
     bench: Bench,
     m: &mut [u8; 1024],
     reply: &mut [u8; 643],
@@ -109,7 +113,7 @@ pub fn end(
     have: usize,
     out: &mut [u8],
 ) -> StreamOutcome
-    ensures { λ r. ⌜ streamBuffers (r .bench) (now (m .exit)) (now (reply .exit)) (take (r .have) (now (kept .exit))) (r .used) (r .wrote) (now (out .exit)) ≡ puts (endOf (length (now (out .entry))) (benchState bench (now (m .entry)) (now (reply .entry))) (take have (now (kept .entry)))) (now (out .entry)) ⌝ }
+    ensures { λ r. ⌜ streamBuffers (r .bench) (now (m .exit)) (now (reply .exit)) (take (r .have) (now (kept .exit))) (r .used) (r .wrote) (now (out .exit)) ≡ puts (endOf named (length (now (out .entry))) (benchState bench (now (m .entry)) (now (reply .entry))) (take have (now (kept .entry)))) (now (out .entry)) ⌝ }
     ensures { λ r. ⌜ r .wrote ≤ length (now (out .entry)) ⌝ }
 {
     let held = unfinished::kept_count(kept, have);
@@ -122,5 +126,5 @@ pub fn end(
         };
     }
     let feed = [b'\n'];
-    step(bench, m, reply, kept, held, &feed, out)
+    step(named, bench, m, reply, kept, held, &feed, out)
 }

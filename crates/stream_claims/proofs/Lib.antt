@@ -1,3 +1,4 @@
 pub mod Flow
 pub mod Claim
+pub mod Names
 pub mod Examples

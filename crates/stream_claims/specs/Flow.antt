@@ -21,13 +21,14 @@ flow state held text = record { carried = state; held = held; text = text }
 abbrev pub following : List ℕ → Flow → Flow
 following text rest = flow (rest .carried) (rest .held) (text ++ rest .text)
 
--- the bytes s after the unfinished line heldeld
-unfoldable pub flowOf : BenchState → List ℕ → List ℕ → Flow
-flowOf state held [] = flow state held []
-flowOf state held (x ∷ s) =
+-- the bytes s after the unfinished line held
+unfoldable pub flowOf : Bool → BenchState → List ℕ → List ℕ → Flow
+flowOf named state held [] = flow state held []
+flowOf named state held (x ∷ s) =
+    let result = lineFrom named state held in
     pick (eqb x 10)
-    (following (lineFrom state held .text) (flowOf (benchAfter (lineFrom state held)) [] s))
-    (flowOf state (keep (held ++ x ∷ [])) s)
+    (following (result .text) (flowOf named (benchAfter result) [] s))
+    (flowOf named state (keep (held ++ x ∷ [])) s)
 
 -- a program that goes on has come to what the rest carries, and to its unfinished line (what it wrote no contract can say)
 abbrev pub Reaches : Bool → BenchState → List ℕ → Flow → Type 0

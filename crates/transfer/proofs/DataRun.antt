@@ -24,7 +24,8 @@ use Rattle.rule.proofs.AckedByte.{acked-room}
 use Rattle.select.proofs.First.{first-next}
 use Rattle.signal.specs.declared.WireAnswer.the-variants.{Ack, NoAck}
 use Rattle.signal.specs.Signal.{wireResult, sideLine}
-use Rattle.send.specs.Send.{dataOf, sendAt}
+use Rattle.data_byte.specs.DataByte.{dataOf}
+use Rattle.send.specs.Send.{sendAt}
 use Rattle.wire.specs.Wire.{fetchAt, signalOf}
 use Rattle.transfer.specs.Legs.{NotedSend, NotedFetch, wireSignal, Move, moveSend, moveFetch}
 use Rattle.transfer.specs.Whole.{TransferResult, transferResult, before, bytesSent, replies, onward, accepted}

@@ -26,7 +26,8 @@ use Rattle.signal_table.specs.declared.WireSignal.the-variants.{Start as Signal
 use Rattle.signal.specs.declared.WireAnswer.the-variants.{Nothing}
 use Rattle.signal.specs.Signal.{WireResult, wireResult, sideBus, dueOf, startAt, startOf}
 use Rattle.signal.proofs.Ended.{start-host, stop-shut}
-use Rattle.send.specs.Send.{selectBy, dataOf, sendAt}
+use Rattle.data_byte.specs.DataByte.{dataOf}
+use Rattle.send.specs.Send.{selectBy, sendAt}
 use Rattle.wire.specs.Wire.{fetchAt, programmed, signalOf}
 use Rattle.wire_claims.proofs.Cases.{signal-case}
 use Rattle.transfer.specs.Legs.{Noted, NotedStart, NotedSend, NotedFetch, NotedStop, NotedVccOff, wireSignal, selectRefused, ends, fresher}

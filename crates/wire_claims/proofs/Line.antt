@@ -30,7 +30,8 @@ use Rattle.effect.specs.Effect.{LegResult}
 use Rattle.leg.specs.Leg.{Due, started, settle}
 use Rattle.signal.specs.Signal.{WireResult, sideBus, dueOf, startAt, startOf, stopAt}
 use Rattle.signal.proofs.Ended.{start-case, start-host, start-registers, stop-line, stop-shut}
-use Rattle.send.specs.Send.{selectBy, dataOf, sendAt}
+use Rattle.data_byte.specs.DataByte.{dataOf}
+use Rattle.send.specs.Send.{selectBy, sendAt}
 use Rattle.wire.specs.Wire.{fetchAt, signalOf}
 use Rattle.wire_claims.specs.Claims.{KeepsCounter, isStart, LengthStays, OthersStay, RegistersStay, OnlyAtStart, sideCounted, CountedStays}
 use Rattle.wire_claims.proofs.Cases.{signal-case}

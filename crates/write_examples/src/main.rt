@@ -179,7 +179,7 @@ fn put_said(text: &mut [u8], at: usize, said: WritePrint, s: &[u8]) -> usize {
         WritePrint::Bad => text::put_mark(text, at, b'?'),
         WritePrint::Done => text::put_mark(text, at, b'-'),
         WritePrint::Remark => put_line(text, at, s),
-        WritePrint::Verdict(verdict) => reason_names::put_verdict(text, at, verdict),
+        WritePrint::Verdict(verdict) => rule_names::put_verdict(text, at, verdict),
     }
 }
 

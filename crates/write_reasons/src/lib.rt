@@ -1,6 +1,6 @@
 // What is asked about a write, and the answer: allowed, or the rule that forbids it.
 ghost use mathlib.Core.Path.{_≡_};
-ghost use Rattle.write_reasons.specs.Reasons.{isAllowed};
+ghost use Rattle.write_reasons.specs.Reasons.{reasonNumber, isAllowed};
 use bus::Space;
 
 // The write that is asked about.
@@ -63,6 +63,31 @@ pub enum WriteReason {
     PasswordCode,
     EndaRule,
     PageFull,
+}
+
+impl WriteReason {
+    // Its place in that order, from 1: the number under which it is named.
+    pub fn number(self) -> u8
+        ensures { λ r. ⌜ r ≡ reasonNumber self ⌝ }
+    {
+        match self {
+            WriteReason::LegSpoiled => 1,
+            WriteReason::OutsideMap => 2,
+            WriteReason::MailboxModeOn => 3,
+            WriteReason::ModeOff => 4,
+            WriteReason::MailboxBusy => 5,
+            WriteReason::MailboxLegNotFrom2008 => 6,
+            WriteReason::AnotherArea => 7,
+            WriteReason::LockedBlock => 8,
+            WriteReason::AreaNeverWritable => 9,
+            WriteReason::ConfigurationLocked => 10,
+            WriteReason::SessionNeeded(_) => 11,
+            WriteReason::RegisterReadOnly => 12,
+            WriteReason::PasswordCode => 13,
+            WriteReason::EndaRule => 14,
+            WriteReason::PageFull => 15,
+        }
+    }
 }
 
 pub enum WriteVerdict {

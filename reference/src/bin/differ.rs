@@ -2,8 +2,10 @@
 //!
 //!     differ BENCH FIRST_SEED COUNT [LINES]    scripts of so many lines, 2,000 if not given, each at once
 //!     differ BENCH FIRST_SEED COUNT pieces     scripts with long lines, fed through a pipe in pieces
+//!     differ EXPLAIN FIRST_SEED COUNT explain  both, on a program that explains
 //!
-//! A difference is cut to a short script, printed with both outputs, and ends the run with 1.
+//! A difference is cut to a short script, printed with both outputs, and ends the run with 1. So does a rule that a
+//! script can bring about and that no line was named by, in a run that explains and has lines enough.
 
 use std::collections::BTreeMap;
 use std::io::{stdout, Result, Write};
@@ -11,10 +13,12 @@ use std::process::exit;
 
 use reference::bench;
 use reference::dice::Dice;
+use reference::explain::Rule;
 use reference::feed::{run_program, Output};
+use reference::names::{in_scripts, Names, ENOUGH};
 use reference::outcome::{self, Outcome};
 use reference::pieces::{pieces, Style, STYLES};
-use reference::script::{long_script, script, text, Line, Script};
+use reference::script::{crowded_script, long_script, script, text, Line, Script};
 
 const LINES: usize = 2000;
 const COMMANDS: [&str; 18] = [
@@ -22,22 +26,38 @@ const COMMANDS: [&str; 18] = [
     "B1", "B3",
 ];
 
-fn run_reference(script: &[u8]) -> Result<Output> {
-    let mut output = Vec::new();
-    bench::run(script, &mut output)?;
-    Ok(Output::new(&output, true))
+/// The reference's output, and the rules that it names.
+fn run_reference(script: &[u8], explains: bool) -> Result<(Output, Vec<Rule>)> {
+    let (mut output, mut rules) = (Vec::new(), Vec::new());
+    if explains {
+        bench::run_explaining(script, &mut output, |rule| rules.push(rule))?;
+    } else {
+        bench::run(script, &mut output)?;
+    }
+    Ok((Output::new(&output, true), rules))
 }
 
-/// What was answered, by kind, and by command for frames.
-#[derive(Default)]
+/// What was answered, by kind, and by command for frames; what was named.
 struct Tally {
     lines: u64,
     pieces: u64,
     kinds: BTreeMap<String, u64>,
     commands: BTreeMap<String, BTreeMap<String, u64>>,
+    names: Names,
 }
 
 impl Tally {
+    fn new() -> Tally {
+        Tally {
+            lines: 0,
+            pieces: 0,
+            kinds: BTreeMap::new(),
+            commands: BTreeMap::new(),
+            names: Names::none(),
+        }
+    }
+
+    /// An answer without a name.
     fn add(&mut self, line: &[u8], answer: &[u8]) {
         let kind = match (line, answer) {
             (_, b"-" | b"?" | b"A" | b"N") => String::from_utf8_lossy(answer).into_owned(),
@@ -53,10 +73,14 @@ impl Tally {
         *self.kinds.entry(kind).or_default() += 1;
     }
 
-    fn add_all(&mut self, lines: &[Line], outcome: &Outcome) {
+    fn add_all(&mut self, lines: &[Line], outcome: &Outcome, rules: &[Rule]) {
         self.pieces += outcome.pieces;
         for (line, answer) in outcome.answers(lines) {
-            self.add(line, answer);
+            let tab = answer.iter().position(|&byte| byte == b'\t');
+            self.add(line, &answer[..tab.unwrap_or(answer.len())]);
+        }
+        for rule in rules {
+            self.names.add(rule.number());
         }
     }
 
@@ -96,20 +120,27 @@ fn command(line: &[u8]) -> Option<String> {
     Some(known.unwrap_or(&"other").to_string())
 }
 
-/// A seed's script and how it is fed.
+/// A seed's script, how it is fed, and whether the program explains.
 struct Trial {
     seed: u64,
     script: Script,
     style: Option<Style>,
+    explains: bool,
 }
 
 impl Trial {
-    fn whole(seed: u64, size: usize) -> Trial {
+    /// Fed at once.
+    fn new(seed: u64, script: Script) -> Trial {
         Trial {
             seed,
-            script: script(seed, size),
+            script,
             style: None,
+            explains: false,
         }
+    }
+
+    fn whole(seed: u64, size: usize) -> Trial {
+        Trial::new(seed, script(seed, size))
     }
 
     /// Over a thousand pieces, but for a style of large ones.
@@ -122,28 +153,41 @@ impl Trial {
             _ => 1200,
         };
         Trial {
-            seed,
-            script: long_script(seed, size),
             style: Some(style),
+            ..Trial::new(seed, long_script(seed, size))
         }
     }
 
-    /// Some lines of the script on the program and on the reference, which gets them at once.
-    fn run(&self, program: &str, lines: &[Line]) -> Result<Outcome> {
+    /// A few in pieces, a few with line numbers of six digits or without any line.
+    fn explaining(seed: u64) -> Trial {
+        let trial = match seed % 1000 {
+            15 => Trial::whole(seed, 0),
+            31 => Trial::whole(seed, 100_000),
+            place if place % 16 == 15 => Trial::in_pieces(seed),
+            _ => Trial::new(seed, crowded_script(seed, LINES)),
+        };
+        Trial {
+            explains: true,
+            ..trial
+        }
+    }
+
+    /// Some lines of the script on the program and on the reference, which gets them at once; the
+    /// rules that the reference names.
+    fn run(&self, program: &str, lines: &[Line]) -> Result<(Outcome, Vec<Rule>)> {
         let input = text(lines, self.script.ended);
         let mut dice = Dice::new(!self.seed);
         let lengths = self.style.map(|style| pieces(&mut dice, style, &input));
-        Ok(Outcome {
-            one: run_program(program, &input, lengths.as_deref())?,
-            two: run_reference(&input)?,
-            pieces: lengths.map_or(0, |lengths| lengths.len() as u64),
-        })
+        let one = run_program(program, &input, lengths.as_deref())?;
+        let (two, rules) = run_reference(&input, self.explains)?;
+        let pieces = lengths.map_or(0, |lengths| lengths.len() as u64);
+        Ok((Outcome { one, two, pieces }, rules))
     }
 }
 
 /// The difference, and how the script differs from its lines.
 fn report(program: &str, trial: &Trial, outcome: &Outcome, place: usize) -> Result<()> {
-    let run = |lines: &[Line]| trial.run(program, lines);
+    let run = |lines: &[Line]| Ok(trial.run(program, lines)?.0);
     outcome::report(trial.seed, &trial.script.lines, outcome, place, run)?;
     let mut out = stdout().lock();
     if !trial.script.ended {
@@ -155,22 +199,42 @@ fn report(program: &str, trial: &Trial, outcome: &Outcome, place: usize) -> Resu
     out.flush()
 }
 
-/// True when no seed shows a difference.
-fn compare(program: &str, first: u64, count: u64, trial: impl Fn(u64) -> Trial) -> Result<bool> {
-    let mut tally = Tally::default();
+/// What was compared, if no seed shows a difference.
+fn compare(
+    program: &str,
+    first: u64,
+    count: u64,
+    trial: impl Fn(u64) -> Trial,
+) -> Result<Option<Tally>> {
+    let mut tally = Tally::new();
     for seed in first..first.saturating_add(count) {
         let trial = trial(seed);
-        let outcome = trial.run(program, &trial.script.lines)?;
+        let (outcome, rules) = trial.run(program, &trial.script.lines)?;
         if let Some(place) = outcome.first_difference() {
             report(program, &trial, &outcome, place)?;
-            return Ok(false);
+            return Ok(None);
         }
-        tally.add_all(&trial.script.lines, &outcome);
+        tally.add_all(&trial.script.lines, &outcome, &rules);
     }
     let mut out = stdout().lock();
     writeln!(out, "{count} seeds from {first}: no difference")?;
     tally.print(&mut out)?;
-    Ok(true)
+    Ok(Some(tally))
+}
+
+/// True when no seed shows a difference.
+fn agree(program: &str, first: u64, count: u64, trial: impl Fn(u64) -> Trial) -> Result<bool> {
+    Ok(compare(program, first, count, trial)?.is_some())
+}
+
+/// True when no seed shows a difference and no name is missing.
+fn agree_explaining(program: &str, first: u64, count: u64) -> Result<bool> {
+    let Some(tally) = compare(program, first, count, Trial::explaining)? else {
+        return Ok(false);
+    };
+    let mut out = stdout().lock();
+    tally.names.print(&mut out, in_scripts)?;
+    Ok(tally.names.complete(&mut out, in_scripts)? || tally.lines < ENOUGH)
 }
 
 fn main() {
@@ -184,15 +248,16 @@ fn main() {
     let (Ok(first), Ok(count)) = (first.parse(), count.parse()) else {
         usage();
     };
-    let agree = match how {
-        Some("pieces") => compare(program, first, count, Trial::in_pieces),
-        None => compare(program, first, count, |seed| Trial::whole(seed, LINES)),
+    let agreed = match how {
+        Some("pieces") => agree(program, first, count, Trial::in_pieces),
+        Some("explain") => agree_explaining(program, first, count),
+        None => agree(program, first, count, |seed| Trial::whole(seed, LINES)),
         Some(size) => match size.parse() {
-            Ok(size) => compare(program, first, count, |seed| Trial::whole(seed, size)),
+            Ok(size) => agree(program, first, count, |seed| Trial::whole(seed, size)),
             Err(_) => usage(),
         },
     };
-    match agree {
+    match agreed {
         Ok(true) => {}
         Ok(false) => exit(1),
         Err(error) => {
@@ -203,6 +268,6 @@ fn main() {
 }
 
 fn usage() -> ! {
-    eprintln!("differ BENCH FIRST_SEED COUNT [LINES | pieces]");
+    eprintln!("differ PROGRAM FIRST_SEED COUNT [LINES | pieces | explain]");
     exit(2)
 }

@@ -1,12 +1,15 @@
-//! Runs seeded calls on the proved library and on the reference, and compares the answer and every lent byte.
+//! Runs seeded calls on the proved library and on the reference, and compares the answer and every lent byte. Before
+//! each it asks both which rule gives the call's NoAck, error or silence.
 //!
 //!     library_differ FIRST_SEED COUNT [LINES]
 //!
 //! The calls are those of the seed's script, and between them calls with another state, memory, buffer length,
-//! code or value, or with two faults and more at once; a changed state that is taken is often gone on from. A
-//! difference is one call with its state, so it is printed whole, and ends the run with 1.
+//! code, value or frame, or with two faults and more at once; a changed state that is taken is often gone on from. A
+//! difference is one call with its state, so it is printed whole, and ends the run with 1. So does a rule that a call
+//! can bring about and that explained none, if there were calls enough.
 
 use std::collections::BTreeMap;
+use std::io::{stdout, Result};
 use std::process::exit;
 
 use reference::bench::{read_line, LONGEST_FRAME, UID};
@@ -14,6 +17,7 @@ use reference::dice::Dice;
 use reference::faults::{
     change, chosen, kept, make, other_length, several, Call, Fault, Kept, Lent, OF_FRESH,
 };
+use reference::names::{in_calls, Names, ENOUGH};
 use reference::script::script;
 use reference::state::{at, STATE_SIZE};
 use reference::tag::{MEMORY_SIZE, REPLY_SIZE};
@@ -21,17 +25,30 @@ use reference::{library, state};
 
 const LINES: usize = 2000;
 
-/// The answers by kind, the calls that had both of two faults, and those with another kept RF_MNGT_Dyn.
-#[derive(Default)]
+/// The answers by kind, the calls that had both of two faults, those with another kept RF_MNGT_Dyn, and those that a
+/// rule explains.
 struct Tally {
     kinds: BTreeMap<String, u64>,
     pairs: BTreeMap<(u32, u32), u64>,
     kept: BTreeMap<(Kept, String), u64>,
+    names: Names,
 }
 
 impl Tally {
-    fn add(&mut self, answer: u32, faults: &[Fault]) {
+    fn new() -> Tally {
+        Tally {
+            kinds: BTreeMap::new(),
+            pairs: BTreeMap::new(),
+            kept: BTreeMap::new(),
+            names: Names::none(),
+        }
+    }
+
+    fn add(&mut self, answer: u32, explained: u32, faults: &[Fault]) {
         *self.kinds.entry(kind(answer)).or_default() += 1;
+        if explained > 0x100 {
+            self.names.add(explained - 0x100);
+        }
         for (place, one) in faults.iter().enumerate() {
             for two in &faults[place + 1..] {
                 let pair = (one.number(), two.number());
@@ -52,7 +69,12 @@ impl Tally {
         }
     }
 
-    fn print(&self) {
+    fn calls(&self) -> u64 {
+        self.kinds.values().sum()
+    }
+
+    /// True if no rule is missing, or the calls were too few for all.
+    fn print(&self) -> Result<bool> {
         let kinds = self.kinds.iter().map(|(k, n)| format!("{k} {n}"));
         println!("  {}", kinds.collect::<Vec<_>>().join(", "));
         let pairs = self.pairs.iter();
@@ -61,6 +83,9 @@ impl Tally {
         let kept = self.kept.iter();
         let kept = kept.map(|((kept, answer), n)| format!("{kept:?} {answer} {n}"));
         println!("  kept byte: {}", kept.collect::<Vec<_>>().join(", "));
+        let mut out = stdout().lock();
+        self.names.print(&mut out, in_calls)?;
+        Ok(self.names.complete(&mut out, in_calls)? || self.calls() < ENOUGH)
     }
 }
 
@@ -83,35 +108,53 @@ fn print_bytes(name: &str, before: &[u8], one: &[u8], two: &[u8]) {
     println!("{name} reference: {}", hex(two));
 }
 
-/// One call on both; the answer and what is lent after it, or nothing where they differ.
-fn both(before: &Lent, call: &Call) -> Option<(u32, Lent)> {
+/// What a call gave: its answer, what explained it before, and what is lent after it.
+struct Done {
+    answer: u32,
+    explained: u32,
+    lent: Lent,
+}
+
+/// One call on both, explained before; nothing where they differ.
+fn both(before: &Lent, call: &Call) -> Option<Done> {
     let (mut one, mut two) = (before.clone(), before.clone());
     let (code, value, frame) = (call.code, call.value, &call.frame);
-    let a = library::step(
-        &mut one.state,
-        &mut one.memory,
-        &mut one.reply,
-        code,
-        value,
-        frame,
-    );
-    let b = state::step(
-        &mut two.state,
-        &mut two.memory,
-        &mut two.reply,
-        code,
-        value,
-        frame,
-    );
-    if a == b && one == two {
-        return Some((a, one));
+    let (s, m, r) = (&mut one.state, &mut one.memory, &mut one.reply);
+    let a = library::explain(s, m, r, code, value, frame);
+    let b = state::explain(&two.state, &two.memory, &two.reply, code, value, frame);
+    if a != b || one != two {
+        print_difference("explains by", (a, b), call, before, (&one, &two));
+        return None;
     }
-    println!("code {code:#X} value {value:#X} frame {}", hex(frame));
-    println!("library answers {a:#X}, reference {b:#X}");
+    let explained = a;
+    let (s, m, r) = (&mut one.state, &mut one.memory, &mut one.reply);
+    let a = library::step(s, m, r, code, value, frame);
+    let (s, m, r) = (&mut two.state, &mut two.memory, &mut two.reply);
+    let b = state::step(s, m, r, code, value, frame);
+    if a != b || one != two {
+        print_difference("answers", (a, b), call, before, (&one, &two));
+        return None;
+    }
+    Some(Done {
+        answer: a,
+        explained,
+        lent: one,
+    })
+}
+
+fn print_difference(
+    verb: &str,
+    (a, b): (u32, u32),
+    call: &Call,
+    before: &Lent,
+    (one, two): (&Lent, &Lent),
+) {
+    let (code, value, frame) = (call.code, call.value, hex(&call.frame));
+    println!("code {code:#X} value {value:#X} frame {frame}");
+    println!("library {verb} {a:#X}, reference {b:#X}");
     print_bytes("state", &before.state, &one.state, &two.state);
     print_bytes("memory", &before.memory, &one.memory, &two.memory);
     print_bytes("reply", &before.reply, &one.reply, &two.reply);
-    None
 }
 
 /// A fresh tag by both, with the faults that are named; the memory and state after it.
@@ -168,11 +211,11 @@ fn wrong_call(dice: &mut Dice, lent: &Lent, call: &Call, tally: &mut Tally) -> O
     } else {
         change(dice, &mut other, &mut call);
     }
-    let (answer, next) = both(&other, &call)?;
-    tally.add(answer, &faults);
-    tally.add_kept(&lent.state, &other.state, answer);
-    let taken = answer >= 0x100 && next.reply.len() == REPLY_SIZE && dice.one_in(2);
-    Some(if taken { next } else { lent.clone() })
+    let done = both(&other, &call)?;
+    tally.add(done.answer, done.explained, &faults);
+    tally.add_kept(&lent.state, &other.state, done.answer);
+    let taken = done.answer >= 0x100 && done.lent.reply.len() == REPLY_SIZE && dice.one_in(2);
+    Some(if taken { done.lent } else { lent.clone() })
 }
 
 /// Nothing where the seed shows a difference.
@@ -189,9 +232,9 @@ fn run(seed: u64, size: usize, tally: &mut Tally) -> Option<()> {
             value: u32::from(signal.value),
             frame: signal.frame.to_vec(),
         };
-        let (answer, next) = both(&lent, &call)?;
-        tally.add(answer, &[]);
-        lent = next;
+        let done = both(&lent, &call)?;
+        tally.add(done.answer, done.explained, &[]);
+        lent = done.lent;
         if dice.one_in(3) {
             lent = wrong_call(&mut dice, &lent, &call, tally)?;
         }
@@ -212,14 +255,21 @@ fn main() {
             exit(2);
         }
     };
-    let mut tally = Tally::default();
+    let mut tally = Tally::new();
     for seed in first..first.saturating_add(count) {
         if run(seed, size, &mut tally).is_none() {
             println!("seed {seed} differs");
             exit(1);
         }
     }
-    let calls: u64 = tally.kinds.values().sum();
+    let calls = tally.calls();
     println!("{count} seeds from {first}: {calls} calls, no difference");
-    tally.print();
+    match tally.print() {
+        Ok(true) => {}
+        Ok(false) => exit(1),
+        Err(error) => {
+            eprintln!("library_differ: {error}");
+            exit(2);
+        }
+    }
 }

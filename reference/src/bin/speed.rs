@@ -1,11 +1,12 @@
 //! Times of the proved model beside the reference's, on the same inputs and in one run.
 //!
-//!     speed BENCH REFERENCE FOLDER [ROUNDS]
+//!     speed BENCH EXPLAIN REFERENCE FOLDER [ROUNDS]
 //!
 //! Prints a line for each routine of each case, tab-parted: group, case, length, routine, ns, ratio. The ratio is
 //! the time of the case's first routine, the proved one, by this one's. In a round each routine of a case runs
 //! once, in turns, for some milliseconds; a time is the least over the rounds, so that other work on the machine
-//! counts little. BENCH and REFERENCE are the two bench programs, FOLDER takes their scripts.
+//! counts little. BENCH and REFERENCE are the two bench programs, EXPLAIN is the proved one that names rules (the
+//! reference explains with the word `explain`), FOLDER takes their scripts.
 
 use std::fs::{self, File};
 use std::hint::black_box;
@@ -394,9 +395,10 @@ fn random_lines() -> Vec<Line> {
         .collect()
 }
 
-fn run(program: &str, script: &Path) -> Result<f64> {
+fn run(program: &[&str], script: &Path) -> Result<f64> {
     let start = Instant::now();
-    let status = Command::new(program)
+    let status = Command::new(program[0])
+        .args(&program[1..])
         .stdin(File::open(script)?)
         .stdout(Stdio::null())
         .status()?;
@@ -404,19 +406,20 @@ fn run(program: &str, script: &Path) -> Result<f64> {
     Ok(start.elapsed().as_nanos() as f64)
 }
 
-fn programs(bench: &str, reference: &str, folder: &Path) -> Result<()> {
+fn programs(bench: &str, explain: &str, reference: &str, folder: &Path) -> Result<()> {
     let all = [
         ("short lines", short_lines()),
         ("transfers of 256 bytes", transfer_lines()),
         ("random scripts", random_lines()),
     ];
+    let programs: [&[&str]; 4] = [&[bench], &[reference], &[explain], &[reference, "explain"]];
     for (name, lines) in all {
         let script = folder.join(format!("{}.tsv", name.replace(' ', "_")));
         fs::write(&script, text(&lines, true))?;
-        let mut times = [Vec::new(), Vec::new()];
+        let mut times = [const { Vec::new() }; 4];
         for _ in 0..PROGRAM_ROUNDS {
-            for (place, program) in [bench, reference].into_iter().enumerate() {
-                times[place].push(run(program, &script)? / lines.len() as f64);
+            for (own, program) in times.iter_mut().zip(programs) {
+                own.push(run(program, &script)? / lines.len() as f64);
             }
         }
         let case = Case {
@@ -424,15 +427,16 @@ fn programs(bench: &str, reference: &str, folder: &Path) -> Result<()> {
             name: name.to_string(),
             length: lines.len(),
         };
-        print(&case, &["proved", "reference"], &times);
+        let names = ["proved", "reference", "explain", "reference explain"];
+        print(&case, &names, &times);
     }
     Ok(())
 }
 
 fn main() -> Result<()> {
     let arguments: Vec<String> = std::env::args().skip(1).collect();
-    let [bench, reference, folder, rest @ ..] = &arguments[..] else {
-        eprintln!("speed BENCH REFERENCE FOLDER [ROUNDS]");
+    let [bench, explain, reference, folder, rest @ ..] = &arguments[..] else {
+        eprintln!("speed BENCH EXPLAIN REFERENCE FOLDER [ROUNDS]");
         exit(2);
     };
     let rounds = rest.first().and_then(|word| word.parse().ok());
@@ -440,5 +444,5 @@ fn main() -> Result<()> {
     println!("group\tcase\tlength\troutine\tns\tratio");
     crcs(rounds);
     all_calls(rounds);
-    programs(bench, reference, Path::new(folder))
+    programs(bench, explain, reference, Path::new(folder))
 }

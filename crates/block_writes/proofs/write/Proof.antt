@@ -5,8 +5,10 @@ use Rattle.reply.proofs.Finish.{said}
 use Rattle.block_writes.specs.Writes.{writeOf}
 use mathlib.Core.Path.{sym, _∙_}
 use mathlib.Core.List.{[]}
+use Prim.Native.Nat.{_+_}
 use native.Mathlib.Omega.{arith}
 use Rattle.block_writes.proofs.Inside.{inside}
+use Rattle.block_writes.proofs.ByVerdict.{writes-by-verdict}
 use borrow.Author.Needs.{needs}
 use Rattle.block_writes.proofs.write.Statement.{statement}
 use Rattle.block_writes.proofs.write.Tie as tie
@@ -61,14 +63,8 @@ returns-3 c =
     said (writeOf (a .v) (a .m .now) (a .first) (a .more) (a .frame .now) (a .at)) _ (fault WriteLeavesArea) (call .error3 .ensures)
     (rw (← after-leaves-area .leaves-area .ensures) (search picks depth 20))
 
-add-may-write-all : tie.Need-add-may-write-all
-add-may-write-all c = search needs
-
-may-write-all-requires : tie.Need-may-write-all-requires
-may-write-all-requires c κs =
-    let after-leaves-area : tie.After-leaves-area = search needs in
-    let else3 : tie.Else3 = search needs in
-    omega (arith, inside _ _ _ (sym (after-leaves-area .leaves-area .ensures) ∙ else3 .if3 .left))
+all-allowed-requires : tie.Need-all-allowed-requires
+all-allowed-requires c κs = search needs
 
 error-requires-4 : tie.Need-error-requires-4
 error-requires-4 c κs = search needs
@@ -84,11 +80,14 @@ unfolding writeOf
 returns-4 c =
     let start : tie.Start = search needs in
     let after-leaves-area : tie.After-leaves-area = search needs in
-    let after-may-write-all : tie.After-may-write-all = search needs in
+    let after-all-allowed : tie.After-all-allowed = search needs in
     let call = c .before .before in
     let a = start .args in
+    let else3 : tie.Else3 = search needs in
+    let within = inside _ _ _ (sym (after-leaves-area .leaves-area .ensures) ∙ else3 .if3 .left) in
+    let may = writes-by-verdict (a .v .core) (a .v .air .session) (a .first) (a .more + 1) (omega (arith, within)) ∙ sym (after-all-allowed .all-allowed .ensures) in
     said (writeOf (a .v) (a .m .now) (a .first) (a .more) (a .frame .now) (a .at)) _ (fault WriteForbidden) (call .error4 .ensures)
-    (rw (← after-leaves-area .leaves-area .ensures, ← after-may-write-all .may-write-all .ensures) (search picks depth 20))
+    (rw (← after-leaves-area .leaves-area .ensures, may) (search picks depth 20))
 
 mul-put-bytes : tie.Need-mul-put-bytes
 mul-put-bytes c = search needs
@@ -117,11 +116,14 @@ returns-5 c =
     let start : tie.Start = search needs in
     let after-put-bytes : tie.After-put-bytes = search needs in
     let after-leaves-area : tie.After-leaves-area = search needs in
-    let after-may-write-all : tie.After-may-write-all = search needs in
+    let after-all-allowed : tie.After-all-allowed = search needs in
     let call = c .before .before in
     let a = start .args in
+    let else3 : tie.Else3 = search needs in
+    let within = inside _ _ _ (sym (after-leaves-area .leaves-area .ensures) ∙ else3 .if3 .left) in
+    let may = writes-by-verdict (a .v .core) (a .v .air .session) (a .first) (a .more + 1) (omega (arith, within)) ∙ sym (after-all-allowed .all-allowed .ensures) in
     said (writeOf (a .v) (a .m .now) (a .first) (a .more) (a .frame .now) (a .at)) _ (good []) (call .done .ensures)
-    (rw (after-put-bytes .put-bytes .ensures, ← after-leaves-area .leaves-area .ensures, ← after-may-write-all .may-write-all .ensures) (search picks depth 20))
+    (rw (after-put-bytes .put-bytes .ensures, ← after-leaves-area .leaves-area .ensures, may) (search picks depth 20))
 
 pub write-spec : {M : Type 1} → statement M
 write-spec =
@@ -138,8 +140,7 @@ write-spec =
     error-requires-3
     same-length-3
     returns-3
-    add-may-write-all
-    may-write-all-requires
+    all-allowed-requires
     error-requires-4
     same-length-4
     same-length-5

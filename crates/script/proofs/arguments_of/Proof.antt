@@ -1,17 +1,16 @@
 use native.Mathlib.Omega.{arith}
-use mathlib.Core.Path.{_≡_, refl, sym, ap, _∙_}
-use mathlib.Core.List.{List, []}
+use mathlib.Core.Path.{_≡_, sym, ap, _∙_}
+use mathlib.Core.List.{List}
 use Prim.Native.Nat.{ℕ, _-_}
 use lib.ListN.{length, take, drop, length-drop}
 use lib.Seq.{sets, take-all}
+use Rattle.parts.specs.Pick.{pick}
 use Rattle.crc.specs.Crc.{closed}
 use Rattle.script.specs.Bench.{benchCall, lineResult, closedFrame, benchOf}
 use Rattle.reading.specs.Line.{ScriptLine, lineOf, lineBy}
 use Rattle.hex.specs.Hex.{hexBytes}
-use Rattle.bench_start.specs.declared.Bench.{Bench}
 use Rattle.reading.specs.declared.Reading.{Reading}
 use Rattle.reading.proofs.LineLaws.{framed, Framed}
-use Rattle.script.proofs.LineLaws.{bad-call}
 use borrow.Author.Needs.{needs}
 use Rattle.script.proofs.arguments_of.Statement.{statement}
 use Rattle.script.proofs.arguments_of.Tie as tie
@@ -57,27 +56,27 @@ put-frame-requires c κs =
     rw e (omega (arith, f, length-drop 2 s))
 
 returns : tie.Need-returns
-unfolding benchOf lineResult lineBy closedFrame
+unfolding benchOf lineResult lineBy closedFrame pick
 returns c =
     let start : tie.Start = search needs in
     let a = start .args in
     let s = a .s .now in
     let f = a .frame .now in
     let e = said s _ _ (c .before .before .read .ensures) (c .enum-told .given .1) in
-    (λ b m o. bad-call b m o 0 [] ∙ ap (λ (x : ScriptLine). lineResult x b m o) (sym e), (omega arith, ap (λ (x : ScriptLine). sets f 0 (closedFrame x)) (sym e)))
+    (λ named b m o. ap (λ (x : ScriptLine). lineResult named x b m o) (sym e), (omega arith, ap (λ (x : ScriptLine). sets f 0 (closedFrame x)) (sym e)))
 
 returns-2 : tie.Need-returns-2
-unfolding benchOf lineResult lineBy closedFrame
+unfolding benchOf lineResult lineBy closedFrame pick
 returns-2 c =
     let start : tie.Start = search needs in
     let a = start .args in
     let s = a .s .now in
     let f = a .frame .now in
     let e = said s _ _ (c .before .before .before .read .ensures) (c .before .code .given .1) in
-    (λ b m o. ap (λ (x : ScriptLine). lineResult x b m o) (sym e), (omega arith, ap (λ (x : ScriptLine). sets f 0 (closedFrame x)) (sym e)))
+    (λ named b m o. ap (λ (x : ScriptLine). lineResult named x b m o) (sym e), (omega arith, ap (λ (x : ScriptLine). sets f 0 (closedFrame x)) (sym e)))
 
 returns-3 : tie.Need-returns-3
-unfolding benchOf lineResult lineBy closedFrame
+unfolding benchOf lineResult lineBy closedFrame pick
 returns-3 c =
     let start : tie.Start = search needs in
     let after-read : tie.After-read = search needs in
@@ -87,7 +86,7 @@ returns-3 c =
     let t : take (length s - 2) (drop 2 s) ≡ drop 2 s = take-all (length s - 2) (drop 2 s) (omega (arith, length-drop 2 s)) in
     let f : take (c .put-frame .result) (c .put-frame .last .1 .0) ≡ closed (hexBytes (drop 2 s)) = rw t at (c .put-frame .ensures .0) in
     let g : c .put-frame .last .1 .0 ≡ sets (a .frame .now) 0 (closed (hexBytes (drop 2 s))) = rw t at (c .put-frame .ensures .1 .1) in (
-      λ b m o. ap (λ (x : List ℕ). benchCall b m o 8 0 x) f ∙ ap (λ (x : ScriptLine). lineResult x b m o) (sym e),
+      λ named b m o. ap (λ (x : List ℕ). benchCall named b m o 8 0 x) f ∙ ap (λ (x : ScriptLine). lineResult named x b m o) (sym e),
       (c .put-frame .ensures .1 .0, g ∙ ap (λ (x : ScriptLine). sets (a .frame .now) 0 (closedFrame x)) (sym e)),
     )
 

@@ -1,7 +1,8 @@
 use borrow.Author.Needs.{needs}
 use mathlib.Core.List.{List}
 use Prim.Native.Nat.{ℕ, _-_}
-use Rattle.printing.specs.Text.{answerText}
+use Rattle.parts.specs.Pick.{pick}
+use Rattle.printing.specs.Text.{answerText, nameField}
 use Rattle.script.proofs.bad_line.Statement.{statement}
 use Rattle.script.proofs.bad_line.Tie as tie
 
@@ -15,7 +16,7 @@ same-length : tie.Need-same-length
 same-length c = search needs
 
 returns : tie.Need-returns
-unfolding answerText
+unfolding answerText nameField pick
 returns c =
     let after-next-line : tie.After-next-line = search needs in
     λ (m : List ℕ). rw (c .before .before .put-line .ensures .1, c .before .before .put-line .ensures .0, after-next-line .next-line .ensures)

@@ -1,14 +1,13 @@
 use borrow.Author.Needs.{needs}
-use mathlib.Core.Path.{_≡_, sym, ap, _∙_}
+use mathlib.Core.Path.{_≡_, refl, ap, _∙_}
 use mathlib.Core.List.{List}
 use Prim.Native.Nat.{ℕ, _-_}
 use native.Mathlib.Nat.{sub-zero}
 use native.Mathlib.Omega.{arith}
 use lib.ListN.{take}
-use Rattle.script.specs.Bench.{LineResult, LineBuffers, prints, benchCall, benchOf, lineBuffers, putLine}
-use Rattle.printing.specs.Text.{badText}
+use Rattle.parts.proofs.Picks.{pick-true, pick-false}
+use Rattle.script.specs.Bench.{LineResult, LineBuffers, benchCall, badResult, benchOf, lineBuffers, putLine}
 use Rattle.script.specs.Lines.{benchState}
-use Rattle.script.proofs.LineLaws.{bad-call}
 use Rattle.script.proofs.Fits.{text-fits}
 use Rattle.script.proofs.line.Statement.{statement}
 use Rattle.script.proofs.line.Tie as tie
@@ -22,7 +21,6 @@ bad-line-requires c κs = search needs
 same-length : tie.Need-same-length
 same-length c = search needs
 
--- no code: what the call would leave is what a bad line leaves
 returns : tie.Need-returns
 returns c =
     let after-arguments-of : tie.After-arguments-of = search needs in
@@ -33,14 +31,13 @@ returns c =
     let k = g .result in
     let a = start .args in
     let o = d .bad-line in
-    let f = take (k .length) (g .last .1 .0) in
-    let p : prints (a .bench) (a .bench .tag) (a .m .now) (a .reply .now) badText ≡ benchOf (a .bench) (a .m .now) (a .reply .now) (a .s .now) =
-    sym (bad-call (a .bench) (a .m .now) (a .reply .now) (k .value) f)
-    ∙ ap (λ (n : ℕ). benchCall (a .bench) (a .m .now) (a .reply .now) n (k .value) f) (sym (then1 .if1 .taken))
-    ∙ g .ensures .0 (a .bench) (a .m .now) (a .reply .now) in
-    let e : lineBuffers (o .result .bench) (o .result .length) (a .m .now) (a .reply .now) (o .last .1 .1 .0) ≡ putLine (benchOf (a .bench) (a .m .now) (a .reply .now) (a .s .now)) (a .text .now) =
+    let bad = badResult (a .bench) (a .m .now) (a .reply .now) in
+    let p : bad ≡ benchOf (a .named) (a .bench) (a .m .now) (a .reply .now) (a .s .now) =
+    pick-true bad (benchCall (a .named) (a .bench) (a .m .now) (a .reply .now) (k .code) (k .value) (take (k .length) (g .last .1 .0))) bad (k .bad) (then1 .if1 .taken) refl
+    ∙ g .ensures .0 (a .named) (a .bench) (a .m .now) (a .reply .now) in
+    let e : lineBuffers (o .result .bench) (o .result .length) (a .m .now) (a .reply .now) (o .last .1 .1 .0) ≡ putLine (benchOf (a .named) (a .bench) (a .m .now) (a .reply .now) (a .s .now)) (a .text .now) =
     o .ensures (a .m .now) ∙ ap (λ (x : LineResult). putLine x (a .text .now)) p in
-    (e, (omega (arith, ap (λ (x : LineBuffers). x .length) e, text-fits (benchState (a .bench) (a .m .now) (a .reply .now)) (a .s .now)), g .ensures .1 .1))
+    (e, (omega (arith, ap (λ (x : LineBuffers). x .length) e, text-fits (a .named) (benchState (a .bench) (a .m .now) (a .reply .now)) (a .s .now)), g .ensures .1 .1))
 
 sub-call : tie.Need-sub-call
 sub-call c = search needs
@@ -65,16 +62,21 @@ same-length-3 c = search needs
 returns-2 : tie.Need-returns-2
 returns-2 c =
     let o4 = c .before .before .before .before in
-    let g13 = o4 .before .before .before .before .before .before .before .before .before in
-    let a = g13 .before .before .before .before .before .args in
-    let g = g13 .arguments-of in
+    let i11 = o4 .before .before .before .before .before .before .before in
+    let g12 = i11 .before in
+    let a = g12 .before .before .before .before .before .args in
+    let g = g12 .arguments-of in
     let k = g .result in
     let o = o4 .call in
-    let e : lineBuffers (o .result .bench) (o .result .length) (o .last .1 .0) (o .last .1 .1 .0) (o .last .1 .1 .1 .1 .1 .1 .0) ≡ putLine (benchOf (a .bench) (a .m .now) (a .reply .now) (a .s .now)) (a .text .now) =
+    let said = benchCall (a .named) (a .bench) (a .m .now) (a .reply .now) (k .code) (k .value) (take (k .length) (g .last .1 .0)) in
+    let p : said ≡ benchOf (a .named) (a .bench) (a .m .now) (a .reply .now) (a .s .now) =
+    pick-false (badResult (a .bench) (a .m .now) (a .reply .now)) said said (k .bad) (i11 .if1 .left) refl
+    ∙ g .ensures .0 (a .named) (a .bench) (a .m .now) (a .reply .now) in
+    let e : lineBuffers (o .result .bench) (o .result .length) (o .last .1 .1 .0) (o .last .1 .1 .1 .0) (o .last .1 .1 .1 .1 .1 .1 .1 .0) ≡ putLine (benchOf (a .named) (a .bench) (a .m .now) (a .reply .now) (a .s .now)) (a .text .now) =
     o .ensures
-    ∙ ap (λ (n : ℕ). putLine (benchCall (a .bench) (a .m .now) (a .reply .now) (k .code) (k .value) (take n (g .last .1 .0))) (a .text .now)) (sub-zero (k .length))
-    ∙ ap (λ (p : LineResult). putLine p (a .text .now)) (g .ensures .0 (a .bench) (a .m .now) (a .reply .now)) in
-    (e, (omega (arith, ap (λ (x : LineBuffers). x .length) e, text-fits (benchState (a .bench) (a .m .now) (a .reply .now)) (a .s .now)), g .ensures .1 .1))
+    ∙ ap (λ (n : ℕ). putLine (benchCall (a .named) (a .bench) (a .m .now) (a .reply .now) (k .code) (k .value) (take n (g .last .1 .0))) (a .text .now)) (sub-zero (k .length))
+    ∙ ap (λ (x : LineResult). putLine x (a .text .now)) p in
+    (e, (omega (arith, ap (λ (x : LineBuffers). x .length) e, text-fits (a .named) (benchState (a .bench) (a .m .now) (a .reply .now)) (a .s .now)), g .ensures .1 .1))
 
 pub line-spec : {M : Type 1} → statement M
 line-spec =

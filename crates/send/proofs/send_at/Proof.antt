@@ -71,6 +71,7 @@ same-length-2 : tie.Need-same-length-2
 same-length-2 c = search needs
 
 returns-6 : tie.Need-returns-6
+unfolding sendAt
 returns-6 c =
     let sent = c .before .before in
     rw (sent .before .before .before .b5 .given .1) (sent .send-data .ensures)

@@ -19,7 +19,7 @@ returns c =
     let start : tie.Start = search needs in
     let a = start .args in
     let n = c .before .kept-count in
-    (ap (λ (r : PieceResult). puts r (a .out .now)) (sym (end-none (length (a .out .now)) (benchState (a .bench) (a .m .now) (a .reply .now)) (take (a .have) (a .kept .now)) (omega (arith, n .ensures, c .if1 .taken, length-take (a .have) (a .kept .now))))), omega arith)
+    (ap (λ (r : PieceResult). puts r (a .out .now)) (sym (end-none (a .named) (length (a .out .now)) (benchState (a .bench) (a .m .now) (a .reply .now)) (take (a .have) (a .kept .now)) (omega (arith, n .ensures, c .if1 .taken, length-take (a .have) (a .kept .now))))), omega arith)
 
 slice-aggregate-step : tie.Need-slice-aggregate-step
 slice-aggregate-step c = search needs
@@ -38,8 +38,8 @@ returns-2 c =
     let st = benchState (a .bench) (a .m .now) (a .reply .now) in
     let h = take (a .have) (a .kept .now) in (
       c .before .before .step .ensures .0
-          ∙ ap (λ (x : List ℕ). puts (pieceBy room st x (10 ∷ [])) (a .out .now)) (take-within (a .kept .now) (a .have) (n .result) (n .ensures))
-          ∙ ap (λ (r : PieceResult). puts r (a .out .now)) (sym (end-some room st h (λ z. c .before .before .before .before .before .before .before .before .if1 .left (omega (arith, n .ensures, length-take (a .have) (a .kept .now)))))),
+          ∙ ap (λ (x : List ℕ). puts (pieceBy (a .named) room st x (10 ∷ [])) (a .out .now)) (take-within (a .kept .now) (a .have) (n .result) (n .ensures))
+          ∙ ap (λ (r : PieceResult). puts r (a .out .now)) (sym (end-some (a .named) room st h (λ z. c .before .before .before .before .before .before .before .before .if1 .left (omega (arith, n .ensures, length-take (a .have) (a .kept .now)))))),
       c .before .before .step .ensures .1 .1,
     )
 

@@ -29,8 +29,8 @@ returns c =
     let a = start .args in
     let st = benchState (a .bench) (a .m .now) (a .reply .now) in (
       c .before .before .line .ensures .0
-          ∙ ap (λ (l : List ℕ). putLine (lineFrom st l) (a .text .now)) (after-line-from .line-from .ensures ∙ after-join .join .ensures .0)
-          ∙ ap (λ (r : LineResult). putLine r (a .text .now)) (whole-line st (a .kept .now) (a .s .now) (a .have)),
+          ∙ ap (λ (l : List ℕ). putLine (lineFrom (a .named) st l) (a .text .now)) (after-line-from .line-from .ensures ∙ after-join .join .ensures .0)
+          ∙ ap (λ (r : LineResult). putLine r (a .text .now)) (whole-line (a .named) st (a .kept .now) (a .s .now) (a .have)),
       c .before .before .line .ensures .1 .0,
     )
 

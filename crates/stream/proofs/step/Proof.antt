@@ -15,11 +15,11 @@ use Rattle.stream.proofs.step.Statement.{statement}
 use Rattle.stream.proofs.step.Tie as tie
 
 abbrev Inv-loop : tie.InvT-loop
-Inv-loop m₀ reply₀ kept₀ have s out₀ frame₀ bench₀ n₀ from₀ at₀ end₀ m reply kept out frame bench n from at end =
-    Goes (benchState bench₀ m₀ reply₀) (take n₀ kept₀) s out₀ (benchState bench m reply) kept out n from at end
+Inv-loop named m₀ reply₀ kept₀ have s out₀ frame₀ bench₀ n₀ from₀ at₀ end₀ m reply kept out frame bench n from at end =
+    Goes named (benchState bench₀ m₀ reply₀) (take n₀ kept₀) s out₀ (benchState bench m reply) kept out n from at end
 
 abbrev μ-loop : tie.MeasureT-loop
-μ-loop m₀ reply₀ kept₀ have s out₀ frame₀ bench₀ n₀ from₀ at₀ end₀ m reply kept out frame bench n from at end =
+μ-loop named m₀ reply₀ kept₀ have s out₀ frame₀ bench₀ n₀ from₀ at₀ end₀ m reply kept out frame bench n from at end =
     length s - end
 
 kept-count-requires : tie.Need-kept-count-requires Inv-loop μ-loop
@@ -34,7 +34,7 @@ loop-holds c =
     let a = start .args in
     let n = c .before .kept-count in
     let k : length (a .kept .now) ≡ 1201 = search needs in
-    begins (benchState (a .bench) (a .m .now) (a .reply .now)) (a .kept .now) (a .s .now) (a .out .now) (n .result) (c .line-end .result) (omega (arith, k, n .ensures)) (c .line-end .ensures)
+    begins (a .named) (benchState (a .bench) (a .m .now) (a .reply .now)) (a .kept .now) (a .s .now) (a .out .now) (n .result) (c .line-end .result) (omega (arith, k, n .ensures)) (c .line-end .ensures)
 
 -- a turn: a line feed is left, and room for a text
 less : (c : tie.In-loop Inv-loop μ-loop) → c .before .loop .end < length (c .before .before .before .before .before .before .before .before .args .s .now)
@@ -42,13 +42,13 @@ less c =
     let start : tie.Start Inv-loop μ-loop = search needs in
     let e = c .before .loop .end in
     let n = length (start .args .s .now) in
-    ltb-true e n (and-left (ltb e n) (leb 1304 (length (c .before .loop .out) - c .before .loop .at)) (c .loop-test .taken))
+    ltb-true e n (and-left (ltb e n) (leb 1342 (length (c .before .loop .out) - c .before .loop .at)) (c .loop-test .taken))
 
-roomy : (c : tie.In-loop Inv-loop μ-loop) → 1304 ≤ length (c .before .loop .out) - c .before .loop .at
+roomy : (c : tie.In-loop Inv-loop μ-loop) → 1342 ≤ length (c .before .loop .out) - c .before .loop .at
 roomy c =
     let start : tie.Start Inv-loop μ-loop = search needs in
     let r = length (c .before .loop .out) - c .before .loop .at in
-    leb-true 1304 r (and-right (ltb (c .before .loop .end) (length (start .args .s .now))) (leb 1304 r) (c .loop-test .taken))
+    leb-true 1342 r (and-right (ltb (c .before .loop .end) (length (start .args .s .now))) (leb 1342 r) (c .loop-test .taken))
 
 sub-loop : tie.Need-sub-loop Inv-loop μ-loop
 sub-loop c = omega (arith, c .loop .inv .fits, c .loop .inv .out-len)
@@ -87,10 +87,10 @@ end-line-requires c κs =
     at-loop .loop .inv .few
 
 add-at : tie.Need-add-at Inv-loop μ-loop
-add-at c = omega (arith, c .before .before .before .before .end-line .ensures .1, roomy (c .before .before .before .before .before .before .before .before .before .before .before), c .before .before .before .before .before .before .before .before .before .before .before .before .loop .inv .out-len, c .before .before .before .before .before .before .before .before .before .before .before .before .loop .inv .fits, c .before .before .before .before .before .before .before .before .before .before .before .before .before .before .before .before .before .before .before .good .1 .1 .1 .1 .1 .1 .0 .0)
+add-at c = omega (arith, c .before .before .before .before .end-line .ensures .1, roomy (c .before .before .before .before .before .before .before .before .before .before .before), c .before .before .before .before .before .before .before .before .before .before .before .before .loop .inv .out-len, c .before .before .before .before .before .before .before .before .before .before .before .before .loop .inv .fits, c .before .before .before .before .before .before .before .before .before .before .before .before .before .before .before .before .before .before .before .good .1 .1 .1 .1 .1 .1 .1 .0 .0)
 
 add-from : tie.Need-add-from Inv-loop μ-loop
-add-from c = omega (arith, less (c .before .before .before .before .before .before .before .before .before .before .before), c .before .before .before .before .before .before .before .before .before .before .before .before .before .before .before .before .before .before .before .good .1 .1 .1 .1 .1 .0 .0)
+add-from c = omega (arith, less (c .before .before .before .before .before .before .before .before .before .before .before), c .before .before .before .before .before .before .before .before .before .before .before .before .before .before .before .before .before .before .before .good .1 .1 .1 .1 .1 .1 .0 .0)
 
 line-end-requires-2 : tie.Need-line-end-requires-2 Inv-loop μ-loop
 line-end-requires-2 c κs = search needs
@@ -106,9 +106,9 @@ loop-again c =
     let n = c .before .before .before .before .before .before .before .before .before .before .before .before .before .before .before .kept-count in
     let l = c .before .before .before .before .before .before .before .before .before .before .before .before .before .loop in
     let o = c .before .before .before .before .before .end-line in
-    turns (benchState (a .bench) (a .m .now) (a .reply .now)) (take (n .result) (a .kept .now)) (a .s .now) (a .out .now) (benchState (l .bench) (l .m) (l .reply)) (l .kept) (l .out) (l .n) (l .from) (l .at) (l .end) (l .inv)
-    (o .result .bench) (o .result .length) (o .last .1 .0) (o .last .1 .1 .0) (o .last .1 .1 .1 .0) (o .last .1 .1 .1 .1 .1 .1 .1 .0) (c .line-end2 .result)
-    (less (c .before .before .before .before .before .before .before .before .before .before .before .before)) (roomy (c .before .before .before .before .before .before .before .before .before .before .before .before)) (o .ensures .0) (o .ensures .1) (o .kept .1 .1 .1 .1 .1 .1 .1 .0) (c .line-end2 .ensures)
+    turns (a .named) (benchState (a .bench) (a .m .now) (a .reply .now)) (take (n .result) (a .kept .now)) (a .s .now) (a .out .now) (benchState (l .bench) (l .m) (l .reply)) (l .kept) (l .out) (l .n) (l .from) (l .at) (l .end) (l .inv)
+    (o .result .bench) (o .result .length) (o .last .1 .1 .0) (o .last .1 .1 .1 .0) (o .last .1 .1 .1 .1 .0) (o .last .1 .1 .1 .1 .1 .1 .1 .1 .0) (c .line-end2 .result)
+    (less (c .before .before .before .before .before .before .before .before .before .before .before .before)) (roomy (c .before .before .before .before .before .before .before .before .before .before .before .before)) (o .ensures .0) (o .ensures .1) (o .kept .1 .1 .1 .1 .1 .1 .1 .1 .0) (c .line-end2 .ensures)
 
 sub-hold : tie.Need-sub-hold Inv-loop μ-loop
 sub-hold c = omega (arith, c .before .before .loop .inv .next)
@@ -136,8 +136,8 @@ returns c =
     let l = at-loop .loop in
     let n = after-kept-count .kept-count in
     let st = benchState (a .bench) (a .m .now) (a .reply .now) in (
-      ends st (take (n .result) (a .kept .now)) (a .s .now) (a .out .now) (benchState (l .bench) (l .m) (l .reply)) (l .kept) (l .out) (l .n) (l .from) (l .at) (l .end) (l .inv) (take (c .hold .result) (c .hold .last .0)) (c .before .before .before .loop-test .left) (c .hold .ensures .0)
-          ∙ ap (λ (h : List ℕ). puts (pieceBy (length (a .out .now)) st h (a .s .now)) (a .out .now)) (take-within (a .kept .now) (a .have) (n .result) (n .ensures)),
+      ends (a .named) st (take (n .result) (a .kept .now)) (a .s .now) (a .out .now) (benchState (l .bench) (l .m) (l .reply)) (l .kept) (l .out) (l .n) (l .from) (l .at) (l .end) (l .inv) (take (c .hold .result) (c .hold .last .0)) (c .before .before .before .loop-test .left) (c .hold .ensures .0)
+          ∙ ap (λ (h : List ℕ). puts (pieceBy (a .named) (length (a .out .now)) st h (a .s .now)) (a .out .now)) (take-within (a .kept .now) (a .have) (n .result) (n .ensures)),
       (l .inv .within, l .inv .fits),
     )
 

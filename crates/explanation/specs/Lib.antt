@@ -1,0 +1,3 @@
+pub mod Conditions
+pub mod Explanation
+pub mod Numbers

@@ -1,0 +1,2 @@
+pub mod RowErrors
+pub mod Claims

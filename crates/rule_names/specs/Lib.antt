@@ -1,0 +1,4 @@
+pub mod Rules
+pub mod Names
+pub mod Text
+pub mod Claims

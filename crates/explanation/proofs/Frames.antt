@@ -39,30 +39,34 @@ unfolding firstSays firstApplying frameErrors firstError errorApplies ruleError 
 error-append dynamic busy v f =
     sym (says-through (λ (verdict : Verdict). onRequest verdict (firstApplying dynamic busy v f (rowErrors (commandOf (command f))))) (errorHolds f dynamic busy) (λ rule. Error (ruleError rule)) Request errorRules)
 
--- ---- the whole list
-module _ (t : Tag) (m f : List ℕ) where
-  abbrev holds : Rule → Bool
-  holds = ruleHolds t m Frame f
+-- ---- the whole list, whatever its rules say
+module _ {A : Type 0} (t : Tag) (m f : List ℕ) (says : Rule → A) (last : A) where
+  abbrev errors-say : A
+  errors-say = firstSays (errorApplies (dynamicOf t) (isBusy t) (radioSide t) f) (λ error. says (failed error)) last (frameErrors f)
 
+  own-part : firstSays (ruleHolds t m Frame f) says last (ownSilence ∷ map failed (frameErrors f)) ≡ pick (isMute f (t .uid)) (says ownSilence) errors-say
+  unfolding firstSays ruleHolds
+  own-part = ap (pick (isMute f (t .uid)) (says ownSilence)) (says-map failed (ruleHolds t m Frame f) says last (frameErrors f))
+
+  pub list-parts : firstSays (ruleHolds t m Frame f) says last (frameRules f)
+      ≡ firstSays (silenceHolds f (t .air) (t .uid) (dynamicOf t)) (λ rule. says (silent rule)) (pick (isMute f (t .uid)) (says ownSilence) errors-say) requestSilences
+  unfolding frameRules ruleHolds
+  list-parts =
+      says-append (ruleHolds t m Frame f) says last (map silent requestSilences) (ownSilence ∷ map failed (frameErrors f))
+      ∙ ap (λ (x : A). firstSays (ruleHolds t m Frame f) says x (map silent requestSilences)) own-part
+      ∙ says-map silent (ruleHolds t m Frame f) says _ requestSilences
+
+-- ---- as numbers
+module _ (t : Tag) (m f : List ℕ) where
   abbrev errors : ℕ
   errors = verdictNumber (firstApplying (dynamicOf t) (isBusy t) (radioSide t) f (frameErrors f))
 
-  error-part : firstSays holds ruleNumber 0 (map failed (frameErrors f)) ≡ errors
-  unfolding ruleHolds ruleNumber firstApplying verdictNumber
-  error-part =
-      says-map failed holds ruleNumber 0 (frameErrors f)
-      ∙ sym (says-through verdictNumber (errorApplies (dynamicOf t) (isBusy t) (radioSide t) f) Error Request (frameErrors f))
-
-  own-part : firstSays holds ruleNumber 0 (ownSilence ∷ map failed (frameErrors f)) ≡ pick (isMute f (t .uid)) 32 errors
-  unfolding firstSays ruleHolds ruleNumber
-  own-part = ap (pick (isMute f (t .uid)) 32) error-part
-
   pub frame-number : explainedNumber (explained t m Frame f)
       ≡ (let silence = firstSilence f (t .air) (t .uid) (dynamicOf t) in pick (eqb silence 0) (pick (isMute f (t .uid)) 32 errors) silence)
-  unfolding explained explainedNumber rulesFor frameRules ruleHolds ruleNumber firstSilence
+  unfolding explained explainedNumber rulesFor ruleNumber firstSilence firstApplying verdictNumber
   frame-number =
-      says-through explainedNumber holds explainedBy unexplained (frameRules f)
-      ∙ says-append holds ruleNumber 0 (map silent requestSilences) (ownSilence ∷ map failed (frameErrors f))
-      ∙ ap (λ (n : ℕ). firstSays holds ruleNumber n (map silent requestSilences)) own-part
-      ∙ says-map silent holds ruleNumber _ requestSilences
-      ∙ numbered-or (silenceHolds f (t .air) (t .uid) (dynamicOf t)) silenceNumber numbered _ requestSilences
+      let silent-first = silenceHolds f (t .air) (t .uid) (dynamicOf t) in
+      says-through explainedNumber (ruleHolds t m Frame f) explainedBy unexplained (frameRules f)
+      ∙ list-parts t m f ruleNumber 0
+      ∙ ap (λ (n : ℕ). firstSays silent-first silenceNumber (pick (isMute f (t .uid)) 32 n) requestSilences) (sym (says-through verdictNumber (errorApplies (dynamicOf t) (isBusy t) (radioSide t) f) Error Request (frameErrors f)))
+      ∙ numbered-or silent-first silenceNumber numbered _ requestSilences

@@ -10,7 +10,7 @@ use borrow.Author.Tests.{not-false}
 use Rattle.parts.specs.Pick.{pick}
 use Rattle.parts.proofs.Picks.{pick-map, pick-same}
 use Rattle.rule_list.specs.RuleList.{anyHolds, firstSays, NoneHolds}
-use Rattle.rule_list.proofs.Laws.{says-append, says-through, says-map, says-passes}
+use Rattle.rule_list.proofs.Laws.{says-through, says-passes}
 use Rattle.rule_list.proofs.First.{by-none}
 use Rattle.register_types.specs.declared.RfMngt.{RfMngt}
 use Rattle.keys.specs.declared.Uid.{Uid}
@@ -39,7 +39,7 @@ use Rattle.row_rules.specs.RowErrors.{errorApplies, rowErrors, firstApplying}
 use Rattle.rule_names.specs.Rules.{Rule, byteForbidden, noVcc, noStart, inReadLeg, otherSelectByte, programmingNow, silent, ownSilence, failed}
 use Rattle.explanation.specs.Conditions.{dynamicOf, isBusy, ruleHolds}
 use Rattle.explanation.specs.Explanation.{frameErrors, frameRules}
-use Rattle.explanation.proofs.Frames.{onRequest, error-append}
+use Rattle.explanation.proofs.Frames.{onRequest, error-append, list-parts}
 use Rattle.explanation_claims.proofs.Laws.{same-says}
 use Rattle.row_rules.specs.Claims.{Said, hushed, spoke, saidOf, verdictSaid}
 use Rattle.row_rules.proofs.Commands.{every-said}
@@ -121,23 +121,13 @@ module _ (t : Tag) (m f : List ℕ) where
   abbrev errors : Said
   errors = verdictSaid (firstApplying (dynamicOf t) (isBusy t) (radioSide t) f (frameErrors f))
 
-  error-part : firstSays holds ruleSaid (spoke 0) (map failed (frameErrors f)) ≡ errors
-  unfolding ruleHolds ruleSaid firstApplying verdictSaid
-  error-part =
-      says-map failed holds ruleSaid (spoke 0) (frameErrors f)
-      ∙ sym (says-through verdictSaid (errorApplies (dynamicOf t) (isBusy t) (radioSide t) f) Error Request (frameErrors f))
-
-  own-part : firstSays holds ruleSaid (spoke 0) (ownSilence ∷ map failed (frameErrors f)) ≡ pick (isMute f (t .uid)) hushed errors
-  unfolding firstSays ruleHolds ruleSaid
-  own-part = ap (pick (isMute f (t .uid)) hushed) error-part
-
   list-says : firstSays holds ruleSaid (spoke 0) (frameRules f) ≡ pick (isSilent f (t .air) (t .uid) (dynamicOf t)) hushed (pick (isMute f (t .uid)) hushed errors)
-  unfolding frameRules ruleHolds ruleSaid isSilent
+  unfolding ruleSaid isSilent firstApplying verdictSaid
   list-says =
-      says-append holds ruleSaid (spoke 0) (map silent requestSilences) (ownSilence ∷ map failed (frameErrors f))
-      ∙ ap (λ (last : Said). firstSays holds ruleSaid last (map silent requestSilences)) own-part
-      ∙ says-map silent holds ruleSaid _ requestSilences
-      ∙ same-says (silenceHolds f (t .air) (t .uid) (dynamicOf t)) hushed _ requestSilences
+      let silent-first = silenceHolds f (t .air) (t .uid) (dynamicOf t) in
+      list-parts t m f ruleSaid (spoke 0)
+      ∙ ap (λ (x : Said). firstSays silent-first (λ rule. hushed) (pick (isMute f (t .uid)) hushed x) requestSilences) (sym (says-through verdictSaid (errorApplies (dynamicOf t) (isBusy t) (radioSide t) f) Error Request (frameErrors f)))
+      ∙ same-says silent-first hushed _ requestSilences
 
   -- the reply says what the first rule says
   pub frame-says : saidOf (radioOf (radioSide t) (t .uid) (t .host .vcc) (transferAt (t .host .bus)) (t .host .programming) m f .reply) ≡ firstSays holds ruleSaid (spoke 0) (frameRules f)

@@ -94,7 +94,7 @@ pub fn read_byte(text: &[u8]) -> Option<u16> {
 }
 
 /// A frame of a byte or more, with its CRC put behind it.
-fn read_frame<'a>(text: &[u8], frame: &'a mut [u8; LONGEST_FRAME]) -> Option<&'a [u8]> {
+pub fn read_frame<'a>(text: &[u8], frame: &'a mut [u8; LONGEST_FRAME]) -> Option<&'a [u8]> {
     let length = read_hex(text, &mut frame[..LONGEST_FRAME - 2])?;
     if length == 0 {
         return None;
@@ -121,6 +121,7 @@ pub fn read_line<'a>(line: &[u8], frame: &'a mut [u8; LONGEST_FRAME]) -> Option<
         [b'G', b'\t', text @ ..] => plain(model::FETCH, read_level(text)?),
         b"P" => plain(model::STOP, 0),
         b"D" => plain(model::PROGRAMMING_END, 0),
+        b"E" => plain(model::END_OF_FRAME, 0),
         [b'R', b'\t', text @ ..] => {
             let frame = read_frame(text, frame)?;
             Some(Signal {

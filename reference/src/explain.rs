@@ -2,6 +2,7 @@
 //! It stands beside the rules that the wire and the radio go by; tests/explain.rs holds it to them.
 
 use crate::crc::crc;
+use crate::inventory::Inventory;
 use crate::model::{self, Signal};
 use crate::radio::*;
 use crate::tag::*;
@@ -301,9 +302,17 @@ impl<'a> Frame<'a> {
     }
 }
 
+/// 02, Ask 4: the inventory flag's rule is "such frames' last".
 fn explain_frame(frame: &Frame) -> Option<Rule> {
     let first = |rules: &[FrameRule]| first(rules, |holds| holds(frame));
-    first(SILENCES)
+    let (of_all, of_others) = SILENCES.split_at(UP_TO_INVENTORY);
+    if let Some(rule) = first(of_all) {
+        return Some(rule);
+    }
+    if frame.has(INVENTORY) {
+        return None;
+    }
+    first(of_others)
         .or_else(|| first(BEFORE_ROWS))
         .or_else(|| first(row(frame.command())))
 }
@@ -314,7 +323,7 @@ const SILENCES: &[FrameRule] = &[
     (Sleep, is_asleep),
     (FrameLength, |frame| !(4..=270).contains(&frame.bytes.len())),
     (BadCrc, has_bad_crc),
-    (InventoryFlag, |frame| frame.has(INVENTORY)),
+    (InventoryFlag, is_silent_inventory),
     (BothFlags, has_both_flags),
     (MakerCode, lacks_maker_code),
     (Uid, has_wrong_uid),
@@ -322,6 +331,9 @@ const SILENCES: &[FrameRule] = &[
     (NeitherFlag, is_plain_to_quiet),
     (NotAddressed, lacks_address),
 ];
+
+/// The rules that frames with the inventory flag meet.
+const UP_TO_INVENTORY: usize = 5;
 
 /// Own silence comes before the errors, shut out among them.
 const BEFORE_ROWS: &[FrameRule] = &[
@@ -406,6 +418,17 @@ fn is_asleep(frame: &Frame) -> bool {
 /// A frame too short for a CRC has none that is right.
 fn has_bad_crc(frame: &Frame) -> bool {
     frame.bytes[frame.body_length()..] != crc(frame.body()).to_le_bytes()
+}
+
+/// 02, Ask 4: "only for a malformed inventory frame .., a Quiet or shut-out tag, one waiting for its
+/// slot, or else an unmatched one".
+fn is_silent_inventory(frame: &Frame) -> bool {
+    let tag = frame.tag;
+    let answered = |request: Inventory| request.asks(tag) && request.slot(&tag.uid) == 0;
+    frame.has(INVENTORY)
+        && (tag.radio_state == RadioState::Quiet
+            || is_shut_out(frame)
+            || !Inventory::read(frame.body()).is_some_and(answered))
 }
 
 fn has_both_flags(frame: &Frame) -> bool {

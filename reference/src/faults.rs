@@ -101,7 +101,7 @@ pub fn make(dice: &mut Dice, fault: Fault, lent: &mut Lent, call: &mut Call) {
 }
 
 /// No signal has it, not even by its low byte alone.
-fn unknown_code(dice: &mut Dice) -> u32 {
+pub fn unknown_code(dice: &mut Dice) -> u32 {
     let last = u32::from(model::LAST) + 1;
     let known = 1 + dice.below(last as usize) as u32;
     dice.pick(&[
@@ -116,11 +116,12 @@ fn unknown_code(dice: &mut Dice) -> u32 {
 }
 
 /// Bytes that are no state, or one that breaks a range whatever else it holds.
-fn break_state(dice: &mut Dice, state: &mut [u8]) {
+pub fn break_state(dice: &mut Dice, state: &mut [u8]) {
     let (place, least) = dice.pick(&[
         (at::FIELD, 2),
         (at::RADIO_STATE, 3),
         (at::RADIO_SESSION, 5),
+        (at::SLOT_COUNT, 16),
         (at::VCC, 2),
         (at::BUS, 6),
         (at::SPACE, 2),
@@ -207,9 +208,37 @@ pub fn kept(state: &[u8]) -> Kept {
     }
 }
 
-fn change_state(dice: &mut Dice, state: &mut [u8]) {
+/// What a state's count of ends-of-frame is, by 02's Ask 4.
+#[derive(Clone, Copy, PartialEq, Eq, PartialOrd, Ord, Debug)]
+pub enum Count {
+    Zero,
+    /// 1 to 15, in the field and not Quiet.
+    InRange,
+    /// 1 to 15.
+    OutOfField,
+    /// 1 to 15, in the field.
+    Quiet,
+    Above15,
+}
+
+pub fn count(state: &[u8]) -> Count {
+    match (
+        state[at::SLOT_COUNT],
+        state[at::FIELD],
+        state[at::RADIO_STATE],
+    ) {
+        (0, ..) => Count::Zero,
+        (16.., ..) => Count::Above15,
+        (_, 0, _) => Count::OutOfField,
+        (_, _, 1) => Count::Quiet,
+        _ => Count::InRange,
+    }
+}
+
+pub fn change_state(dice: &mut Dice, state: &mut [u8]) {
     let any = dice.below(STATE_SIZE);
-    let place = dice.pick(&[at::KEPT_RF_MNGT_DYN, any, any, any, any, any, any, any]);
+    let often = dice.pick(&[at::KEPT_RF_MNGT_DYN, at::SLOT_COUNT]);
+    let place = dice.pick(&[often, any, any, any, any, any]);
     let (now, any) = (state[place], dice.byte());
     let small = dice.below(7) as u8;
     let beside = [now.wrapping_add(1), now.wrapping_sub(1), now ^ 1];

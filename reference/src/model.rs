@@ -1,6 +1,7 @@
 //! One call of the model: refusals, ranges, and the signal itself.
 
 use crate::explain::{self, Rule};
+use crate::inventory::LAST_SLOT;
 use crate::tag::*;
 use crate::{radio, wire};
 
@@ -13,7 +14,9 @@ pub const FETCH: u8 = 4;
 pub const STOP: u8 = 5;
 pub const PROGRAMMING_END: u8 = 6;
 pub const FRAME: u8 = 7;
-pub const LAST: u8 = FRAME;
+// 02, Ask 4.
+pub const END_OF_FRAME: u8 = 8;
+pub const LAST: u8 = END_OF_FRAME;
 
 /// One signal as it is handed in; `frame` counts for the radio frame only.
 #[derive(Clone, Copy, Debug)]
@@ -34,13 +37,16 @@ pub enum Answer {
     Reply(usize),
 }
 
-/// 01's four refusals.
+/// 01's four refusals, and a rack's.
 #[derive(Clone, Copy, PartialEq, Eq, Debug)]
 pub enum Refusal {
     Memory = 1,
     ReplyBuffer = 2,
     Signal = 3,
     Range = 4,
+    RackSize = 5,
+    NoSuchTag = 6,
+    EqualUids = 7,
 }
 
 /// One signal. A refusal leaves the tag and every lent byte as they were.
@@ -81,13 +87,25 @@ pub fn judge_call(memory: &[u8], reply: &[u8], signal: Signal) -> Result<(), Ref
     if memory.len() != MEMORY_SIZE {
         return Err(Refusal::Memory);
     }
+    judge_reply(reply)?;
+    judge_signal(signal)
+}
+
+/// Refusal 2.
+pub fn judge_reply(reply: &[u8]) -> Result<(), Refusal> {
     if reply.len() < REPLY_SIZE {
         return Err(Refusal::ReplyBuffer);
     }
-    if !value_in_range(signal.code, signal.value) {
-        return Err(Refusal::Signal);
-    }
     Ok(())
+}
+
+/// Refusal 3.
+pub fn judge_signal(signal: Signal) -> Result<(), Refusal> {
+    if value_in_range(signal.code, signal.value) {
+        Ok(())
+    } else {
+        Err(Refusal::Signal)
+    }
 }
 
 /// A level or Ack is 0 or 1, a byte at most FFh, all others have value 0 (D2).
@@ -95,12 +113,13 @@ fn value_in_range(code: u8, value: u16) -> bool {
     match code {
         VCC | FIELD | FETCH => value <= 1,
         SEND => value <= 0xFF,
-        START | STOP | PROGRAMMING_END | FRAME => value == 0,
+        START | STOP | PROGRAMMING_END | FRAME | END_OF_FRAME => value == 0,
         _ => false,
     }
 }
 
-fn act(tag: &mut Tag, memory: &mut [u8], reply: &mut [u8], signal: Signal) -> Answer {
+/// A signal that is not refused.
+pub fn act(tag: &mut Tag, memory: &mut [u8], reply: &mut [u8], signal: Signal) -> Answer {
     let on = signal.value == 1;
     match signal.code {
         VCC => wire::vcc(tag, on),
@@ -111,19 +130,25 @@ fn act(tag: &mut Tag, memory: &mut [u8], reply: &mut [u8], signal: Signal) -> An
         FETCH => return Answer::Byte(wire::fetch(tag, memory, on)),
         STOP => wire::stop(tag, memory),
         PROGRAMMING_END => wire::programming_end(tag),
-        _ => {
-            return match radio::frame(tag, memory, reply, signal.frame) {
-                Some(length) => Answer::Reply(length),
-                None => Answer::Silence,
-            }
-        }
+        END_OF_FRAME => return by_radio(radio::end_of_frame(tag, reply)),
+        _ => return by_radio(radio::frame(tag, memory, reply, signal.frame)),
     }
     Answer::None
 }
 
+fn by_radio(reply: Option<usize>) -> Answer {
+    reply.map_or(Answer::Silence, Answer::Reply)
+}
+
 /// 01, Ranges: all of them.
 pub fn in_range(tag: &Tag, memory: &[u8]) -> bool {
-    tag.radio_session <= 4 && wire_in_range(tag, memory)
+    tag.radio_session <= 4 && slot_count_in_range(tag) && wire_in_range(tag, memory)
+}
+
+/// 02, Ask 4: "0 to 15, 0 when Quiet or out of the field".
+fn slot_count_in_range(tag: &Tag) -> bool {
+    let waits = tag.field && tag.radio_state != RadioState::Quiet;
+    tag.slot_count <= if waits { LAST_SLOT } else { 0 }
 }
 
 /// 01, Ranges: those of registers, mailbox, supplies and bus.

@@ -1,6 +1,7 @@
-//! The radio side: field, and frames in the order they are judged.
+//! The radio side: field, frames in the order they are judged, and the lone end-of-frame.
 
 use crate::crc::{crc, crc_bytes};
+use crate::inventory::Inventory;
 use crate::tag::*;
 
 // Flags. 01h and 02h choose the answer's modulation only (D27).
@@ -31,7 +32,8 @@ const ALREADY_LOCKED: u8 = 0x11;
 const NO_RIGHT: u8 = 0x12;
 const READ_PROTECTED: u8 = 0x15;
 
-/// 01: "Field off makes the tag Ready and closes the radio session".
+/// 01: "Field off makes the tag Ready and closes the radio session"; 02, Ask 4: the count is 0
+/// "out of the field".
 pub fn field(tag: &mut Tag, level: bool) {
     if tag.field == level {
         return;
@@ -40,6 +42,7 @@ pub fn field(tag: &mut Tag, level: bool) {
     if !level {
         tag.radio_state = RadioState::Ready;
         tag.radio_session = 0;
+        tag.slot_count = 0;
     }
 }
 
@@ -61,7 +64,11 @@ struct Service<'a> {
 
 /// A radio frame with its CRC; the reply's length, or none for silence.
 pub fn frame(tag: &mut Tag, memory: &mut [u8], reply: &mut [u8], frame: &[u8]) -> Option<usize> {
-    let request = heard(tag, frame)?;
+    let body = received(tag, frame)?;
+    if body[0] & INVENTORY != 0 {
+        return inventory(tag, reply, body);
+    }
+    let request = heard(tag, body)?;
     let silent = request.command == STAY_QUIET || !request.own_uid;
     let mut service = Service {
         tag,
@@ -76,18 +83,67 @@ pub fn frame(tag: &mut Tag, memory: &mut [u8], reply: &mut [u8], frame: &[u8]) -
     Some(service.finish(outcome))
 }
 
-/// 01, Frames: the causes of "Silence and no change", in order.
-fn heard<'a>(tag: &Tag, frame: &'a [u8]) -> Option<Request<'a>> {
-    let asleep = tag.rf_mngt_dyn_for_frames() & RF_SLEEP != 0;
-    if !tag.field || asleep || frame.len() < 4 || frame.len() > 270 {
+fn asleep(tag: &Tag) -> bool {
+    tag.rf_mngt_dyn_for_frames() & RF_SLEEP != 0
+}
+
+/// 01, Frames: the causes of "Silence and no change" that all frames have, in order. What is left
+/// is without the CRC.
+fn received<'a>(tag: &Tag, frame: &'a [u8]) -> Option<&'a [u8]> {
+    if !tag.field || asleep(tag) || frame.len() < 4 || frame.len() > 270 {
         return None;
     }
     let (body, check) = frame.split_at(frame.len() - 2);
     if crc(body) != u16::from_le_bytes([check[0], check[1]]) {
         return None;
     }
+    Some(body)
+}
+
+/// 02, Ask 4: on "either a Quiet, sleeping or shut-out tag is silent and unchanged".
+fn takes_slots(tag: &Tag) -> bool {
+    !asleep(tag) && tag.radio_state != RadioState::Quiet && !shut_out(tag)
+}
+
+/// 02, Ask 4: "each well-formed inventory frame sets that anew"; an unmatched one to 0.
+fn inventory(tag: &mut Tag, reply: &mut [u8], body: &[u8]) -> Option<usize> {
+    if !takes_slots(tag) {
+        return None;
+    }
+    let request = Inventory::read(body)?;
+    tag.slot_count = 0;
+    if !request.asks(tag) {
+        return None;
+    }
+    tag.slot_count = request.slot(&tag.uid);
+    in_its_slot(tag, reply)
+}
+
+/// "The lone end-of-frame that opens the next slot": one less is left to the tag's own. A tag that
+/// waits for none does nothing.
+pub fn end_of_frame(tag: &mut Tag, reply: &mut [u8]) -> Option<usize> {
+    if !tag.field || !takes_slots(tag) || tag.slot_count == 0 {
+        return None;
+    }
+    tag.slot_count -= 1;
+    in_its_slot(tag, reply)
+}
+
+/// The reply to an inventory, 00h, DSFID and UID, if the tag's slot has come.
+fn in_its_slot(tag: &Tag, reply: &mut [u8]) -> Option<usize> {
+    if tag.slot_count > 0 {
+        return None;
+    }
+    let body = [&[0x00, tag.registers.dsfid], &tag.uid[..]].concat();
+    let whole = [&body[..], &crc_bytes(&body)].concat();
+    reply[..whole.len()].copy_from_slice(&whole);
+    Some(whole.len())
+}
+
+/// The other causes, those of a frame without the inventory flag.
+fn heard<'a>(tag: &Tag, body: &'a [u8]) -> Option<Request<'a>> {
     let (flags, command) = (body[0], body[1]);
-    if flags & INVENTORY != 0 || flags & (SELECT_FLAG | ADDRESS) == SELECT_FLAG | ADDRESS {
+    if flags & (SELECT_FLAG | ADDRESS) == SELECT_FLAG | ADDRESS {
         return None;
     }
     let rest = after_maker_code(command, &body[2..])?;
@@ -184,7 +240,7 @@ impl Service<'_> {
         let p = request.parameters;
         let option = request.flags & OPTION != 0;
         match request.command {
-            STAY_QUIET => self.become_state(RadioState::Quiet),
+            STAY_QUIET => self.stay_quiet(),
             SELECT => self.select(request.own_uid),
             RESET => self.become_state(RadioState::Ready),
             0x20 => self.read_blocks(p[0], 0, option),
@@ -222,6 +278,12 @@ impl Service<'_> {
     fn push(&mut self, byte: u8) {
         self.reply[self.length] = byte;
         self.length += 1;
+    }
+
+    /// 02, Ask 4: the count is 0 "when Quiet".
+    fn stay_quiet(&mut self) -> Result<(), u8> {
+        self.tag.slot_count = 0;
+        self.become_state(RadioState::Quiet)
     }
 
     fn become_state(&mut self, state: RadioState) -> Result<(), u8> {

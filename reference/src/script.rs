@@ -8,6 +8,7 @@ mod crowded;
 mod frames;
 mod legs;
 mod noise;
+mod slots;
 
 use crate::bench::{Bench, LONGEST_LINE};
 use crate::dice::Dice;
@@ -126,19 +127,20 @@ const CALM: Roughness = Roughness {
     wrong: 0,
 };
 
-const ACTIONS: usize = 17;
+const ACTIONS: usize = 18;
 
 /// How often each action comes in a scene, in the order of `act`: bytes read and written by wire,
 /// system, dynamic, password and mailbox legs, chains of legs, dynamic legs ended by a Start;
-/// block, lock, config, message, password and state frames; supplies, noise, a look.
-const SCENES: [[usize; ACTIONS]; 7] = [
-    [4, 4, 5, 3, 3, 6, 2, 3, 12, 3, 8, 12, 8, 8, 3, 3, 6], // of all
-    [0, 0, 0, 1, 0, 8, 1, 1, 0, 0, 0, 20, 0, 0, 0, 1, 2],  // the mailbox
-    [0, 0, 0, 0, 0, 6, 0, 0, 0, 0, 1, 20, 1, 0, 0, 0, 1],  // the mailbox, undisturbed
-    [2, 1, 2, 0, 0, 0, 0, 0, 16, 3, 6, 0, 6, 0, 0, 0, 2],  // areas and rights
-    [8, 6, 6, 2, 2, 2, 3, 3, 2, 0, 1, 0, 0, 0, 2, 4, 3],   // the wire
-    [0, 0, 0, 2, 0, 0, 0, 2, 4, 1, 0, 0, 1, 16, 2, 1, 2],  // radio states
-    [1, 1, 1, 0, 4, 0, 0, 0, 4, 0, 6, 0, 16, 0, 1, 0, 2],  // passwords
+/// block, lock, config, message, password and state frames, inventories; supplies, noise, a look.
+const SCENES: [[usize; ACTIONS]; 8] = [
+    [4, 4, 5, 3, 3, 6, 2, 3, 12, 3, 8, 12, 8, 8, 6, 3, 3, 6], // of all
+    [0, 0, 0, 1, 0, 8, 1, 1, 0, 0, 0, 20, 0, 0, 1, 0, 1, 2],  // the mailbox
+    [0, 0, 0, 0, 0, 6, 0, 0, 0, 0, 1, 20, 1, 0, 0, 0, 0, 1],  // the mailbox, undisturbed
+    [2, 1, 2, 0, 0, 0, 0, 0, 16, 3, 6, 0, 6, 0, 0, 0, 0, 2],  // areas and rights
+    [8, 6, 6, 2, 2, 2, 3, 3, 2, 0, 1, 0, 0, 0, 1, 2, 4, 3],   // the wire
+    [0, 0, 0, 2, 0, 0, 0, 2, 4, 1, 0, 0, 1, 16, 4, 2, 1, 2],  // radio states
+    [1, 1, 1, 0, 4, 0, 0, 0, 4, 0, 6, 0, 16, 0, 0, 1, 0, 2],  // passwords
+    [0, 1, 1, 2, 0, 0, 1, 2, 1, 0, 0, 0, 0, 4, 24, 2, 1, 1],  // slots
 ];
 
 /// Something that brings the tag back to where it answers.
@@ -260,8 +262,9 @@ impl Author {
             11 => self.message_frame(),
             12 => self.password_frame(),
             13 => self.state_frames(),
-            14 => self.supplies(),
-            15 => self.noise(),
+            14 => self.inventory(),
+            15 => self.supplies(),
+            16 => self.noise(),
             _ => self.observe(),
         }
         if self.dice.one_in(24) {

@@ -1,10 +1,10 @@
-//! The tag's state as 84 bytes, by the table of docs/LIBRARY.md, and the library's calls over them.
+//! The tag's state as 87 bytes, by the table of docs/LIBRARY.md, and the library's calls over them.
 
 use crate::explain::Rule;
 use crate::model::{self, Answer, Refusal, Signal};
 use crate::tag::*;
 
-pub const STATE_SIZE: usize = 84;
+pub const STATE_SIZE: usize = 87;
 
 // Refusals beside 01's four.
 pub const REFUSED_STATE_LENGTH: u32 = 13;
@@ -15,33 +15,36 @@ pub mod at {
     pub const FIELD: usize = 0;
     pub const RADIO_STATE: usize = 1;
     pub const RADIO_SESSION: usize = 2;
-    pub const VCC: usize = 3;
-    pub const I2C_SESSION: usize = 4;
-    pub const PROGRAMMING: usize = 5;
-    pub const COUNTER: usize = 6;
-    pub const BUS: usize = 8;
-    pub const SPACE: usize = 9;
+    pub const SLOT_COUNT: usize = 3;
+    pub const VCC: usize = 4;
+    pub const I2C_SESSION: usize = 5;
+    pub const PROGRAMMING: usize = 6;
+    pub const COUNTER: usize = 7;
+    pub const BUS: usize = 9;
+    pub const SPACE: usize = 10;
     /// With the bus started.
-    pub const TRANSFER_OPEN: usize = 10;
-    pub const LAST_FETCHED: usize = 11;
+    pub const TRANSFER_OPEN: usize = 11;
+    pub const LAST_FETCHED: usize = 12;
     /// The last byte of the bus.
-    pub const KEPT_RF_MNGT_DYN: usize = 15;
-    pub const RF_MNGT: usize = 16;
-    pub const RF_MNGT_DYN: usize = 17;
+    pub const KEPT_RF_MNGT_DYN: usize = 16;
+    pub const RF_MNGT: usize = 17;
+    pub const RF_MNGT_DYN: usize = 18;
     /// RFAiSS and ENDAi take turns.
-    pub const RFA1SS: usize = 18;
-    pub const ENDA1: usize = 19;
-    pub const I2CSS: usize = 25;
-    pub const LOCK_CCFILE: usize = 26;
-    pub const MB_MODE: usize = 27;
-    pub const LOCK_CFG: usize = 28;
+    pub const RFA1SS: usize = 19;
+    pub const ENDA1: usize = 20;
+    pub const I2CSS: usize = 26;
+    pub const LOCK_CCFILE: usize = 27;
+    pub const MB_MODE: usize = 28;
+    pub const LOCK_CFG: usize = 29;
+    pub const DSFID: usize = 30;
+    pub const AFI: usize = 31;
     /// The five flags of MB_CTRL_Dyn, from MB_EN on.
-    pub const MB_EN: usize = 29;
-    pub const MESSAGE_LENGTH: usize = 34;
-    pub const I2C_PASSWORD: usize = 36;
+    pub const MB_EN: usize = 32;
+    pub const MESSAGE_LENGTH: usize = 37;
+    pub const I2C_PASSWORD: usize = 39;
     /// Passwords 0 to 3, eight bytes each.
-    pub const PASSWORD_0: usize = 44;
-    pub const UID: usize = 76;
+    pub const PASSWORD_0: usize = 47;
+    pub const UID: usize = 79;
 }
 
 // Numbers of the bus.
@@ -139,45 +142,82 @@ fn run<const N: usize>(bytes: &[u8; STATE_SIZE], place: usize) -> [u8; N] {
 /// The bits of MB_CTRL_Dyn in the order of their places.
 const CONTROL_BITS: [u8; 5] = [MB_EN, HOST_PUT, RF_PUT, HOST_CURRENT, RF_CURRENT];
 
-/// The state's bytes, place by place.
-pub fn encode(tag: &Tag) -> [u8; STATE_SIZE] {
-    let mut bytes = [0; STATE_SIZE];
-    let mut put = |place: usize, value: &[u8]| {
-        bytes[place..place + value.len()].copy_from_slice(value);
-    };
-    put(at::FIELD, &[tag.field.into()]);
-    let radio_state = match tag.radio_state {
+fn put(bytes: &mut [u8; STATE_SIZE], place: usize, value: &[u8]) {
+    bytes[place..place + value.len()].copy_from_slice(value);
+}
+
+fn radio_state_byte(state: RadioState) -> u8 {
+    match state {
         RadioState::Ready => 0,
         RadioState::Quiet => 1,
         RadioState::Selected => 2,
-    };
-    put(at::RADIO_STATE, &[radio_state]);
+    }
+}
+
+/// The state's bytes, place by place.
+pub fn encode(tag: &Tag) -> [u8; STATE_SIZE] {
+    let mut bytes = [0; STATE_SIZE];
+    let mut put = |place: usize, value: &[u8]| put(&mut bytes, place, value);
+    put(at::FIELD, &[tag.field.into()]);
+    put(at::RADIO_STATE, &[radio_state_byte(tag.radio_state)]);
     put(at::RADIO_SESSION, &[tag.radio_session]);
+    put(at::SLOT_COUNT, &[tag.slot_count]);
     put(at::VCC, &[tag.vcc.into()]);
     put(at::I2C_SESSION, &[tag.i2c_session.into()]);
     put(at::PROGRAMMING, &[tag.programming.into()]);
     put(at::COUNTER, &tag.counter.to_le_bytes());
     put(at::BUS, &encode_bus(tag.bus, tag.kept_rf_mngt_dyn));
-    let r = &tag.registers;
-    put(at::RF_MNGT, &[r.rf_mngt]);
     put(at::RF_MNGT_DYN, &[tag.rf_mngt_dyn]);
-    for (area, &rfass) in r.rfass.iter().enumerate() {
-        put(at::RFA1SS + 2 * area, &[rfass]);
-    }
-    for (end, &enda) in r.enda.iter().enumerate() {
-        put(at::ENDA1 + 2 * end, &[enda]);
-    }
-    put(at::I2CSS, &[r.i2css]);
-    put(at::LOCK_CCFILE, &[r.lock_ccfile]);
-    put(at::MB_MODE, &[r.mb_mode]);
-    put(at::LOCK_CFG, &[r.lock_cfg]);
     let set = |bit| u8::from(tag.mailbox.control & bit != 0);
     put(at::MB_EN, &CONTROL_BITS.map(set));
     put(at::MESSAGE_LENGTH, &tag.mailbox.length.to_le_bytes());
     put(at::I2C_PASSWORD, &tag.i2c_password);
     put(at::PASSWORD_0, tag.radio_passwords.as_flattened());
     put(at::UID, &tag.uid);
+    encode_registers(&tag.registers, &mut bytes);
     bytes
+}
+
+fn encode_registers(r: &Registers, bytes: &mut [u8; STATE_SIZE]) {
+    let mut put = |place: usize, value: u8| put(bytes, place, &[value]);
+    put(at::RF_MNGT, r.rf_mngt);
+    for (area, &rfass) in r.rfass.iter().enumerate() {
+        put(at::RFA1SS + 2 * area, rfass);
+    }
+    for (end, &enda) in r.enda.iter().enumerate() {
+        put(at::ENDA1 + 2 * end, enda);
+    }
+    put(at::I2CSS, r.i2css);
+    put(at::LOCK_CCFILE, r.lock_ccfile);
+    put(at::MB_MODE, r.mb_mode);
+    put(at::LOCK_CFG, r.lock_cfg);
+    put(at::DSFID, r.dsfid);
+    put(at::AFI, r.afi);
+}
+
+/// The registers, whatever their bytes: ranges are judged later.
+fn decode_registers(bytes: &[u8; STATE_SIZE]) -> Registers {
+    let byte = |place: usize| bytes[place];
+    Registers {
+        rf_mngt: byte(at::RF_MNGT),
+        rfass: [0, 1, 2, 3].map(|area| byte(at::RFA1SS + 2 * area)),
+        enda: [0, 1, 2].map(|end| byte(at::ENDA1 + 2 * end)),
+        i2css: byte(at::I2CSS),
+        lock_ccfile: byte(at::LOCK_CCFILE),
+        mb_mode: byte(at::MB_MODE),
+        lock_cfg: byte(at::LOCK_CFG),
+        dsfid: byte(at::DSFID),
+        afi: byte(at::AFI),
+    }
+}
+
+fn radio_state(byte: u8) -> Option<RadioState> {
+    match byte {
+        0 => Some(RadioState::Ready),
+        1 => Some(RadioState::Quiet),
+        2 => Some(RadioState::Selected),
+        _ => None,
+    }
 }
 
 /// The tag that bytes stand for, if they stand for one.
@@ -196,15 +236,7 @@ pub fn decode(bytes: &[u8; STATE_SIZE]) -> Option<Tag> {
         uid: run(bytes, at::UID),
         vcc: flag_at(at::VCC)?,
         field: flag_at(at::FIELD)?,
-        registers: Registers {
-            rf_mngt: byte(at::RF_MNGT),
-            rfass: [0, 1, 2, 3].map(|area| byte(at::RFA1SS + 2 * area)),
-            enda: [0, 1, 2].map(|end| byte(at::ENDA1 + 2 * end)),
-            i2css: byte(at::I2CSS),
-            lock_ccfile: byte(at::LOCK_CCFILE),
-            mb_mode: byte(at::MB_MODE),
-            lock_cfg: byte(at::LOCK_CFG),
-        },
+        registers: decode_registers(bytes),
         rf_mngt_dyn: byte(at::RF_MNGT_DYN),
         mailbox: Mailbox {
             control,
@@ -216,13 +248,9 @@ pub fn decode(bytes: &[u8; STATE_SIZE]) -> Option<Tag> {
         counter: word(at::COUNTER),
         bus,
         kept_rf_mngt_dyn,
-        radio_state: match byte(at::RADIO_STATE) {
-            0 => RadioState::Ready,
-            1 => RadioState::Quiet,
-            2 => RadioState::Selected,
-            _ => return None,
-        },
+        radio_state: radio_state(byte(at::RADIO_STATE))?,
         radio_session: byte(at::RADIO_SESSION),
+        slot_count: byte(at::SLOT_COUNT),
         radio_passwords: [0, 1, 2, 3].map(|n| run(bytes, at::PASSWORD_0 + 8 * n)),
     })
 }
@@ -242,7 +270,7 @@ pub fn number(answer: Result<Answer, Refusal>) -> u32 {
 
 /// The signal of the library's code and value: its codes count from 1. A number too large for
 /// the model becomes one that it refuses.
-fn signal(code: u32, value: u32, frame: &[u8]) -> Signal<'_> {
+pub fn signal(code: u32, value: u32, frame: &[u8]) -> Signal<'_> {
     Signal {
         code: u8::try_from(code.wrapping_sub(1)).unwrap_or(u8::MAX),
         value: u16::try_from(value).unwrap_or(u16::MAX),

@@ -28,6 +28,9 @@ pub const I2CSS: u16 = 0x000B;
 pub const LOCK_CCFILE: u16 = 0x000C;
 pub const MB_MODE: u16 = 0x000D;
 pub const LOCK_CFG: u16 = 0x000F;
+// 02, Ask 4: "read only for all".
+pub const DSFID: u16 = 0x0012;
+pub const AFI: u16 = 0x0013;
 pub const UID_FIRST: u16 = 0x0018;
 pub const UID_LAST: u16 = 0x001F;
 pub const PASSWORD_PLACE: u16 = 0x0900;
@@ -102,6 +105,8 @@ pub struct Registers {
     pub lock_ccfile: u8,
     pub mb_mode: u8,
     pub lock_cfg: u8,
+    pub dsfid: u8,
+    pub afi: u8,
 }
 
 impl Registers {
@@ -115,6 +120,8 @@ impl Registers {
             lock_ccfile: 0,
             mb_mode: 0,
             lock_cfg: 0,
+            dsfid: 0,
+            afi: 0,
         }
     }
 
@@ -128,6 +135,8 @@ impl Registers {
             LOCK_CCFILE => Some(self.lock_ccfile),
             MB_MODE => Some(self.mb_mode),
             LOCK_CFG => Some(self.lock_cfg),
+            DSFID => Some(self.dsfid),
+            AFI => Some(self.afi),
             _ => None,
         }
     }
@@ -145,6 +154,11 @@ impl Registers {
             _ => {}
         }
     }
+}
+
+/// The registers that the wire can write.
+pub fn is_writable(address: u16) -> bool {
+    matches!(address, RF_MNGT..=MB_MODE | LOCK_CFG)
 }
 
 /// 01: "Defined bits: RF_MNGT two, RFAiSS four, LOCK_CCFILE two, MB_MODE and LOCK_CFG one".
@@ -254,6 +268,8 @@ pub struct Tag {
     pub radio_state: RadioState,
     /// 0 none, 1 to 4 for passwords 0 to 3.
     pub radio_session: u8,
+    /// 02, Ask 4: how many ends-of-frame are left to its slot.
+    pub slot_count: u8,
     /// In the order of the frame's bytes.
     pub radio_passwords: [[u8; 8]; 4],
 }
@@ -280,6 +296,7 @@ impl Tag {
             kept_rf_mngt_dyn: 0,
             radio_state: RadioState::Ready,
             radio_session: 0,
+            slot_count: 0,
             radio_passwords: [[0; 8]; 4],
         }
     }

@@ -116,7 +116,8 @@ pub enum Place {
     DynamicReadOnly,
     /// System registers that can be written.
     Register,
-    Uid,
+    /// DSFID, AFI and UID.
+    RegisterReadOnly,
     Password,
 }
 
@@ -140,7 +141,7 @@ impl DataByte {
             (Space::User, I2C_SSO_DYN | MB_LEN_DYN) => Place::DynamicReadOnly,
             (Space::User, MAILBOX_FIRST..=MAILBOX_LAST) => Place::Mailbox,
             (Space::System, RF_MNGT..=MB_MODE | LOCK_CFG) => Place::Register,
-            (Space::System, UID_FIRST..=UID_LAST) => Place::Uid,
+            (Space::System, DSFID | AFI | UID_FIRST..=UID_LAST) => Place::RegisterReadOnly,
             _ => Place::Nowhere,
         }
     }
@@ -163,7 +164,7 @@ impl DataByte {
     /// What 01 lets be written with MB_EN 0 only; of a password leg that is the code 07h.
     fn needs_mailbox_off(&self) -> bool {
         match self.place() {
-            Place::Memory | Place::Register | Place::Uid => true,
+            Place::Memory | Place::Register | Place::RegisterReadOnly => true,
             _ => self.code() == Some(CODE_WRITE),
         }
     }
@@ -183,13 +184,16 @@ impl DataByte {
         let area = area_of_block(&tag.registers.enda, self.address() / 4);
         match self.place() {
             Place::Memory => tag.registers.i2css >> (2 * area) & 1 != 0,
-            Place::Register | Place::Uid => true,
+            Place::Register | Place::RegisterReadOnly => true,
             _ => self.code() == Some(CODE_WRITE),
         }
     }
 
     fn is_read_only(&self) -> bool {
-        matches!(self.place(), Place::Uid | Place::DynamicReadOnly)
+        matches!(
+            self.place(),
+            Place::RegisterReadOnly | Place::DynamicReadOnly
+        )
     }
 
     fn is_other_code(&self) -> bool {

@@ -201,7 +201,7 @@ fn may_read(tag: &Tag, area: usize) -> bool {
 /// 01: "MB_EN is 0, session open, register writable, ENDA rule met with the leg's
 /// earlier bytes taken as written".
 fn system_acked(tag: &Tag, first: u16, earlier: &[u8], address: u16, byte: u8) -> bool {
-    if tag.mailbox.enabled() || !tag.i2c_session || tag.registers.get(address).is_none() {
+    if tag.mailbox.enabled() || !tag.i2c_session || !is_writable(address) {
         return false;
     }
     match end_index(address) {

@@ -2,8 +2,12 @@
 
 use std::collections::BTreeSet;
 
-use reference::bench::{self, Bench};
+use reference::bench::{self, read_line, Bench, LONGEST_FRAME};
 use reference::cut::cut;
+use reference::inventory::{Inventory, ONE_SLOT};
+use reference::met::{in_scripts, Meetings};
+use reference::model;
+use reference::radio::INVENTORY;
 use reference::script::{script, text, Line};
 use reference::tag::*;
 
@@ -185,6 +189,48 @@ fn scripts_reach_legs_ended_by_a_start() {
     }
     // RF_MNGT written by radio between the Start and the select that opens the transfer.
     assert!(openings.contains(&(0, 1)) && openings.contains(&(0, 2)));
+}
+
+/// All that an inventory frame or an end-of-frame can meet in a script.
+#[test]
+fn scripts_reach_all_that_slots_meet() {
+    let mut meetings = Meetings::default();
+    for seed in 1..=60 {
+        let mut bench = Bench::fresh();
+        for line in script(seed, 2000).lines {
+            meetings.add_line(&bench.tag, &line);
+            bench.answer(Some(&line), &mut Vec::new()).unwrap();
+        }
+    }
+    let mut said = Vec::new();
+    let complete = meetings.complete(&mut said, in_scripts).unwrap();
+    assert!(complete, "{}", String::from_utf8_lossy(&said));
+}
+
+/// Masks of each length, and those that are too long by little, with a frame that is right but for that.
+#[test]
+fn scripts_reach_every_mask() {
+    let (mut right, mut over) = (BTreeSet::new(), BTreeSet::new());
+    for seed in 1..=200 {
+        for line in script(seed, 2000).lines {
+            let mut room = [0; LONGEST_FRAME];
+            let signal = read_line(&line, &mut room).filter(|signal| signal.code == model::FRAME);
+            let Some(signal) = signal.filter(|signal| signal.frame[0] & INVENTORY != 0) else {
+                continue;
+            };
+            let body = &signal.frame[..signal.frame.len() - 2];
+            let one_slot = body[0] & ONE_SLOT != 0;
+            match Inventory::read(body) {
+                Some(request) => right.insert((one_slot, request.bits)),
+                None => over.insert((one_slot, body.get(2).copied().unwrap_or(0))),
+            };
+        }
+    }
+    for (one_slot, most) in [(true, 64), (false, 60)] {
+        assert!((0..=most).all(|bits| right.contains(&(one_slot, bits))));
+        assert!((most + 1..most + 3).all(|bits| over.contains(&(one_slot, bits))));
+    }
+    assert!(over.contains(&(false, 64)) && over.contains(&(false, 65)));
 }
 
 /// A program that goes wrong at the second P after a D, told from one that does not.

@@ -1,4 +1,6 @@
-//! The answers that the example programs must print are the reference's.
+//! The answers that the example programs must print are the reference's. They stand beside the proved programs, and are
+//! compared where those are built.
+#![cfg(feature = "library")]
 
 use std::fs;
 use std::io::Result;

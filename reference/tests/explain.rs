@@ -466,6 +466,9 @@ fn other_lines_have_no_name() {
         ("G 1", "FF"),
         STOP,
         END,
+        ("E", "-"),
+        FIELD,
+        ("E", "-"),
         ("X", "?"),
         ("R", "?"),
         ("R 0", "?"),
@@ -639,7 +642,8 @@ fn names_of_changed_calls() {
                     assert_eq!(rule, answer);
                     continue;
                 }
-                0x102 | 0x103 => true,
+                // An end-of-frame has no name.
+                0x102 | 0x103 => call.code != 9,
                 0x1000.. => other.reply[0] == 0x01,
                 _ => false,
             };

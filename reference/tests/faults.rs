@@ -5,7 +5,9 @@ use std::collections::BTreeSet;
 use reference::bench::UID;
 use reference::dice::Dice;
 use reference::explain::Rule;
-use reference::faults::{change, chosen, kept, make, several, Call, Kept, Lent, OF_FRESH, OF_STEP};
+use reference::faults::{
+    change, chosen, count, kept, make, several, Call, Count, Kept, Lent, OF_FRESH, OF_STEP,
+};
 use reference::state::{self, at, STATE_SIZE};
 use reference::tag::{MEMORY_SIZE, REPLY_SIZE};
 
@@ -123,4 +125,29 @@ fn the_kept_byte_comes_up() {
     }
     let refused = |&(kind, _, taken): &(Kept, u8, bool)| kind == Kept::InRange || !taken;
     assert!(reached.iter().all(refused));
+}
+
+/// The same of the count of ends-of-frame: in range, above 15, out of the field, of a Quiet tag.
+#[test]
+fn the_slot_count_comes_up() {
+    let mut dice = Dice::new(4);
+    let mut reached = BTreeSet::new();
+    for round in 0..40_000_u32 {
+        let (mut lent, mut call) = right();
+        lent.state[at::FIELD] = (round % 2) as u8;
+        lent.state[at::RADIO_STATE] = (round % 3) as u8;
+        let before = lent.clone();
+        change(&mut dice, &mut lent, &mut call);
+        if lent.state.len() == STATE_SIZE
+            && lent.state[at::SLOT_COUNT] != before.state[at::SLOT_COUNT]
+        {
+            let kind = count(&lent.state);
+            reached.insert((kind, step(&mut lent, &call) >= 0x100));
+        }
+    }
+    for kind in [Count::Above15, Count::OutOfField, Count::Quiet] {
+        assert!(reached.contains(&(kind, false)), "{kind:?}");
+        assert!(!reached.contains(&(kind, true)), "{kind:?}");
+    }
+    assert!(reached.contains(&(Count::InRange, true)));
 }

@@ -254,7 +254,7 @@ fn refusals_in_order() {
     let mut short = vec![0; 1023];
     let few = &mut [0; 642];
     let before = tag.clone();
-    let bad = plain(8, 0);
+    let bad = plain(model::LAST + 1, 0);
     assert_eq!(
         model::step(&mut tag, &mut short, few, bad),
         Err(Refusal::Memory)
@@ -294,6 +294,7 @@ fn signal_values() {
         (model::STOP, 1),
         (model::PROGRAMMING_END, 1),
         (model::FRAME, 1),
+        (model::END_OF_FRAME, 1),
     ];
     for (code, value) in bad.into_iter().chain(more) {
         let answer = model::step(&mut tag, &mut memory, &mut reply, plain(code, value));
@@ -487,9 +488,9 @@ fn state_bytes() {
             if let Some(tag) = state::decode(&bytes) {
                 assert_eq!(state::encode(&tag), bytes);
             } else {
-                // before the counter all but the radio session are flags or have their numbers
+                // before the counter all but the radio session and the slot count are flags or have their numbers
                 assert!(
-                    (place < at::COUNTER && place != at::RADIO_SESSION)
+                    (place < at::COUNTER && ![at::RADIO_SESSION, at::SLOT_COUNT].contains(&place))
                         || (at::BUS..at::RF_MNGT).contains(&place)
                         || (at::MB_EN..at::MESSAGE_LENGTH).contains(&place)
                 );

@@ -57,7 +57,7 @@ const ASKED: [(&str, &str, &str); 11] = [
     ("Dynamic", "leg spoiled, page full", ""),
     ("DynamicReadOnly", "leg spoiled, register read only, page full", ""),
     ("Register", "leg spoiled, mailbox mode on, session needed, ENDA rule", ""),
-    ("Uid", "leg spoiled, mailbox mode on, session needed, register read only", ""),
+    ("RegisterReadOnly", "leg spoiled, mailbox mode on, session needed, register read only", ""),
     (
         "Password",
         "leg spoiled, mailbox mode on, session needed, password code, page full",
@@ -128,7 +128,7 @@ fn scripts_reach_every_verdict() {
         ("Dynamic", "allowed, leg spoiled, page full"),
         ("DynamicReadOnly", "leg spoiled, register read only"),
         ("Register", "allowed, leg spoiled, mailbox mode on, session needed, ENDA rule"),
-        ("Uid", "leg spoiled, mailbox mode on, session needed, register read only"),
+        ("RegisterReadOnly", "leg spoiled, mailbox mode on, session needed, register read only"),
         (
             "Password",
             "allowed, leg spoiled, mailbox mode on, session needed, password code, page full",

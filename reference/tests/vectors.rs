@@ -49,7 +49,7 @@ fn scripts_and_answers() -> Result<()> {
             count += 1;
         }
     }
-    assert!(count >= 68);
+    assert!(count >= 78);
     Ok(())
 }
 
@@ -63,6 +63,6 @@ fn scripts_and_names() -> Result<()> {
             count += 1;
         }
     }
-    assert!(count >= 13);
+    assert!(count >= 23);
     Ok(())
 }

@@ -54,9 +54,9 @@ fn check(entries: &[(&str, &str)]) {
 }
 
 // Bytes of the state.
-const MB_EN_1: (&str, &str) = ("T 001D 01", "-");
-const MB_EN_0: (&str, &str) = ("T 001D 00", "-");
-const SESSION: (&str, &str) = ("T 0004 01", "-");
+const MB_EN_1: (&str, &str) = ("T 0020 01", "-");
+const MB_EN_0: (&str, &str) = ("T 0020 00", "-");
+const SESSION: (&str, &str) = ("T 0005 01", "-");
 
 #[test]
 fn the_code_of_a_password_leg() {
@@ -95,12 +95,19 @@ fn places_of_a_password_leg() {
 fn read_only_registers() {
     check(&[
         ("W 00 01 0018 0000 00", "session needed"),
+        ("W 00 01 0012 0000 00", "session needed"),
         SESSION,
+        ("W 00 01 0011 0000 00", "outside the map"),
+        ("W 00 01 0012 0000 00", "register read only"),
+        ("W 00 01 0013 0000 00", "register read only"),
+        ("W 00 01 0012 0001 00", "register read only"),
+        ("W 00 01 0014 0000 00", "outside the map"),
         ("W 00 01 0017 0000 00", "outside the map"),
         ("W 00 01 0018 0000 00", "register read only"),
         ("W 00 01 001F 0007 00", "outside the map"),
         ("W 00 01 0018 0007 00", "register read only"),
         MB_EN_1,
+        ("W 00 01 0012 0000 00", "mailbox mode on"),
         ("W 00 01 0018 0000 00", "mailbox mode on"),
         ("W 00 00 2004 0000 00", "register read only"),
         ("W 00 00 2003 0001 00", "register read only"),
@@ -122,15 +129,15 @@ fn ends_of_the_map_of_areas_and_of_the_page() {
         ("W 00 00 0000 00FF 00", "allowed"),
         ("W 00 00 0000 0100 00", "page full"),
         ("W 00 00 0100 0100 00", "outside the map"),
-        ("T 0013 07", "-"), // ENDA1: to 00FFh
+        ("T 0014 07", "-"), // ENDA1: to 00FFh
         ("W 00 00 0000 0100 00", "another area"),
         ("W 00 00 0001 00FF 00", "another area"),
         ("W 00 00 0100 00FF 00", "allowed"),
-        ("T 001A 02", "-"), // LOCK_CCFILE
+        ("T 001B 02", "-"), // LOCK_CCFILE
         ("W 00 00 0000 0003 00", "allowed"),
         ("W 00 00 0000 0004 00", "locked block"),
         ("W 00 00 0000 0008 00", "allowed"),
-        ("T 0019 01", "-"), // I2CSS
+        ("T 001A 01", "-"), // I2CSS
         ("W 00 00 0000 0003 00", "session needed"),
         ("W 00 00 0000 0004 00", "locked block"),
         ("W 00 00 0100 0000 00", "allowed"),
@@ -150,12 +157,12 @@ fn the_mailbox() {
         ("W 00 00 2008 0000 00", "allowed"),
         ("W 00 00 2009 0000 00", "mailbox leg not from 2008h"),
         ("W 00 00 2007 0001 00", "mailbox leg not from 2008h"),
-        ("T 001E 0100010001", "-"), // HOST_PUT
+        ("T 0021 0100010001", "-"), // HOST_PUT
         ("W 00 00 2008 0000 00", "mailbox busy"),
         ("W 00 00 2009 0000 00", "mailbox busy"),
-        ("T 001E 0001000101", "-"), // RF_PUT
+        ("T 0021 0001000101", "-"), // RF_PUT
         ("W 00 00 2008 0000 00", "mailbox busy"),
-        ("T 001E 0000000101", "-"),
+        ("T 0021 0000000101", "-"),
         ("W 00 00 2008 0000 00", "allowed"),
     ]);
 }
@@ -171,12 +178,12 @@ fn the_enda_rule_and_the_legs_earlier_bytes() {
         ("W 00 01 0005 0002 03", "ENDA rule"),
         ("W 00 01 0005 0002 04", "allowed"),
         ("W 00 01 0007 0000 03", "ENDA rule"), // ENDA1 is 0Fh
-        ("T 0013 03", "-"),                    // ENDA1
+        ("T 0014 03", "-"),                    // ENDA1
         ("W 00 01 0007 0000 03", "ENDA rule"),
         ("W 00 01 0007 0000 04", "allowed"),
         ("M 0300 05", "-"),
         ("W 00 01 0005 0002 04", "ENDA rule"),
-        ("T 0015 06", "-"), // ENDA2: a later end
+        ("T 0016 06", "-"), // ENDA2: a later end
         ("W 00 01 0005 0000 02", "ENDA rule"),
     ]);
 }
@@ -187,16 +194,16 @@ fn rights_by_radio() {
         ("B 007F", "allowed"),
         ("B 0080", "outside the map"),
         ("B 0100", "outside the map"),
-        ("T 0012 0C", "-"), // RFA1SS: setting 3
+        ("T 0013 0C", "-"), // RFA1SS: setting 3
         ("B 0000", "area never writable"),
-        ("T 001A 01", "-"), // LOCK_CCFILE
+        ("T 001B 01", "-"), // LOCK_CCFILE
         ("B 0000", "locked block"),
         ("B 0001", "area never writable"),
-        ("T 0012 04", "-"), // setting 1, no password
+        ("T 0013 04", "-"), // setting 1, no password
         ("B 0001", "session needed"),
         ("T 0002 01", "-"), // password 0's session
         ("B 0001", "session needed"),
-        ("T 0012 0A", "-"), // setting 2, password 2
+        ("T 0013 0A", "-"), // setting 2, password 2
         ("B 0001", "session needed 2"),
         ("T 0002 03", "-"),
         ("B 0001", "allowed"),
@@ -219,13 +226,13 @@ fn pointers_by_radio() {
         ("C 12 00", "outside the map"),
         ("C 13 00", "outside the map"),
         ("C 05 10", "session needed 0"),
-        ("T 001C 01", "-"), // LOCK_CFG
+        ("T 001D 01", "-"), // LOCK_CFG
         ("C 05 10", "configuration locked"),
         ("P 00", "session needed 0"),
         ("T 0002 01", "-"),
         ("C 05 10", "configuration locked"),
         ("P 00", "allowed"),
-        ("T 001C 00", "-"),
+        ("T 001D 00", "-"),
         ("C 05 10", "ENDA rule"),
         ("C 05 0E", "allowed"),
         ("C 0F 01", "allowed"),

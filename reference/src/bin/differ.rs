@@ -4,37 +4,58 @@
 //!     differ BENCH FIRST_SEED COUNT pieces     scripts with long lines, fed through a pipe in pieces
 //!     differ EXPLAIN FIRST_SEED COUNT explain  both, on a program that explains
 //!
-//! A difference is cut to a short script, printed with both outputs, and ends the run with 1. So does a rule that a
-//! script can bring about and that no line was named by, in a run that explains and has lines enough.
+//! A difference is cut to a short script, printed with both outputs, and ends the run with 1. So does, in a run that has
+//! lines enough, something that an inventory frame or an end-of-frame can meet and that none met, and, if it explains,
+//! a rule that a script can bring about and that no line was named by.
 
 use std::collections::BTreeMap;
 use std::io::{stdout, Result, Write};
 use std::process::exit;
 
-use reference::bench;
+use reference::bench::{answer_lines, Bench, LONGEST_LINE};
 use reference::dice::Dice;
-use reference::explain::Rule;
 use reference::feed::{run_program, Output};
+use reference::met::{self, Meetings};
 use reference::names::{in_scripts, Names, ENOUGH};
 use reference::outcome::{self, Outcome};
 use reference::pieces::{pieces, Style, STYLES};
 use reference::script::{crowded_script, long_script, script, text, Line, Script};
 
 const LINES: usize = 2000;
-const COMMANDS: [&str; 18] = [
-    "02", "20", "21", "22", "23", "24", "25", "26", "2C", "A0", "A1", "AA", "AB", "AC", "AD", "AE",
-    "B1", "B3",
+const COMMANDS: [&str; 19] = [
+    "01", "02", "20", "21", "22", "23", "24", "25", "26", "2C", "A0", "A1", "AA", "AB", "AC", "AD",
+    "AE", "B1", "B3",
 ];
 
-/// The reference's output, and the rules that it names.
-fn run_reference(script: &[u8], explains: bool) -> Result<(Output, Vec<Rule>)> {
-    let (mut output, mut rules) = (Vec::new(), Vec::new());
-    if explains {
-        bench::run_explaining(script, &mut output, |rule| rules.push(rule))?;
-    } else {
-        bench::run(script, &mut output)?;
+/// What the reference says of a script beside its answers: the rules that it names, what its slots met.
+struct Notes {
+    names: Names,
+    meetings: Meetings,
+}
+
+impl Notes {
+    fn new() -> Notes {
+        Notes {
+            names: Names::none(),
+            meetings: Meetings::default(),
+        }
     }
-    Ok((Output::new(&output, true), rules))
+}
+
+/// The reference's output.
+fn run_reference(script: &[u8], explains: bool, notes: &mut Notes) -> Result<Output> {
+    let (mut output, mut bench) = (Vec::new(), Bench::fresh());
+    answer_lines::<LONGEST_LINE, _>(script, &mut output, |line, output| {
+        notes.meetings.add_line(&bench.tag, line.unwrap_or(b""));
+        if !explains {
+            return bench.answer(line, output);
+        }
+        if let Some(rule) = bench.explain(line, output)? {
+            notes.names.add(rule.number());
+        }
+        Ok(())
+    })?;
+    Ok(Output::new(&output, true))
 }
 
 /// What was answered, by kind, and by command for frames; what was named.
@@ -43,7 +64,7 @@ struct Tally {
     pieces: u64,
     kinds: BTreeMap<String, u64>,
     commands: BTreeMap<String, BTreeMap<String, u64>>,
-    names: Names,
+    notes: Notes,
 }
 
 impl Tally {
@@ -53,7 +74,7 @@ impl Tally {
             pieces: 0,
             kinds: BTreeMap::new(),
             commands: BTreeMap::new(),
-            names: Names::none(),
+            notes: Notes::new(),
         }
     }
 
@@ -73,14 +94,11 @@ impl Tally {
         *self.kinds.entry(kind).or_default() += 1;
     }
 
-    fn add_all(&mut self, lines: &[Line], outcome: &Outcome, rules: &[Rule]) {
+    fn add_all(&mut self, lines: &[Line], outcome: &Outcome) {
         self.pieces += outcome.pieces;
         for (line, answer) in outcome.answers(lines) {
             let tab = answer.iter().position(|&byte| byte == b'\t');
             self.add(line, &answer[..tab.unwrap_or(answer.len())]);
-        }
-        for rule in rules {
-            self.names.add(rule.number());
         }
     }
 
@@ -100,7 +118,13 @@ impl Tally {
         for (command, kinds) in &self.commands {
             writeln!(out, "  {command}: {}", in_words(kinds))?;
         }
+        self.notes.meetings.print(out)?;
         out.flush()
+    }
+
+    /// Lines enough for all that they can bring about.
+    fn is_large(&self) -> bool {
+        self.lines >= ENOUGH
     }
 }
 
@@ -109,8 +133,11 @@ fn in_words(kinds: &BTreeMap<String, u64>) -> String {
     words.join(", ")
 }
 
-/// The command of a frame as the line has it; one word for all that 01 does not name.
+/// The command of a frame as the line has it; one word for all that the papers do not name.
 fn command(line: &[u8]) -> Option<String> {
+    if line == b"E" {
+        return Some("E".to_string());
+    }
     let [b'R', b'\t', _, _, text @ ..] = line else {
         return None;
     };
@@ -172,22 +199,21 @@ impl Trial {
         }
     }
 
-    /// Some lines of the script on the program and on the reference, which gets them at once; the
-    /// rules that the reference names.
-    fn run(&self, program: &str, lines: &[Line]) -> Result<(Outcome, Vec<Rule>)> {
+    /// Some lines of the script on the program and on the reference, which gets them at once.
+    fn run(&self, program: &str, lines: &[Line], notes: &mut Notes) -> Result<Outcome> {
         let input = text(lines, self.script.ended);
         let mut dice = Dice::new(!self.seed);
         let lengths = self.style.map(|style| pieces(&mut dice, style, &input));
         let one = run_program(program, &input, lengths.as_deref())?;
-        let (two, rules) = run_reference(&input, self.explains)?;
+        let two = run_reference(&input, self.explains, notes)?;
         let pieces = lengths.map_or(0, |lengths| lengths.len() as u64);
-        Ok((Outcome { one, two, pieces }, rules))
+        Ok(Outcome { one, two, pieces })
     }
 }
 
 /// The difference, and how the script differs from its lines.
 fn report(program: &str, trial: &Trial, outcome: &Outcome, place: usize) -> Result<()> {
-    let run = |lines: &[Line]| Ok(trial.run(program, lines)?.0);
+    let run = |lines: &[Line]| trial.run(program, lines, &mut Notes::new());
     outcome::report(trial.seed, &trial.script.lines, outcome, place, run)?;
     let mut out = stdout().lock();
     if !trial.script.ended {
@@ -209,12 +235,12 @@ fn compare(
     let mut tally = Tally::new();
     for seed in first..first.saturating_add(count) {
         let trial = trial(seed);
-        let (outcome, rules) = trial.run(program, &trial.script.lines)?;
+        let outcome = trial.run(program, &trial.script.lines, &mut tally.notes)?;
         if let Some(place) = outcome.first_difference() {
             report(program, &trial, &outcome, place)?;
             return Ok(None);
         }
-        tally.add_all(&trial.script.lines, &outcome, &rules);
+        tally.add_all(&trial.script.lines, &outcome);
     }
     let mut out = stdout().lock();
     writeln!(out, "{count} seeds from {first}: no difference")?;
@@ -222,19 +248,26 @@ fn compare(
     Ok(Some(tally))
 }
 
-/// True when no seed shows a difference.
+/// True when no seed shows a difference and nothing that slots can meet is missing.
 fn agree(program: &str, first: u64, count: u64, trial: impl Fn(u64) -> Trial) -> Result<bool> {
-    Ok(compare(program, first, count, trial)?.is_some())
+    let Some(tally) = compare(program, first, count, trial)? else {
+        return Ok(false);
+    };
+    let meetings = &tally.notes.meetings;
+    Ok(!tally.is_large() || meetings.complete(&mut stdout().lock(), met::in_scripts)?)
 }
 
-/// True when no seed shows a difference and no name is missing.
+/// The same, and no name is missing.
 fn agree_explaining(program: &str, first: u64, count: u64) -> Result<bool> {
     let Some(tally) = compare(program, first, count, Trial::explaining)? else {
         return Ok(false);
     };
     let mut out = stdout().lock();
-    tally.names.print(&mut out, in_scripts)?;
-    Ok(tally.names.complete(&mut out, in_scripts)? || tally.lines < ENOUGH)
+    let Notes { names, meetings } = &tally.notes;
+    names.print(&mut out, in_scripts)?;
+    let complete =
+        names.complete(&mut out, in_scripts)? & meetings.complete(&mut out, met::in_scripts)?;
+    Ok(complete || !tally.is_large())
 }
 
 fn main() {

@@ -4,19 +4,24 @@
 //!     library_differ FIRST_SEED COUNT [LINES]
 //!
 //! The calls are those of the seed's script, and between them calls with another state, memory, buffer length,
-//! code, value or frame, or with two faults and more at once; a changed state that is taken is often gone on from. A
-//! difference is one call with its state, so it is printed whole, and ends the run with 1. So does a rule that a call
-//! can bring about and that explained none, if there were calls enough.
+//! code, value or frame, or with two faults and more at once; a changed state that is taken is often gone on from.
+//! Inventories of tags of any UID, AFI and DSFID are among them, which no script has. A difference is one call with its
+//! state, so it is printed whole, and ends the run with 1. So does a rule that a call can bring about and that explained
+//! none, and what an inventory frame or an end-of-frame can meet and none met, if there were calls enough.
 
 use std::collections::BTreeMap;
+use std::fmt::Debug;
 use std::io::{stdout, Result};
 use std::process::exit;
 
+use reference::asks;
 use reference::bench::{read_line, LONGEST_FRAME, UID};
+use reference::crc::crc_bytes;
 use reference::dice::Dice;
 use reference::faults::{
-    change, chosen, kept, make, other_length, several, Call, Fault, Kept, Lent, OF_FRESH,
+    self, change, chosen, kept, make, other_length, several, Call, Fault, Kept, Lent, OF_FRESH,
 };
+use reference::met::Meetings;
 use reference::names::{in_calls, Names, ENOUGH};
 use reference::script::script;
 use reference::state::{at, STATE_SIZE};
@@ -25,13 +30,15 @@ use reference::{library, state};
 
 const LINES: usize = 2000;
 
-/// The answers by kind, the calls that had both of two faults, those with another kept RF_MNGT_Dyn, and those that a
-/// rule explains.
+/// The answers by kind, the calls that had both of two faults, those with another kept RF_MNGT_Dyn or another count of
+/// ends-of-frame, those that a rule explains, and what slots met.
 struct Tally {
     kinds: BTreeMap<String, u64>,
     pairs: BTreeMap<(u32, u32), u64>,
     kept: BTreeMap<(Kept, String), u64>,
+    counts: BTreeMap<(faults::Count, String), u64>,
     names: Names,
+    meetings: Meetings,
 }
 
 impl Tally {
@@ -40,7 +47,9 @@ impl Tally {
             kinds: BTreeMap::new(),
             pairs: BTreeMap::new(),
             kept: BTreeMap::new(),
+            counts: BTreeMap::new(),
             names: Names::none(),
+            meetings: Meetings::default(),
         }
     }
 
@@ -57,15 +66,30 @@ impl Tally {
         }
     }
 
-    /// A call over a state whose kept byte is another.
-    fn add_kept(&mut self, before: &[u8], state: &[u8], answer: u32) {
-        let place = at::KEPT_RF_MNGT_DYN;
-        if state.len() == STATE_SIZE && state[place] != before[place] {
-            let answer = match answer {
-                0x100.. => "taken".to_string(),
-                _ => kind(answer),
-            };
-            *self.kept.entry((kept(state), answer)).or_default() += 1;
+    /// A call over a state whose kept byte or count is another.
+    fn add_changed(&mut self, before: &[u8], state: &[u8], answer: u32) {
+        let answer = match answer {
+            0x100.. => "taken".to_string(),
+            _ => kind(answer),
+        };
+        let other = |place: usize| state.len() == STATE_SIZE && state[place] != before[place];
+        if other(at::KEPT_RF_MNGT_DYN) {
+            let kind = (kept(state), answer.clone());
+            *self.kept.entry(kind).or_default() += 1;
+        }
+        if other(at::SLOT_COUNT) {
+            let kind = (faults::count(state), answer);
+            *self.counts.entry(kind).or_default() += 1;
+        }
+    }
+
+    /// A call that was not refused.
+    fn add_meeting(&mut self, state: &[u8], call: &Call) {
+        let slots = call.code == 9 || call.frame.first().is_some_and(|flags| flags & 0x04 != 0);
+        let signal = state::signal(call.code, call.value, &call.frame);
+        let tag = state.try_into().ok().and_then(state::decode);
+        if let (true, Some(tag)) = (slots, tag) {
+            self.meetings.add(&tag, signal);
         }
     }
 
@@ -73,20 +97,30 @@ impl Tally {
         self.kinds.values().sum()
     }
 
-    /// True if no rule is missing, or the calls were too few for all.
+    /// True if nothing is missing, or the calls were too few for all.
     fn print(&self) -> Result<bool> {
         let kinds = self.kinds.iter().map(|(k, n)| format!("{k} {n}"));
         println!("  {}", kinds.collect::<Vec<_>>().join(", "));
         let pairs = self.pairs.iter();
         let pairs = pairs.map(|((one, two), n)| format!("{one} and {two} {n}"));
         println!("  faults at once: {}", pairs.collect::<Vec<_>>().join(", "));
-        let kept = self.kept.iter();
-        let kept = kept.map(|((kept, answer), n)| format!("{kept:?} {answer} {n}"));
-        println!("  kept byte: {}", kept.collect::<Vec<_>>().join(", "));
-        let mut out = stdout().lock();
+        print_changed("kept byte", &self.kept);
+        print_changed("slot count", &self.counts);
+        let (mut out, meetings) = (stdout().lock(), &self.meetings);
+        meetings.print(&mut out)?;
+        meetings.print_registers(&mut out)?;
         self.names.print(&mut out, in_calls)?;
-        Ok(self.names.complete(&mut out, in_calls)? || self.calls() < ENOUGH)
+        let complete = self.names.complete(&mut out, in_calls)?
+            & meetings.complete(&mut out, |_| true)?
+            & meetings.complete_registers(&mut out)?;
+        Ok(complete || self.calls() < ENOUGH)
     }
+}
+
+fn print_changed<K: Debug>(name: &str, counts: &BTreeMap<(K, String), u64>) {
+    let words = counts.iter();
+    let words = words.map(|((kind, answer), n)| format!("{kind:?} {answer} {n}"));
+    println!("  {name}: {}", words.collect::<Vec<_>>().join(", "));
 }
 
 fn kind(answer: u32) -> String {
@@ -213,9 +247,52 @@ fn wrong_call(dice: &mut Dice, lent: &Lent, call: &Call, tally: &mut Tally) -> O
     }
     let done = both(&other, &call)?;
     tally.add(done.answer, done.explained, &faults);
-    tally.add_kept(&lent.state, &other.state, done.answer);
+    tally.add_changed(&lent.state, &other.state, done.answer);
+    if done.answer >= 0x100 {
+        tally.add_meeting(&other.state, &call);
+    }
     let taken = done.answer >= 0x100 && done.lent.reply.len() == REPLY_SIZE && dice.one_in(2);
     Some(if taken { done.lent } else { lent.clone() })
+}
+
+/// One right call on both; what is lent after it.
+fn right_call(lent: &Lent, call: &Call, tally: &mut Tally) -> Option<Lent> {
+    let done = both(lent, call)?;
+    tally.add(done.answer, done.explained, &[]);
+    tally.add_meeting(&lent.state, call);
+    Some(done.lent)
+}
+
+/// An AFI of each of its four kinds as often.
+fn any_afi(dice: &mut Dice) -> u8 {
+    let any = dice.byte();
+    dice.pick(&[0x00, any & 0xF0, any & 0x0F, any])
+}
+
+/// An inventory of the tag with any UID, AFI and DSFID, its CRC wrong at times; then its slots. What to go on from has
+/// the bench's UID again.
+fn inventory(dice: &mut Dice, lent: &Lent, tally: &mut Tally) -> Option<Lent> {
+    let mut lent = lent.clone();
+    let mut uid = [0; 8];
+    uid.fill_with(|| dice.byte());
+    let afi = any_afi(dice);
+    lent.state[at::UID..].copy_from_slice(&uid);
+    (lent.state[at::AFI], lent.state[at::DSFID]) = (afi, dice.byte());
+    let mut frame = asks::frame(dice, &uid, afi);
+    let mut check = crc_bytes(&frame);
+    if dice.one_in(8) {
+        check[dice.below(2)] ^= 1 << dice.below(8);
+    }
+    frame.extend(check);
+    let (code, value) = (8, 0);
+    lent = right_call(&lent, &Call { code, value, frame }, tally)?;
+    let left = lent.state[at::SLOT_COUNT];
+    for _ in 0..dice.pick(&[0, left, left, left + 1]) {
+        let (code, frame) = (9, Vec::new());
+        lent = right_call(&lent, &Call { code, value, frame }, tally)?;
+    }
+    lent.state[at::UID..].copy_from_slice(&UID);
+    Some(lent)
 }
 
 /// Nothing where the seed shows a difference.
@@ -232,11 +309,12 @@ fn run(seed: u64, size: usize, tally: &mut Tally) -> Option<()> {
             value: u32::from(signal.value),
             frame: signal.frame.to_vec(),
         };
-        let done = both(&lent, &call)?;
-        tally.add(done.answer, done.explained, &[]);
-        lent = done.lent;
+        lent = right_call(&lent, &call, tally)?;
         if dice.one_in(3) {
             lent = wrong_call(&mut dice, &lent, &call, tally)?;
+        }
+        if dice.one_in(24) {
+            lent = inventory(&mut dice, &lent, tally)?;
         }
     }
     Some(())

@@ -35,7 +35,7 @@ pub fn data_byte(dice: &mut Dice, tag: &Tag) -> DataByte {
         1 => (Space::User, dynamic_place(dice)),
         2 => (Space::User, mailbox_place(dice)),
         3 => (Space::System, register_place(dice)),
-        4 => (Space::System, uid_place(dice)),
+        4 => (Space::System, read_only_place(dice)),
         5 => (Space::System, password_place(dice)),
         _ => (dice.pick(&[Space::User, Space::System]), far_place(dice)),
     };
@@ -124,9 +124,12 @@ fn register_place(dice: &mut Dice) -> (u16, u16) {
     (first, address - first)
 }
 
-/// 0017h to 0020h.
-fn uid_place(dice: &mut Dice) -> (u16, u16) {
-    let address = UID_FIRST - 1 + dice.below(10) as u16;
+/// 0011h to 0014h, and 0017h to 0020h.
+fn read_only_place(dice: &mut Dice) -> (u16, u16) {
+    let address = match dice.below(4) {
+        0 => DSFID - 1 + dice.below(4) as u16,
+        _ => UID_FIRST - 1 + dice.below(10) as u16,
+    };
     let k = dice.pick(&[0, 0, 1, 2, 8, 9]);
     (address - k, k)
 }

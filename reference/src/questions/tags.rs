@@ -13,6 +13,9 @@ pub fn tag(dice: &mut Dice) -> Tag {
     tag.rf_mngt_dyn = dice.below(4) as u8;
     tag.radio_state = dice.pick(&[RadioState::Ready, RadioState::Quiet, RadioState::Selected]);
     tag.radio_session = dice.pick(&[0, 0, 1, 1, 2, 3, 4]);
+    if tag.field && tag.radio_state != RadioState::Quiet {
+        tag.slot_count = dice.below(16) as u8;
+    }
     if dice.one_in(4) {
         tag.i2c_password.fill_with(|| dice.byte());
         tag.radio_passwords[dice.below(4)].fill_with(|| dice.byte());
@@ -47,6 +50,8 @@ fn registers(dice: &mut Dice) -> Registers {
         lock_ccfile: dice.pick(&[0, 0, 0, 1, 2, 3]),
         mb_mode: dice.below(2) as u8,
         lock_cfg: u8::from(dice.one_in(4)),
+        dsfid: dice.byte(),
+        afi: dice.byte(),
     }
 }
 

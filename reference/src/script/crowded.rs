@@ -28,7 +28,11 @@ impl Author {
             _ => {}
         }
         for _ in 0..1 + self.dice.below(3) {
-            self.crowded_frame();
+            match self.dice.below(12) {
+                0 => self.inventory_frame(),
+                1 => self.end_of_frame(),
+                _ => self.crowded_frame(),
+            }
         }
         if self.dice.one_in(4) {
             self.put(b"S".to_vec());

@@ -83,13 +83,15 @@ impl Author {
     }
 
     pub(super) fn any_frame(&mut self) {
-        match self.dice.below(10) {
+        match self.dice.below(12) {
             0 | 1 => self.block_frame(),
             2 => self.config_frame(),
             3 | 4 => self.message_frame(),
             5 => self.password_frame(),
             6 | 7 => self.state_frame(),
             8 => self.odd_frame(),
+            9 => self.inventory_frame(),
+            10 => self.end_of_frame(),
             _ => self.lock_frame(),
         }
     }
@@ -104,6 +106,7 @@ impl Author {
                 let value = self.dice.below(4) as u8;
                 self.calmly(|author| author.config_write(RF_MNGT as u8, value));
             }
+            3 if self.bench.tag.slot_count > 0 => self.end_of_frame(),
             _ => self.frame_to_own_uid(0x26),
         }
     }
@@ -211,7 +214,7 @@ impl Author {
         match self.dice.below(8) {
             0 => self
                 .dice
-                .pick(&[0x00, 0x02, 0x0B, 0x0C, 0x0E, 0x10, 0x18, 0x83, 0xFF]),
+                .pick(&[0x00, 0x02, 0x0B, 0x0C, 0x0E, 0x12, 0x13, 0x18, 0x83, 0xFF]),
             1 => 0x0F,
             2 => 0x0D,
             _ => 0x03 + self.dice.below(8) as u8,

@@ -237,7 +237,9 @@ impl Author {
             _ => {}
         }
         let first = match self.dice.below(12) {
-            0 => self.dice.pick(&[0x0000, 0x0002, 0x000E, 0x0010, 0x0017]),
+            0 => self
+                .dice
+                .pick(&[0x0000, 0x000E, 0x0011, 0x0012, 0x0013, 0x0017]),
             1 => self.dice.pick(&[0x0018, 0x001F, 0x0020, 0xFFFF, 0x0103]),
             2 => LOCK_CFG,
             3 => MB_MODE,
@@ -561,6 +563,9 @@ impl Author {
             let value = self.dice.below(4) as u8;
             self.write(USER_WRITE, RF_MNGT_DYN, &[value]);
         }
+        if self.dice.one_in(4) {
+            self.wait_for_slot();
+        }
         self.roughness.frames = self.dice.pick(&[0, 3, 6]);
         for _ in 0..1 + self.dice.below(3) {
             self.dynamic_write();
@@ -597,6 +602,9 @@ impl Author {
 
     /// A transfer with frames between its bytes, the radio state being asked after it.
     pub(super) fn frames_in_transfer(&mut self) {
+        if self.dice.one_in(4) {
+            self.wait_for_slot();
+        }
         self.start();
         let select = self
             .dice
@@ -618,7 +626,10 @@ impl Author {
         match self.dice.below(8) {
             0 => self.read(USER_READ, RF_MNGT_DYN, 6),
             1 => self.read(SYSTEM_READ, RF_MNGT, 13),
-            2 => self.read(SYSTEM_READ, UID_FIRST - 1, 10),
+            2 => {
+                let (first, count) = self.dice.pick(&[(DSFID - 1, 4), (UID_FIRST - 1, 10)]);
+                self.read(SYSTEM_READ, first, count);
+            }
             3 | 4 => self.read_from_counter(),
             _ => self.observe_by_radio(),
         }

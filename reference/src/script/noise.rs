@@ -5,10 +5,11 @@ use crate::bench::LONGEST_LINE;
 use crate::dice::Dice;
 
 /// Lines the bench program must not take.
-const WRONG_LINES: [&str; 39] = [
+const WRONG_LINES: [&str; 44] = [
     "", "V", "V\t", "V\t2", "V 1", "v\t1", "V\t1 ", "V\t1\t", "V\t01", "V\t\t1", "F", "F\t-1",
     "f\t0", "F\tF", "s", "S\t", "S ", " S", "S\r", "SS", "P\r", "p", "P\t1", "D\t", "d", "DD", "B",
     "B\t", "B\tA", "B\ta6", "B\tA60", "B\tG0", "B A6", "G", "G\t2", "g\t1", "R", "R\t", "R\t022",
+    "e", "E\t", "E\t0", "EE", "E\r",
 ];
 
 /// More of them around frames, which would do something if they were taken.
@@ -52,8 +53,9 @@ impl Author {
 
     fn stray_signal(&mut self) {
         let byte = self.dice.pick(&[0xA6, 0xA7, 0xAE, 0xAF, 0x00, 0x20, 0xFF]);
-        let line: Line = match self.dice.below(7) {
+        let line: Line = match self.dice.below(8) {
             0 | 5 => b"S".to_vec(),
+            6 => b"E".to_vec(),
             1 => b"P".to_vec(),
             2 => b"G\t1".to_vec(),
             3 => b"G\t0".to_vec(),

@@ -12,7 +12,7 @@ extern "C" {
 #endif
 
 /* ---- lengths of the buffers */
-#define ST25DV_STATE_BYTES 84u
+#define ST25DV_STATE_BYTES 87u
 #define ST25DV_UID_BYTES 8u
 #define ST25DV_MEMORY_BYTES 1024u
 #define ST25DV_REPLY_BYTES 643u /* at least */
@@ -31,6 +31,7 @@ extern "C" {
 #define ST25DV_STOP 6u            /* 0 */
 #define ST25DV_PROGRAMMING_END 7u /* 0 */
 #define ST25DV_FRAME 8u           /* 0 */
+#define ST25DV_END_OF_FRAME 9u    /* 0; the lone end-of-frame that opens the next slot of an inventory */
 
 /* ---- refusals, in the order in which they are judged; all are below ST25DV_NONE, and leave every lent byte as it was */
 #define ST25DV_REFUSED_MEMORY_LENGTH 1u  /* the memory has not ST25DV_MEMORY_BYTES */
@@ -44,7 +45,7 @@ extern "C" {
 #define ST25DV_NONE 0x100u
 #define ST25DV_ACK 0x101u
 #define ST25DV_NOACK 0x102u
-#define ST25DV_SILENCE 0x103u /* no reply to a frame */
+#define ST25DV_SILENCE 0x103u /* no reply to a frame or an end-of-frame */
 #define ST25DV_BYTE 0x200u    /* + the byte fetched, 0 to 255 */
 #define ST25DV_REPLY 0x1000u  /* + the reply's length, its CRC included; it stands in the reply buffer from place 0 on */
 
@@ -110,44 +111,47 @@ extern "C" {
 #define ST25DV_AT_FIELD 0u          /* flag */
 #define ST25DV_AT_RADIO_STATE 1u    /* ST25DV_READY, ST25DV_QUIET or ST25DV_SELECTED */
 #define ST25DV_AT_RADIO_SESSION 2u  /* ST25DV_SESSION_NONE or ST25DV_SESSION_PASSWORD_0 to _3 */
-#define ST25DV_AT_VCC 3u            /* flag */
-#define ST25DV_AT_I2C_SESSION 4u    /* flag: open */
-#define ST25DV_AT_PROGRAMMING 5u    /* flag: under way */
-#define ST25DV_AT_COUNTER 6u        /* two bytes: the address counter */
-#define ST25DV_AT_BUS 8u            /* ST25DV_BUS_.. */
-#define ST25DV_AT_SPACE 9u          /* bus 2 to 5: ST25DV_SPACE_.. (else 0) */
-#define ST25DV_AT_TRANSFER_OPEN 10u /* bus 1: flag; this place has a name for each bus that uses it (else 0) */
-#define ST25DV_AT_HOST_NOACKED 10u  /* bus 2: flag */
-#define ST25DV_AT_SPOILED 10u       /* bus 5: flag */
-#define ST25DV_AT_LAST_FETCHED 11u  /* bus 2: flag, the last byte of an RF message was fetched (else 0) */
-#define ST25DV_AT_HIGH_ADDRESS 12u  /* bus 4: the high address byte (else 0) */
-#define ST25DV_AT_PAGE_COUNT 13u    /* bus 5: two bytes, the page bytes (else 0) */
-#define ST25DV_AT_KEPT_RF_MNGT_DYN 15u /* bus 2 to 5, and 1 with its flag: RF_MNGT_Dyn as the transfer was opened (else 0) */
-#define ST25DV_AT_RF_MNGT 16u
-#define ST25DV_AT_RF_MNGT_DYN 17u
-#define ST25DV_AT_RFA1SS 18u
-#define ST25DV_AT_ENDA1 19u
-#define ST25DV_AT_RFA2SS 20u
-#define ST25DV_AT_ENDA2 21u
-#define ST25DV_AT_RFA3SS 22u
-#define ST25DV_AT_ENDA3 23u
-#define ST25DV_AT_RFA4SS 24u
-#define ST25DV_AT_I2CSS 25u
-#define ST25DV_AT_LOCK_CCFILE 26u
-#define ST25DV_AT_MB_MODE 27u
-#define ST25DV_AT_LOCK_CFG 28u
-#define ST25DV_AT_MB_EN 29u          /* flag */
-#define ST25DV_AT_HOST_PUT 30u       /* flag */
-#define ST25DV_AT_RF_PUT 31u         /* flag */
-#define ST25DV_AT_HOST_CURRENT 32u   /* flag */
-#define ST25DV_AT_RF_CURRENT 33u     /* flag */
-#define ST25DV_AT_MESSAGE_LENGTH 34u /* two bytes */
-#define ST25DV_AT_I2C_PASSWORD 36u   /* eight bytes, as a password leg sends them */
-#define ST25DV_AT_PASSWORD_0 44u     /* eight bytes, as a frame sends them; so for passwords 1 to 3 */
-#define ST25DV_AT_PASSWORD_1 52u
-#define ST25DV_AT_PASSWORD_2 60u
-#define ST25DV_AT_PASSWORD_3 68u
-#define ST25DV_AT_UID 76u            /* eight bytes, lowest first */
+#define ST25DV_AT_SLOTS 3u          /* ends-of-frame left to the tag's slot of an inventory, 0 to 15 */
+#define ST25DV_AT_VCC 4u            /* flag */
+#define ST25DV_AT_I2C_SESSION 5u    /* flag: open */
+#define ST25DV_AT_PROGRAMMING 6u    /* flag: under way */
+#define ST25DV_AT_COUNTER 7u        /* two bytes: the address counter */
+#define ST25DV_AT_BUS 9u            /* ST25DV_BUS_.. */
+#define ST25DV_AT_SPACE 10u         /* bus 2 to 5: ST25DV_SPACE_.. (else 0) */
+#define ST25DV_AT_TRANSFER_OPEN 11u /* bus 1: flag; this place has a name for each bus that uses it (else 0) */
+#define ST25DV_AT_HOST_NOACKED 11u  /* bus 2: flag */
+#define ST25DV_AT_SPOILED 11u       /* bus 5: flag */
+#define ST25DV_AT_LAST_FETCHED 12u  /* bus 2: flag, the last byte of an RF message was fetched (else 0) */
+#define ST25DV_AT_HIGH_ADDRESS 13u  /* bus 4: the high address byte (else 0) */
+#define ST25DV_AT_PAGE_COUNT 14u    /* bus 5: two bytes, the page bytes (else 0) */
+#define ST25DV_AT_KEPT_RF_MNGT_DYN 16u /* bus 2 to 5, and 1 with its flag: RF_MNGT_Dyn as the transfer was opened (else 0) */
+#define ST25DV_AT_RF_MNGT 17u
+#define ST25DV_AT_RF_MNGT_DYN 18u
+#define ST25DV_AT_RFA1SS 19u
+#define ST25DV_AT_ENDA1 20u
+#define ST25DV_AT_RFA2SS 21u
+#define ST25DV_AT_ENDA2 22u
+#define ST25DV_AT_RFA3SS 23u
+#define ST25DV_AT_ENDA3 24u
+#define ST25DV_AT_RFA4SS 25u
+#define ST25DV_AT_I2CSS 26u
+#define ST25DV_AT_LOCK_CCFILE 27u
+#define ST25DV_AT_MB_MODE 28u
+#define ST25DV_AT_LOCK_CFG 29u
+#define ST25DV_AT_DSFID 30u
+#define ST25DV_AT_AFI 31u
+#define ST25DV_AT_MB_EN 32u          /* flag */
+#define ST25DV_AT_HOST_PUT 33u       /* flag */
+#define ST25DV_AT_RF_PUT 34u         /* flag */
+#define ST25DV_AT_HOST_CURRENT 35u   /* flag */
+#define ST25DV_AT_RF_CURRENT 36u     /* flag */
+#define ST25DV_AT_MESSAGE_LENGTH 37u /* two bytes */
+#define ST25DV_AT_I2C_PASSWORD 39u   /* eight bytes, as a password leg sends them */
+#define ST25DV_AT_PASSWORD_0 47u     /* eight bytes, as a frame sends them; so for passwords 1 to 3 */
+#define ST25DV_AT_PASSWORD_1 55u
+#define ST25DV_AT_PASSWORD_2 63u
+#define ST25DV_AT_PASSWORD_3 71u
+#define ST25DV_AT_UID 79u            /* eight bytes, lowest first */
 
 /* values at ST25DV_AT_RADIO_STATE */
 #define ST25DV_READY 0u

@@ -689,6 +689,29 @@ static void refused_value(const char *what, size_t place, uint8_t value)
     now.state[place % ROOM] = due.state[place % ROOM] = before;
 }
 
+/* An inventory: the UID's lowest four bits are 1, so of sixteen slots the tag answers in slot 1. */
+static void inventory(void)
+{
+    static const uint8_t sixteen[] = {0x06, 0x01, 0x00};
+    static const uint8_t family[] = {0x36, 0x01, 0xA5, 0x00};
+    static const uint8_t other[] = {0x36, 0x01, 0xA6, 0x00};
+    powered();
+    set(ST25DV_AT_DSFID, 0x5A);
+    set(ST25DV_AT_AFI, 0xA5);
+    now = due;
+    set(ST25DV_AT_SLOTS, 1);
+    unserved("inventory of sixteen slots", sixteen, sizeof sixteen, 0, ST25DV_RULE_INVENTORY_FLAG);
+    set(ST25DV_AT_SLOTS, 0);
+    judged("its slot", ST25DV_END_OF_FRAME, 0, NULL, 0, ST25DV_REPLY + 12, 0);
+    if (now.reply[1] != 0x5A)
+        fail("its slot", "DSFID", 1, now.reply[1], 0x5A);
+    memcpy(due.reply, now.reply, 12);
+    compare("its slot");
+    step("no slot awaited", ST25DV_END_OF_FRAME, 0, ST25DV_SILENCE);
+    ask("inventory of its AFI", family, sizeof family, ST25DV_REPLY + 12, 0);
+    unserved("inventory of another AFI", other, sizeof other, 0, ST25DV_RULE_INVENTORY_FLAG);
+}
+
 /* The value after the last is refused where there are values by name, and 2 at a flag. */
 static void refused_values(void)
 {
@@ -702,6 +725,7 @@ static void refused_values(void)
         refused_value("a flag of 2", flags[i], 2);
     refused_value("another radio state", ST25DV_AT_RADIO_STATE, ST25DV_SELECTED + 1);
     refused_value("another radio session", ST25DV_AT_RADIO_SESSION, ST25DV_SESSION_PASSWORD_3 + 1);
+    refused_value("a slot past the last", ST25DV_AT_SLOTS, 16);
     refused_value("another bus", ST25DV_AT_BUS, ST25DV_BUS_DATA_LEG + 1);
     refused_value("another space", ST25DV_AT_SPACE, ST25DV_SPACE_SYSTEM + 1);
     refused_value("a value kept for no transfer", ST25DV_AT_KEPT_RF_MNGT_DYN, 1);
@@ -713,6 +737,7 @@ static void refused_signals(void)
 {
     static const uint32_t tops[][2] = {
         {ST25DV_VCC, 1}, {ST25DV_FIELD, 1}, {ST25DV_START, 0}, {ST25DV_SEND, 255}, {ST25DV_FETCH, 1}, {ST25DV_STOP, 0}, {ST25DV_PROGRAMMING_END, 0}, {ST25DV_FRAME, 0},
+        {ST25DV_END_OF_FRAME, 0},
     };
     size_t i;
     powered();
@@ -807,6 +832,7 @@ int main(void)
     rules_of_the_mailbox();
     rules_of_reception();
     rules_of_requests();
+    inventory();
     refused_values();
     refused_signals();
     refused_steps();

@@ -4,7 +4,7 @@ use Rattle.parts.specs.Pick.{pick}
 use Rattle.air.specs.declared.RadioState.{RadioState}
 use Rattle.air.specs.declared.RadioState.the-variants.{Ready, Quiet, Selected}
 use Rattle.air.specs.declared.Air.{Air}
-use Rattle.air.specs.Parts.{outOfField, withField, withState}
+use Rattle.air.specs.Parts.{outOfField, withField, withState, withSlots}
 
 unfoldable pub isQuiet : RadioState → Bool
 isQuiet Ready = false
@@ -24,15 +24,15 @@ selected a = withState Selected a
 unfoldable pub deselected : Air → Air
 deselected a = pick (isSelected (a .radio)) (withState Ready a) a
 
--- "Stay Quiet: Quiet"
+-- "Stay Quiet: Quiet"; the count of ends-of-frame is "0 when Quiet"
 abbrev pub quieted : Air → Air
-quieted a = withState Quiet a
+quieted a = withState Quiet (withSlots 0 a)
 
 -- "Reset gives Ready"
 abbrev pub reset : Air → Air
 reset a = withState Ready a
 
--- "Field off makes the tag Ready and closes the radio session."
+-- "Field off makes the tag Ready and closes the radio session."; the count is "0 when .. out of the field"
 abbrev pub fieldOff : Air → Air
 fieldOff a = outOfField
 

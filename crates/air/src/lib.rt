@@ -1,7 +1,7 @@
 // The radio state and the field.
 ghost use mathlib.Core.Path.{_≡_};
 ghost use Rattle.air.specs.Radio.{isQuiet, isSelected, selected, deselected, quieted, reset, fieldOff, fieldOn, fieldAt};
-ghost use Rattle.air.specs.Parts.{outOfField, withState, withRadioSession};
+ghost use Rattle.air.specs.Parts.{outOfField, withState, withRadioSession, withSlots};
 
 pub enum RadioState {
     Ready,
@@ -9,11 +9,13 @@ pub enum RadioState {
     Selected,
 }
 
-// All that a field change touches. The session is 0 for none, 1 to 4 for passwords 0 to 3.
+// All that a field change touches. The session is 0 for none, 1 to 4 for passwords 0 to 3; slots is how many
+// ends-of-frame are left to the tag's slot of an inventory, 0 to 15.
 pub struct Air {
     pub field: bool,
     pub radio: RadioState,
     pub session: u8,
+    pub slots: u8,
 }
 
 pub fn is_quiet(x: RadioState) -> bool
@@ -45,6 +47,7 @@ impl Air {
             field: false,
             radio: RadioState::Ready,
             session: 0,
+            slots: 0,
         }
     }
 
@@ -56,6 +59,14 @@ impl Air {
         a
     }
 
+    pub fn with_slots(self, n: u8) -> Air
+        ensures { λ r. ⌜ r ≡ withSlots n self ⌝ }
+    {
+        let mut a = self;
+        a.slots = n;
+        a
+    }
+
     fn with_state(self, radio: RadioState) -> Air
         ensures { λ r. ⌜ r ≡ withState radio self ⌝ }
     {
@@ -63,6 +74,7 @@ impl Air {
             field: self.field,
             radio,
             session: self.session,
+            slots: self.slots,
         }
     }
 
@@ -87,7 +99,7 @@ impl Air {
     pub fn stay_quiet(self) -> Air
         ensures { λ r. ⌜ r ≡ quieted self ⌝ }
     {
-        self.with_state(RadioState::Quiet)
+        self.with_slots(0).with_state(RadioState::Quiet)
     }
 
     pub fn reset(self) -> Air

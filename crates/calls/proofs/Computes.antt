@@ -33,7 +33,7 @@ use Rattle.reply.specs.Reply.{answerOf, bufferOf}
 use Rattle.frame.specs.Fields.{uidPlace, paramPlace, ownUid, param}
 use Rattle.rule_list.specs.RuleList.{anyHolds, firstSays}
 use Rattle.commands.specs.Table.{commandTable, commandOf, isKnown, takesOption, sizeOf, paramBytes}
-use Rattle.silence.specs.Silence.{makerDiffers, uidDiffers, silenceHolds, receptionSilences, addressSilences, requestSilences, isSilent}
+use Rattle.silence_rules.specs.Silence.{makerDiffers, uidDiffers, silenceHolds, receptionSilences, addressSilences, requestSilences, isSilent}
 use Rattle.judge.specs.Judge.{isMute, errorOf, shutOut, badFlags, wrongLength, errorHolds, ruleError, errorRules, judge}
 use Rattle.blocks.specs.Blocks.{leavesArea, blocksOf, readOf}
 use Rattle.block_status.specs.Status.{statusOf, statusesOf, statusReply}
@@ -46,7 +46,9 @@ use Rattle.message.specs.Message.{lengthOf, asked, mailboxAfterRead, readMessag
 use Rattle.password.specs.Password.{presentOf, writePasswordOf}
 use Rattle.radio_state.specs.RadioState.{stayQuietOf, selectUidOf, resetToReadyOf}
 use Rattle.serve.specs.Commands.{serveCommand, serveCode, serveOf}
-use Rattle.radio.specs.Radio.{verdictResult, radioOf}
+use Rattle.inventory.specs.Inventory.{maskLengthPlace, maskBits, isMalformed, bitAt, sameBits, afiAsks, isMatched, slotNumber, ownSlot, slotsAfter, answersNow, takesPart}
+use Rattle.inventory_reply.specs.Answers.{isHeard, inventoryOf, endOfFrameOf}
+use Rattle.radio.specs.Radio.{nextSlotOf, verdictResult, radioOf}
 use Rattle.refusals.specs.Refusals.{number, looksAtTag, tagInRange, judgement, unlessRefused}
 use Rattle.model.specs.Step.{fromWire, fromRadio, actOf, stepOf, freshOf}
 use Rattle.calls.specs.Calls.{entry, runBy, framesFit}
@@ -54,5 +56,5 @@ use Rattle.calls.specs.Examples.{sends}
 
 -- all that a run of written-down calls computes with
 unfoldable pub computes : Unit {0}
-unfolding bytesAt copied agree pick shifted bit bits byte run crcOf goodFrame closedAt definedOnly freshRegisters registerBytes byteOf registerAt withEnd putDefined writtenTo written areaOfBlock areaOfByte endsInRange laterLargest exceedsBefore endAccepted endAllows securityOf sessionOpens radioWrites radioReads wireBits wireGuards wireWrites wireReads isLocked readRight writeRight mayRead mayWrite isOpen transferAt isOpenTransfer countedDynamic keptOf isActive pageBytes radioPassword withRadioPassword freshPasswords controlByte lengthByte enabled controlled isQuiet isSelected deselected fieldAt vccAt freshTag registersInRange airInRange mailboxInRange suppliedInRange transferInRange hostInRange coreInRange wireInRange inRange pageAcked busInRange memoryAcked mailboxAcked userAcked writtenAll registerAcked passwordAcked systemAcked spaceAcked acked selectOf choose firstOf userWritten passwordWritten systemWritten legWritten actsAtStart settle memoryByte mailboxByte userByte systemByte fetched isLast sentByte dueOf startAt startOf stopAt selectBy dataOf sendAt fetchAt signalOf answerOf bufferOf uidPlace paramPlace ownUid param isKnown takesOption paramBytes isSilent isMute errorOf shutOut badFlags wrongLength judge leavesArea statusOf blockOf blocksOf readOf mayWriteAll writeOf lockOf statusesOf statusReply readConfigOf mailboxAfterWrite writtenCore writeConfigOf readDynamicOf writeDynamicOf takesMessage writeMessageOf lengthOf asked mailboxAfterRead readMessageOf presentOf writePasswordOf stayQuietOf selectUidOf resetToReadyOf serveOf verdictResult radioOf areBytes signalTable signalFound isFound signalInRange signalIn signalBy number looksAtTag firstSays judgement unlessRefused fromWire fromRadio tagInRange actOf stepOf freshOf entry runBy sends framesFit anyHolds commandTable commandOf sizeOf makerDiffers uidDiffers silenceHolds receptionSilences addressSilences requestSilences errorHolds ruleError errorRules serveCommand serveCode placeBits rowIn rowOf definedTo
+unfolding bytesAt copied agree pick shifted bit bits byte run crcOf goodFrame closedAt definedOnly freshRegisters registerBytes byteOf registerAt withEnd putDefined writtenTo written areaOfBlock areaOfByte endsInRange laterLargest exceedsBefore endAccepted endAllows securityOf sessionOpens radioWrites radioReads wireBits wireGuards wireWrites wireReads isLocked readRight writeRight mayRead mayWrite isOpen transferAt isOpenTransfer countedDynamic keptOf isActive pageBytes radioPassword withRadioPassword freshPasswords controlByte lengthByte enabled controlled isQuiet isSelected deselected fieldAt vccAt freshTag registersInRange airInRange mailboxInRange suppliedInRange transferInRange hostInRange coreInRange wireInRange inRange pageAcked busInRange memoryAcked mailboxAcked userAcked writtenAll registerAcked passwordAcked systemAcked spaceAcked acked selectOf choose firstOf userWritten passwordWritten systemWritten legWritten actsAtStart settle memoryByte mailboxByte userByte systemByte fetched isLast sentByte dueOf startAt startOf stopAt selectBy dataOf sendAt fetchAt signalOf answerOf bufferOf uidPlace paramPlace ownUid param isKnown takesOption paramBytes isSilent isMute errorOf shutOut badFlags wrongLength judge leavesArea statusOf blockOf blocksOf readOf mayWriteAll writeOf lockOf statusesOf statusReply readConfigOf mailboxAfterWrite writtenCore writeConfigOf readDynamicOf writeDynamicOf takesMessage writeMessageOf lengthOf asked mailboxAfterRead readMessageOf presentOf writePasswordOf stayQuietOf selectUidOf resetToReadyOf serveOf maskLengthPlace maskBits isMalformed bitAt sameBits afiAsks isMatched slotNumber ownSlot slotsAfter answersNow takesPart isHeard inventoryOf endOfFrameOf verdictResult radioOf nextSlotOf areBytes signalTable signalFound isFound signalInRange signalIn signalBy number looksAtTag firstSays judgement unlessRefused fromWire fromRadio tagInRange actOf stepOf freshOf entry runBy sends framesFit anyHolds commandTable commandOf sizeOf makerDiffers uidDiffers silenceHolds receptionSilences addressSilences requestSilences errorHolds ruleError errorRules serveCommand serveCode placeBits rowIn rowOf definedTo
 computes = tt

@@ -14,7 +14,7 @@ use Rattle.tag.specs.declared.Core.{Core}
 use Rattle.keys.specs.declared.Uid.{Uid}
 use Rattle.tag.specs.Supply.{freshTag}
 use Rattle.tag.specs.Layout.{userBytes, memoryBytes, replyBytes}
-use Rattle.air.specs.Parts.{withField, withState, withRadioSession}
+use Rattle.air.specs.Parts.{withField, withState, withRadioSession, withSlots}
 use Rattle.tag.specs.Parts.{withVcc, withI2cSession, withProgramming, withCounter, withTagHost, withTagCore, withBus, withRegisters, withMailbox, withTagAir}
 use Rattle.mailbox.specs.Parts.{withPut, withEnabled, withHostMessage, withLength}
 use Rattle.mailbox.specs.Mailbox.{emptyMailbox, putMessage}
@@ -64,6 +64,10 @@ programmingEnd = callOf 7 0 []
 abbrev pub frame : List ℕ → Call
 frame f = callOf 8 0 (closed f)
 
+-- an end-of-frame
+abbrev pub endOfFrame : Call
+endOfFrame = callOf 9 0 []
+
 -- ---- tags, written down from 01's words
 -- the bench's UID
 abbrev pub uid : Uid
@@ -101,6 +105,10 @@ radioState x d = onAir (withState x) d
 -- "radio session .. 1 to 4 for passwords 0 to 3"
 abbrev pub radioSession : ℕ → Device → Device
 radioSession n d = onAir (withRadioSession n) d
+
+-- ends-of-frame left to the slot
+abbrev pub slotsAre : ℕ → Device → Device
+slotsAre n d = onAir (withSlots n) d
 
 -- ---- the host side
 abbrev pub vccIs : Bool → Device → Device

@@ -17,7 +17,7 @@ use Rattle.refusals.specs.Call.{Call}
 use Rattle.refusals.specs.Refusals.{number, callRules, laterRules, entryRules, judgement, unlessRefused}
 use Rattle.refusals.proofs.Laws.{judged-map, judgement-append, append-idle, NoneApplies}
 use Rattle.library_refusals.specs.Rules.{stateRule, decodesRule, stepRules}
-use Rattle.explanation.specs.Explanation.{ruleAt}
+use Rattle.explanation_rules.specs.Explanation.{ruleAt}
 use Rattle.model.specs.declared.Answer.{Answer}
 use Rattle.model.specs.declared.Answer.the-variants.{Refused, Nothing, Ack, NoAck, Byte, Silence, Reply}
 use Rattle.model.specs.Step.{StepResult, refused, isRefused, actOf, stepOf}

@@ -6,7 +6,7 @@ use Rattle.state.specs.Layout.{tagOf}
 use Rattle.refusals.specs.Call.{Call}
 use Rattle.refusals.specs.Refusals.{number, entryRules, judgement, unlessRefused}
 use Rattle.library_refusals.specs.Rules.{stepRules}
-use Rattle.explanation.specs.Explanation.{ruleAt}
+use Rattle.explanation_rules.specs.Explanation.{ruleAt}
 
 -- below 0x100 the refusal; 0x100 where there is nothing to explain; 0x100 + k for rule k
 unfoldable pub explainOf : Tag → List ℕ → Call → ℕ

@@ -15,11 +15,10 @@ use Rattle.parts.specs.Pick.{pick}
 use Rattle.tag.specs.Parts.{wireSide, withWire}
 use Rattle.transfer.specs.Legs.{Noted, NotedStart, NotedSend, NotedFetch, NotedStop, NotedVccOff, finished}
 use Rattle.transfer.specs.Whole.{transferOf}
-use Rattle.reply.specs.Reply.{bufferOf, answerOf}
-use Rattle.radio.specs.Radio.{radioOf}
-use Rattle.model.specs.Step.{stepResult, fromWire, fromRadio, stepOf}
+use Rattle.radio.specs.Radio.{radioOf, nextSlotOf}
+use Rattle.model.specs.Step.{fromWire, byRadio, stepOf}
 use Rattle.refusals.specs.Refusals.{tagInRange}
-use Rattle.reply.specs.Outcome.{radioSide, withRadio}
+use Rattle.reply.specs.Outcome.{radioSide}
 use Rattle.model.specs.Claims.{Fit}
 use Rattle.refusals.specs.Call.{Call, handedIn}
 use Rattle.calls.specs.Calls.{CallAnswer, callAnswer, Device, device, runResult, entry, runBy}
@@ -79,13 +78,17 @@ TransferServed = (d : Device) (handed : List WireCall)
     ≡ (let result = transferOf (wireSide (d .tag)) (d .tag .uid) (d .memory) (signals handed) in
     runResult (answersOf (result .answers) handed) (device (withWire (result .side) (d .tag)) (result .memory)))
 
--- ---- till direction: a frame's call is the judge and the table of commands
+-- ---- till direction: a frame's call is an inventory, or the judge and the table of commands
 abbrev pub FrameServed : Type 0
 FrameServed = (t : Tag) (m o f : List ℕ) → Fit t m → replyBytes ≤ length o
     → stepOf t m (handedIn o 8 0 f)
-    ≡ (let result = radioOf (radioSide t) (t .uid) (t .host .vcc) (transferAt (t .host .bus)) (t .host .programming) m f in
-    stepResult (fromRadio (answerOf (result .reply))) (withRadio (result .side) t) (result .memory) (bufferOf (result .reply) o))
+    ≡ byRadio (radioOf (radioSide t) (t .uid) (t .host .vcc) (transferAt (t .host .bus)) (t .host .programming) m f) t o
 
--- ---- both
+-- an end-of-frame's call opens the next slot of an inventory
+abbrev pub NextSlotServed : Type 0
+NextSlotServed = (t : Tag) (m o f : List ℕ) → Fit t m → replyBytes ≤ length o
+    → stepOf t m (handedIn o 9 0 f) ≡ byRadio (nextSlotOf (radioSide t) (t .uid) (transferAt (t .host .bus)) (t .host .programming) m) t o
+
+-- ---- all of it
 abbrev pub Demand2 : Type 0
-Demand2 = TransferServed × FrameServed
+Demand2 = TransferServed × (FrameServed × NextSlotServed)

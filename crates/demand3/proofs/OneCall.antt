@@ -1,5 +1,7 @@
 -- What one call of the entry point does to a tag in range: struck frames, what stays, and that refusals 1 and 4 do not come. Assumes nothing.
 use mathlib.Core.Path.{_≡_, refl, sym, ap, _∙_}
+use mathlib.Core.List.{List}
+use Prim.Native.Nat.{ℕ}
 use mathlib.Core.Bool.{Bool, true, false, not, _&&_, false≢true}
 use Rattle.parts.proofs.Bools.{and-left, and-right}
 use Rattle.wire_claims.specs.Claims.{sideCounted}
@@ -13,40 +15,53 @@ use Rattle.model.proofs.Served.{act-served}
 use Rattle.model.specs.declared.Answer.{Answer}
 use Rattle.model.specs.declared.Answer.the-variants.{Refused, Nothing, Ack, NoAck, Byte, Silence, Reply as ReplyOf}
 use Rattle.signal_table.specs.declared.Signal.{Signal}
-use Rattle.signal_table.specs.declared.Signal.the-variants.{Wire, Field, Frame}
+use Rattle.signal_table.specs.declared.Signal.the-variants.{Wire, Field, Frame, EndOfFrame}
 use Rattle.signal_table.specs.Table.{signalBy}
 use Rattle.model.specs.Step.{transferOpen, actOf, isRefused}
 use Rattle.register_types.specs.declared.RfMngt.{RfMngt}
+use Rattle.air.specs.declared.Air.{Air}
+use Rattle.keys.specs.declared.Uid.{Uid}
 use Rattle.tag.specs.declared.Tag.{Tag}
+use Rattle.reply.specs.Reply.{ReplyBody, nothing}
 use Rattle.tag.specs.Parts.{wireSide}
 use Rattle.refusals.specs.Call.{Call}
 use Rattle.calls.specs.Calls.{Device, DeviceResult, deviceResult, entry, callReply}
-use Rattle.demand3.specs.Demand3.{refusedByState, isFrame, struck}
+use Rattle.demand3.specs.Demand3.{refusedByState, isRadio, struck}
 use Rattle.calls.proofs.Laws.{Fits, actedBy, found, call-case, supplied}
-use Rattle.waiting.proofs.Frames.{shutBy, frame-shut}
+use Rattle.waiting.proofs.Frames.{shutBy, frame-shut, end-shut}
 
 -- ---- a struck call
 -- RF_MNGT_Dyn as it counts for a frame
 abbrev pub tagCounted : Tag → RfMngt
 tagCounted t = sideCounted (wireSide t)
 
-of-frame : (x : Signal) → isFrame x ≡ true → x ≡ Frame
-unfolding isFrame
-of-frame (Wire s) h = absurd (false≢true h)
-of-frame (Field on) h = absurd (false≢true h)
-of-frame Frame h = refl
+-- its reply, by RF_MNGT_Dyn as it counts
+unfoldable pub shutOf : Signal → List ℕ → Air → Uid → RfMngt → ReplyBody
+shutOf (Wire s) f a u dynamic = nothing
+shutOf (Field on) f a u dynamic = nothing
+shutOf Frame f a u dynamic = shutBy f a u dynamic
+shutOf EndOfFrame f a u dynamic = nothing
 
-pub struck-is : (d : Device) (c : Call) → Fits d → struck entry d c ≡ true
-    → entry d c ≡ deviceResult (callReply (shutBy (c .frame) (d .tag .air) (d .tag .uid) (tagCounted (d .tag))) (c .buffer)) d
+abbrev shutCall : Signal → Device → Call → DeviceResult
+shutCall x d c = deviceResult (callReply (shutOf x (c .frame) (d .tag .air) (d .tag .uid) (tagCounted (d .tag))) (c .buffer)) d
+
+of-radio : (x : Signal) (d : Device) (c : Call) → isRadio x ≡ true → transferOpen (d .tag) ≡ true → actedBy x d c ≡ shutCall x d c
+unfolding isRadio shutOf
+of-radio (Wire s) d c h opened = absurd (false≢true h)
+of-radio (Field on) d c h opened = absurd (false≢true h)
+of-radio Frame d c h opened = frame-shut d c opened
+of-radio EndOfFrame d c h opened = end-shut d c opened
+
+pub struck-is : (d : Device) (c : Call) → Fits d → struck entry d c ≡ true → entry d c ≡ shutCall (signalBy (c .code) (c .value)) d c
 unfolding struck isRefused
 struck-is d c f h =
     let opened = transferOpen (d .tag) in
-    let frame = isFrame (signalBy (c .code) (c .value)) in
-    let both = and-left (opened && frame) (not (isRefused (entry d c .says .answer))) h in
-    call-case (λ (e : DeviceResult). not (isRefused (e .says .answer)) ≡ true → e ≡ deviceResult (callReply (shutBy (c .frame) (d .tag .air) (d .tag .uid) (tagCounted (d .tag))) (c .buffer)) d) d c f
+    let x = signalBy (c .code) (c .value) in
+    let both = and-left (opened && isRadio x) (not (isRefused (entry d c .says .answer))) h in
+    call-case (λ (e : DeviceResult). not (isRefused (e .says .answer)) ≡ true → e ≡ shutCall x d c) d c f
     (λ r found n. absurd (false≢true n))
-    (λ n. ap (λ (x : Signal). actedBy x d c) (of-frame _ (and-right opened frame both)) ∙ frame-shut d c (and-left opened frame both))
-    (and-right (opened && frame) (not (isRefused (entry d c .says .answer))) h)
+    (λ n. of-radio x d c (and-right opened (isRadio x) both) (and-left opened (isRadio x) both))
+    (and-right (opened && isRadio x) (not (isRefused (entry d c .says .answer))) h)
 
 -- ---- what a call that leaves a transfer open keeps
 pub record Stays (d : Device) (e : DeviceResult) : Type 0 where
@@ -58,6 +73,7 @@ unfolding actOf
 act-stays (Wire x) d c f =
     record { uid = refl; counted = counted-stays (wireSide (d .tag)) (d .tag .uid) (d .memory) x (supplied (d .tag) (d .memory) f) }
 act-stays (Field on) d c f = record { uid = refl; counted = λ h. refl }
+act-stays EndOfFrame d c f = record { uid = refl; counted = λ h. ap (λ (e : DeviceResult). tagCounted (e .device .tag)) (end-shut d c h) }
 act-stays Frame d c f = record { uid = refl; counted = λ h. ap (λ (e : DeviceResult). tagCounted (e .device .tag)) (frame-shut d c h) }
 
 pub call-stays : (d : Device) (c : Call) → Fits d → Stays d (entry d c)

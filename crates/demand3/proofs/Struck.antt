@@ -8,15 +8,20 @@ use Rattle.parts.proofs.Picks.{pick-case}
 use Rattle.register_types.specs.declared.RfMngt.{RfMngt}
 use Rattle.bus.specs.Bus.{isOpen, transferAt}
 use Rattle.keys.specs.declared.Uid.{Uid}
+use Prim.Native.Nat.{ℕ}
+use Rattle.air.specs.declared.Air.{Air}
 use Rattle.tag.specs.declared.Tag.{Tag}
 use Rattle.model.specs.Step.{transferOpen}
+use Rattle.reply.specs.Reply.{ReplyBody}
+use Rattle.signal_table.specs.declared.Signal.{Signal}
+use Rattle.signal_table.specs.declared.Signal.the-variants.{Wire, Field, Frame, EndOfFrame}
+use Rattle.signal_table.specs.Table.{signalBy}
 use Rattle.refusals.specs.Call.{Call}
 use Rattle.calls.specs.Calls.{CallAnswer, Device, DeviceResult, RunResult, runResult, entry, runBy, framesFit, callReply}
-use Rattle.demand3.specs.Demand3.{stateRefused, struck, others, otherAnswers, Shut, startAfter, EachStruck, AllShut, RepliesShut}
+use Rattle.demand3.specs.Demand3.{stateRefused, struck, others, otherAnswers, shutReply, Shut, startAfter, EachStruck, AllShut, RepliesShut}
 use Rattle.calls.proofs.Laws.{Fits, first-fits, rest-fits, fits-next}
 use Rattle.wire_claims.proofs.Line.{closed-counted}
-use Rattle.waiting.proofs.Frames.{shutBy}
-use Rattle.demand3.proofs.OneCall.{tagCounted, struck-is, Stays, call-stays, call-judged}
+use Rattle.demand3.proofs.OneCall.{tagCounted, shutOf, struck-is, Stays, call-stays, call-judged}
 
 -- ---- one call
 -- the start of the open transfer has the tag's UID, and the RF_MNGT_Dyn that counts; with none open the tag is its own start
@@ -24,11 +29,21 @@ pub record Since (start t : Tag) : Type 0 where
   pub uid : start .uid ≡ t .uid
   pub counted : start .core .registers .dynamic ≡ tagCounted t
 
+-- as the tag at the start has it
+from-start : (x : Signal) (start : Tag) (a : Air) (f : List ℕ) → shutOf x f a (start .uid) (start .core .registers .dynamic) ≡ shutReply x start a f
+unfolding shutOf shutReply
+from-start (Wire s) start a f = refl
+from-start (Field on) start a f = refl
+from-start Frame start a f = refl
+from-start EndOfFrame start a f = refl
+
 shut-reply : (start : Tag) (d : Device) (c : Call) → Fits d → Since start (d .tag) → struck entry d c ≡ true → RepliesShut entry start d c
 shut-reply start d c f s h =
+    let x = signalBy (c .code) (c .value) in
     ap (λ (e : DeviceResult). e .says) (struck-is d c f h)
-    ∙ ap (λ (u : Uid). callReply (shutBy (c .frame) (d .tag .air) u (tagCounted (d .tag))) (c .buffer)) (sym (s .uid))
-    ∙ ap (λ (x : RfMngt). callReply (shutBy (c .frame) (d .tag .air) (start .uid) x) (c .buffer)) (sym (s .counted))
+    ∙ ap (λ (u : Uid). callReply (shutOf x (c .frame) (d .tag .air) u (tagCounted (d .tag))) (c .buffer)) (sym (s .uid))
+    ∙ ap (λ (dynamic : RfMngt). callReply (shutOf x (c .frame) (d .tag .air) (start .uid) dynamic) (c .buffer)) (sym (s .counted))
+    ∙ ap (λ (reply : ReplyBody). callReply reply (c .buffer)) (from-start x start (d .tag .air) (c .frame))
 
 shut-call : (start : Tag) (d : Device) (c : Call) → Fits d → Since start (d .tag) → struck entry d c ≡ true → Shut entry start d c
 shut-call start d c f s h = record { unchanged = ap (λ (e : DeviceResult). e .device) (struck-is d c f h); reply = shut-reply start d c f s h }

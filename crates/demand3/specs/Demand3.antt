@@ -10,12 +10,13 @@ use Rattle.tag.specs.declared.Tag.{Tag}
 use Rattle.tag.specs.Layout.{memoryBytes}
 use Rattle.errors.specs.declared.RadioError.the-variants.{ShutOut}
 use Rattle.reply.specs.Reply.{ReplyBody, nothing, fault}
+use Rattle.frame.specs.Fields.{inventoryFlag}
 use Rattle.judge.specs.Judge.{isMute}
-use Rattle.silence.specs.Silence.{isSilent}
+use Rattle.silence_rules.specs.Silence.{isSilent}
 use Rattle.model.specs.declared.Answer.{Answer}
 use Rattle.model.specs.declared.Answer.the-variants.{Refused, Nothing, Ack, NoAck, Byte, Silence, Reply as ReplyOf}
 use Rattle.signal_table.specs.declared.Signal.{Signal}
-use Rattle.signal_table.specs.declared.Signal.the-variants.{Wire, Field, Frame}
+use Rattle.signal_table.specs.declared.Signal.the-variants.{Wire, Field, Frame, EndOfFrame}
 use Rattle.signal_table.specs.Table.{signalBy}
 use Rattle.model.specs.Step.{isRefused, transferOpen}
 use Rattle.refusals.specs.Refusals.{looksAtTag, tagInRange}
@@ -38,14 +39,15 @@ unfoldable pub stateRefused : List CallAnswer → Bool
 stateRefused [] = false
 stateRefused (answer ∷ answers) = refusedByState (answer .answer) || stateRefused answers
 
--- ---- the unrefused frames that came inside a transfer are struck out
-unfoldable pub isFrame : Signal → Bool
-isFrame (Wire signal) = false
-isFrame (Field on) = false
-isFrame Frame = true
+-- ---- the unrefused frames that came inside a transfer are struck out; "demand 3 strikes the signal", an end-of-frame, "like a frame"
+unfoldable pub isRadio : Signal → Bool
+isRadio (Wire signal) = false
+isRadio (Field on) = false
+isRadio Frame = true
+isRadio EndOfFrame = true
 
 unfoldable pub struck : Step → Device → Call → Bool
-struck step d call = transferOpen (d .tag) && isFrame (signalBy (call .code) (call .value)) && not (isRefused (step d call .says .answer))
+struck step d call = transferOpen (d .tag) && isRadio (signalBy (call .code) (call .value)) && not (isRefused (step d call .says .answer))
 
 -- the calls that are left
 unfoldable pub others : Step → Device → List Call → List Call
@@ -63,18 +65,25 @@ otherAnswers step d (call ∷ calls) =
 
 -- ---- a struck frame's reply: silence or 0Fh, as 01 fixes from the frame, the tag at the transfer's start,
 -- and the field and radio state when it came
-abbrev pub shutReply : Tag → Air → List ℕ → ReplyBody
-shutReply start air f =
-    pick (isSilent f air (start .uid) (start .core .registers .dynamic) || isMute f (start .uid)) nothing
+abbrev pub shutFrame : Tag → Air → List ℕ → ReplyBody
+shutFrame start air f =
+    pick (inventoryFlag f || isSilent f air (start .uid) (start .core .registers .dynamic) || isMute f (start .uid)) nothing
     (fault ShutOut)
 
--- a struck frame changed nothing
+-- a struck end-of-frame's: silence
+unfoldable pub shutReply : Signal → Tag → Air → List ℕ → ReplyBody
+shutReply (Wire signal) start air f = nothing
+shutReply (Field on) start air f = nothing
+shutReply Frame start air f = shutFrame start air f
+shutReply EndOfFrame start air f = nothing
+
+-- a struck call changed nothing
 abbrev pub Unchanged : Step → Tag → Device → Call → Type 0
 Unchanged step start d call = step d call .device ≡ d
 
 -- and its reply is that
 abbrev pub RepliesShut : Step → Tag → Device → Call → Type 0
-RepliesShut step start d call = step d call .says ≡ callReply (shutReply start (d .tag .air) (call .frame)) (call .buffer)
+RepliesShut step start d call = step d call .says ≡ callReply (shutReply (signalBy (call .code) (call .value)) start (d .tag .air) (call .frame)) (call .buffer)
 
 pub record Shut (step : Step) (start : Tag) (d : Device) (call : Call) : Type 0 where
   pub unchanged : Unchanged step start d call
@@ -84,7 +93,7 @@ pub record Shut (step : Step) (start : Tag) (d : Device) (call : Call) : Type 0 
 abbrev pub startAfter : Tag → Tag → Tag
 startAfter start t = pick (transferOpen t) start t
 
--- every struck frame of a list has P; `start` is the tag at the start of the transfer that is open
+-- every struck call of a list has P; `start` is the tag at the start of the transfer that is open
 unfoldable pub EachStruck : Step → (Tag → Device → Call → Type 0) → Tag → Device → List Call → Type 0
 EachStruck step P start d [] = Unit {0}
 EachStruck step P start d (call ∷ calls) =
@@ -104,7 +113,7 @@ Same step d calls = waitRun (noTransfer [] d) calls ≡ noTransfer (runBy step d
 abbrev pub Judged : Step → Device → List Call → Type 0
 Judged step d calls = stateRefused (runBy step d calls .answers) ≡ false
 
--- without the struck frames all else stays the same
+-- without the struck calls all else stays the same
 abbrev pub Striking : Step → Device → List Call → Type 0
 Striking step d calls = runBy step d (others step d calls) ≡ runResult (otherAnswers step d calls) (runBy step d calls .device)
 
@@ -112,13 +121,13 @@ pub record Agrees (step : Step) (d : Device) (calls : List Call) : Type 0 where
   pub same : Same step d calls
   pub judged : Judged step d calls
   pub striking : Striking step d calls
-  -- every struck frame changed nothing, and its reply was silence or 0Fh
+  -- every struck call changed nothing, and its reply was silence or, to a frame, silence or 0Fh
   pub shut : AllShut step (d .tag) d calls
 
 -- the list finishes with no transfer open: the waiting tag says so, since a wrong tag might never close its own
 unfoldable pub isClosed : Waiting → Bool
 isClosed (noTransfer out d) = true
-isClosed (inside out d noted slots) = false
+isClosed (inside out d noted pending) = false
 
 -- from any tag within 01's ranges with no transfer open, for every list of calls that finishes with none open
 abbrev pub EveryList : (Device → List Call → Type 0) → Type 0

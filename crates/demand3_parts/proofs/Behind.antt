@@ -16,7 +16,8 @@ use Rattle.bus.specs.declared.Bus.{Bus}
 use Rattle.bus.specs.declared.Bus.the-variants.{Idle, Started, ReadLeg, WriteLeg, LowAddress, DataLeg}
 use Rattle.tag.specs.declared.Tag.{Tag}
 use Rattle.bus.specs.Bus.{keptOf, transferAt, isOpenTransfer, isOpen, pageBytes}
-use Rattle.ranges.specs.Ranges.{airInRange, hostInRange}
+use Rattle.ranges.specs.Ranges.{hostInRange}
+use Rattle.ranges.proofs.AirKept.{session-at-most}
 use Rattle.signal_table.specs.Table.{signalBy}
 use Rattle.model.specs.Step.{transferOpen, isRefused}
 use Rattle.refusals.proofs.Ranges.{range-parts}
@@ -24,7 +25,7 @@ use Rattle.refusals.specs.Call.{Call}
 use Rattle.calls.specs.Calls.{CallAnswer, Device, DeviceResult, entry, runBy, framesFit, callReply}
 use Rattle.calls.specs.Examples.{_but_, radioSession, onBus, fieldIs}
 use Rattle.waiting.specs.Waiting.{noTransfer}
-use Rattle.demand3.specs.Demand3.{isFrame, struck, shutReply, startAfter, EachStruck, Same, EveryList, Unchanged, RepliesShut}
+use Rattle.demand3.specs.Demand3.{isRadio, struck, shutReply, startAfter, EachStruck, Same, EveryList, Unchanged, RepliesShut}
 use Rattle.wrong_tags.specs.Pinned.{behind, sessionShown, sessionRaised, mark, keptBy, isMarked, isUserWriteLeg, withoutMark, frameMarked, inFieldAgain, fieldHidden}
 use Rattle.demand3_parts.specs.OnlyTells.{OnlyTagTells, OnlyUnchangedTells, OnlyReplyTells}
 use Rattle.calls.proofs.Laws.{Fits, first-fits, rest-fits, fits-next}
@@ -77,7 +78,7 @@ module _ (shows : Device → Device) (holds : Call → Device → Device) (in-ra
       struck-too : (s : Device) (c : Call) → struck (behind shows holds) s c ≡ struck entry (shows s) c
       unfolding struck behind
       struck-too s c =
-          ap (λ (o : Bool). o && isFrame (signalBy (c .code) (c .value)) && not (isRefused (entry (shows s) c .says .answer))) (open-too s)
+          ap (λ (o : Bool). o && isRadio (signalBy (c .code) (c .value)) && not (isRefused (entry (shows s) c .says .answer))) (open-too s)
 
       -- they change nothing in what is kept, if that hangs on the tag alone
       unchanged : ((c e : Call) (d : Device) → holds c d ≡ holds e d) → (cs : List Call) (start : Tag) (s : Device) → framesFit cs ≡ true → Fits (shows s)
@@ -113,8 +114,8 @@ module _ (shows : Device → Device) (holds : Call → Device → Device) (in-ra
           let now = startAfter start (s .tag) in (
             λ t.
                 h (sym (struck-too s c) ∙ t)
-                ∙ ap (λ (x : Tag). callReply (shutReply x (shows s .tag .air) (c .frame)) (c .buffer)) (start-too start s)
-                ∙ ap (λ (x : Air). callReply (shutReply now x (c .frame)) (c .buffer)) (air s),
+                ∙ ap (λ (x : Tag). callReply (shutReply (signalBy (c .code) (c .value)) x (shows s .tag .air) (c .frame)) (c .buffer)) (start-too start s)
+                ∙ ap (λ (x : Air). callReply (shutReply (signalBy (c .code) (c .value)) now x (c .frame)) (c .buffer)) (air s),
             replies air cs now (holds c (e .device)) (rest-fits c cs b) (subst Fits (sym u) fit)
                 (subst (λ (x : Device). EachStruck entry (RepliesShut entry) now x cs) (sym u) (subst (λ (x : Tag). EachStruck entry (RepliesShut entry) x (e .device) cs) (start-too start s) hs)),
           )
@@ -146,10 +147,9 @@ shown-shut d other o =
 
 -- ---- the tag whose radio session is past its range after a Stop
 session-in-range : (d : Device) → Fits d → sessionShown d ≡ d
-unfolding airInRange
 session-in-range d f =
     let n = d .tag .air .session in
-    let low = leb-true n 4 (range-parts (d .tag) (d .memory) (f .range) .air) in
+    let low = session-at-most (d .tag .air) (range-parts (d .tag) (d .memory) (f .range) .air) in
     sym (pick-false (d but radioSession (n - 5)) d d (ltb 4 n) (le-ltb 4 n low) refl)
 
 session-undone : (c : Call) (d : Device) → Fits d → sessionShown (sessionRaised c d) ≡ d

@@ -18,11 +18,15 @@ use Rattle.signal_table.specs.Table.{signalBy}
 use Rattle.model.specs.Step.{fromRadio, transferOpen, isRefused}
 use Rattle.refusals.specs.Call.{Call}
 use Rattle.calls.specs.Calls.{CallAnswer, Device, DeviceResult, deviceResult, Step, RunResult, runResult, entry, runBy, framesFit, callReply}
-use Rattle.demand3.specs.Demand3.{stateRefused, isFrame, struck, others, otherAnswers, shutReply, startAfter, EachStruck, Same, EveryList, RepliesShut}
+use Rattle.demand3.specs.Demand3.{stateRefused, isRadio, struck, others, otherAnswers, shutReply, startAfter, EachStruck, Same, EveryList, RepliesShut}
 use Rattle.demand3_parts.specs.Follows.{JudgedFollows, StrikingFollows, AnswersShut, BytesFollow}
 use Rattle.calls.proofs.Laws.{frames-first, Fits, first-fits, rest-fits, fits-next}
-use Rattle.waiting.proofs.Frames.{shutBy}
-use Rattle.demand3.proofs.OneCall.{tagCounted, struck-is}
+use Rattle.register_types.specs.declared.RfMngt.{RfMngt}
+use Rattle.air.specs.declared.Air.{Air}
+use Rattle.keys.specs.declared.Uid.{Uid}
+use Rattle.signal_table.specs.declared.Signal.{Signal}
+use Rattle.signal_table.specs.declared.Signal.the-variants.{Wire, Field, Frame, EndOfFrame}
+use Rattle.demand3.proofs.OneCall.{tagCounted, shutOf, struck-is}
 use Rattle.demand3.proofs.Struck.{RunsTo, by-test}
 use Rattle.waiting.proofs.Follow.{now, answers}
 use Rattle.demand3.proofs.Demand3.{agreed, ends-shut, ends-alike}
@@ -60,6 +64,16 @@ by-answer true true o h = refl
 by-answer true false o h = let f : _≡_ {A = ℕ} 0 4 = ap replyLength h in absurd (omega arith)
 by-answer false true o h = let f : _≡_ {A = ℕ} 4 0 = ap replyLength h in absurd (omega arith)
 by-answer false false o h = refl
+
+-- to every struck signal
+by-signal : (x : Signal) (f : List ℕ) (a b : Air) (u : Uid) (dynamic : RfMngt) (start : Tag) (o : List ℕ)
+    → callReply (shutOf x f a u dynamic) o .answer ≡ callReply (shutReply x start b f) o .answer
+    → callReply (shutOf x f a u dynamic) o ≡ callReply (shutReply x start b f) o
+unfolding shutOf shutReply
+by-signal (Wire s) f a b u dynamic start o h = refl
+by-signal (Field on) f a b u dynamic start o h = refl
+by-signal Frame f a b u dynamic start o h = by-answer _ _ o h
+by-signal EndOfFrame f a b u dynamic start o h = refl
 
 -- ---- such a step beside the entry point, call by call: s is its device, d the entry point's
 module _ (step : Step) where
@@ -105,7 +119,7 @@ module _ (step : Step) where
   is-struck : (c : Call) (cs : List Call) (s d : Device) → Beside s d (c ∷ cs) → struck step s c ≡ true → struck entry d c ≡ true
   unfolding struck
   is-struck c cs s d b h =
-      let frame = isFrame (signalBy (c .code) (c .value)) in
+      let frame = isRadio (signalBy (c .code) (c .value)) in
       let unrefused = not (isRefused (step s c .says .answer)) in
       let both = and-left (transferOpen (s .tag) && frame) unrefused h in
       and-both (transferOpen (d .tag) && frame) (not (isRefused (entry d c .says .answer)))
@@ -113,7 +127,7 @@ module _ (step : Step) where
       (ap (λ (a : CallAnswer). not (isRefused (a .answer))) (sym (says c cs s d b)) ∙ and-right (transferOpen (s .tag) && frame) unrefused h)
 
   struck-call : (c : Call) (cs : List Call) (s d : Device) → Beside s d (c ∷ cs) → struck step s c ≡ true
-      → entry d c ≡ deviceResult (callReply (shutBy (c .frame) (d .tag .air) (d .tag .uid) (tagCounted (d .tag))) (c .buffer)) d
+      → entry d c ≡ deviceResult (callReply (shutOf (signalBy (c .code) (c .value)) (c .frame) (d .tag .air) (d .tag .uid) (tagCounted (d .tag))) (c .buffer)) d
   struck-call c cs s d b h = struck-is d c (b .fits) (is-struck c cs s d b h)
 
   -- ---- frames may be struck out
@@ -145,7 +159,7 @@ module _ (step : Step) where
   bytes (c ∷ cs) start s d b (h, hs) = (
     λ t.
         let e = says c cs s d b ∙ ap (λ (e : DeviceResult). e .says) (struck-call c cs s d b t) in
-        e ∙ by-answer _ _ (c .buffer) (ap (λ (a : CallAnswer). a .answer) (sym e) ∙ h t),
+        e ∙ by-signal (signalBy (c .code) (c .value)) (c .frame) (d .tag .air) (s .tag .air) (d .tag .uid) (tagCounted (d .tag)) (startAfter start (s .tag)) (c .buffer) (ap (λ (a : CallAnswer). a .answer) (sym e) ∙ h t),
     bytes cs (startAfter start (s .tag)) (step s c .device) (entry d c .device) (next c cs s d b) hs,
   )
 

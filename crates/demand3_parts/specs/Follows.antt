@@ -2,6 +2,7 @@
 use mathlib.Core.Path.{_≡_}
 use mathlib.Core.List.{List}
 use Rattle.tag.specs.declared.Tag.{Tag}
+use Rattle.signal_table.specs.Table.{signalBy}
 use Rattle.refusals.specs.Call.{Call}
 use Rattle.calls.specs.Calls.{Device, Step, callReply}
 use Rattle.demand3.specs.Demand3.{shutReply, RepliesShut, EachStruck, Same, Judged, Striking, EveryList}
@@ -16,7 +17,7 @@ StrikingFollows = (step : Step) → EveryList (Same step) → EveryList (Strikin
 
 -- ---- of a struck frame its answer; the reply's bytes follow from it
 abbrev pub AnswersShut : Step → Tag → Device → Call → Type 0
-AnswersShut step start d call = step d call .says .answer ≡ callReply (shutReply start (d .tag .air) (call .frame)) (call .buffer) .answer
+AnswersShut step start d call = step d call .says .answer ≡ callReply (shutReply (signalBy (call .code) (call .value)) start (d .tag .air) (call .frame)) (call .buffer) .answer
 
 abbrev pub BytesFollow : Type 0
 BytesFollow = (step : Step) → EveryList (Same step)

@@ -1,15 +1,16 @@
 // Which rule explains a NoAck, an error or a silence, by its number. It is asked before the signal acts, and only reads.
 ghost use mathlib.Core.Path.{_≡_};
-ghost use mathlib.Core.Bool.{Bool, not, _&&_};
+ghost use mathlib.Core.Bool.{Bool, true, false, not, _&&_};
 ghost use mathlib.Core.List.{List};
 ghost use Prim.Native.Nat.{ℕ};
 ghost use Rattle.parts.specs.Pick.{pick};
+ghost use Rattle.frame.specs.Fields.{inventoryFlag};
 ghost use Rattle.signal_table.specs.declared.WireSignal.the-variants.{Send};
 ghost use Rattle.signal_table.specs.declared.Signal.the-variants.{Wire, Frame};
 ghost use Rattle.row_rules.specs.RowErrors.{firstApplying};
-ghost use Rattle.explanation.specs.Conditions.{isSelectByte};
-ghost use Rattle.explanation.specs.Explanation.{frameErrors, explained, explainedNumber, ruleAt};
-ghost use Rattle.explanation.specs.Numbers.{verdictNumber, writeNumber};
+ghost use Rattle.explanation_rules.specs.Conditions.{isSelectByte};
+ghost use Rattle.explanation_rules.specs.Explanation.{frameErrors, explained, explainedNumber, ruleAt};
+ghost use Rattle.explanation_rules.specs.Numbers.{verdictNumber, writeNumber};
 use bus::Bus;
 use judge::Verdict;
 use register_types::RfMngt;
@@ -114,8 +115,9 @@ fn frame_error(v: RadioSide, dynamic: RfMngt, busy: bool, m: &[u8], f: &[u8]) ->
     }
 }
 
-fn frame_rule(t: Tag, m: &[u8], f: &[u8]) -> u8
-    ensures { λ r. ⌜ r ≡ explainedNumber (explained t (now (m .entry)) Frame (now (f .entry))) ⌝ }
+// A frame without the inventory flag.
+fn request_rule(t: Tag, m: &[u8], f: &[u8]) -> u8
+    ensures { λ r. ⌜ (inventoryFlag (now (f .entry)) ≡ false → r ≡ explainedNumber (explained t (now (m .entry)) Frame (now (f .entry)))) ⌝ }
 {
     let air = t.air;
     let core = t.core;
@@ -132,6 +134,36 @@ fn frame_rule(t: Tag, m: &[u8], f: &[u8]) -> u8
         return 32;
     }
     verdict_number(frame_error(RadioSide { air, core }, dynamic, busy, m, f))
+}
+
+// One with it.
+fn inventory_rule(t: Tag, f: &[u8]) -> u8
+    ensures { λ r. ⌜ (inventoryFlag (now (f .entry)) ≡ true → (m : List ℕ) → r ≡ explainedNumber (explained t m Frame (now (f .entry)))) ⌝ }
+{
+    let air = t.air;
+    let host = t.host;
+    let bus = host.bus;
+    let transfer = bus::transfer_at(bus);
+    let dynamic = bus::counted_dynamic(transfer, t.core.registers.dynamic);
+    let busy = bus::is_open_transfer(transfer) | t.host.programming;
+    let silent = silence::first_of_reception(f, air, dynamic);
+    if silent != 0 {
+        return silent;
+    }
+    let own = t.core.registers.afi;
+    if inventory::inventory_silent(f, air, t.uid, own, dynamic, busy) {
+        return 25;
+    }
+    0
+}
+
+fn frame_rule(t: Tag, m: &[u8], f: &[u8]) -> u8
+    ensures { λ r. ⌜ r ≡ explainedNumber (explained t (now (m .entry)) Frame (now (f .entry))) ⌝ }
+{
+    if parts::byte_at(f, 0) / 0x04 % 2 == 1 {
+        return inventory_rule(t, f);
+    }
+    request_rule(t, m, f)
 }
 
 // ---- every signal
@@ -157,5 +189,6 @@ pub fn rule_of(t: Tag, m: &[u8], code: u32, value: u32, frame: &[u8]) -> u8
         Signal::Wire(wire) => wire_rule(t, m, wire),
         Signal::Field(_) => 0,
         Signal::Frame => frame_rule(t, m, frame),
+        Signal::EndOfFrame => 0,
     }
 }

@@ -2,7 +2,7 @@
 use mathlib.Core.Path.{_≡_, refl, sym, ap, subst, _∙_}
 use mathlib.Core.Bool.{Bool, true, false, not}
 use mathlib.Core.List.{List, [], _∷_}
-use Prim.Native.Nat.{ℕ, _+_, _<_, _≤_}
+use Prim.Native.Nat.{ℕ, _+_, _-_, _<_, _≤_}
 use native.Mathlib.Omega.{arith}
 use lib.Dec.{eqb}
 use lib.ListN.{length, take, getD, set}
@@ -28,7 +28,7 @@ use Rattle.signal.specs.Signal.{WireResult, startAt, startOf, stopAt}
 use Rattle.signal_table.specs.declared.WireSignal.{WireSignal}
 use Rattle.signal_table.specs.declared.WireSignal.the-variants.{Start, Send, Fetch, Stop, Vcc, ProgrammingEnd}
 use Rattle.signal_table.specs.declared.Signal.{Signal}
-use Rattle.signal_table.specs.declared.Signal.the-variants.{Wire, Field, Frame}
+use Rattle.signal_table.specs.declared.Signal.the-variants.{Wire, Field, Frame, EndOfFrame}
 use Rattle.signal_table.specs.Table.{signalBy}
 use Rattle.wire.specs.Wire.{fetchAt, signalOf}
 use Rattle.errors.specs.declared.RadioError.{RadioError}
@@ -36,8 +36,10 @@ use Rattle.errors.specs.declared.RadioError.the-variants.{ShutOut, UnknownComma
 use Rattle.errors.specs.Errors.{errorCode}
 use Rattle.reply.specs.declared.RadioSide.{RadioSide}
 use Rattle.reply.specs.Reply.{ReplyBody, nothing, body, good, fault, answerOf, bufferOf}
-use Rattle.reply.specs.Outcome.{CommandResult, radioSide}
-use Rattle.radio.specs.Radio.{radioOf}
+use Rattle.reply.specs.Outcome.{CommandResult, commandResult, withAir, radioSide}
+use Rattle.air.specs.Parts.{withSlots}
+use Rattle.inventory_reply.proofs.Laws.{end-case}
+use Rattle.radio.specs.Radio.{radioOf, nextSlotOf}
 use Rattle.radio.proofs.EveryCommand.{Shape, silent as shape-silent, served as shape-served, failed as shape-failed}
 use Rattle.radio_claims.proofs.Entry.{first-byte}
 use Rattle.radio_claims.proofs.Errors.{frame-leaves}
@@ -46,10 +48,10 @@ use Rattle.model.specs.Step.{StepResult, fromWire, fromRadio, actOf, stepOf}
 use Rattle.model.proofs.Acts.{room-of, range-of, acts}
 use Rattle.write_reasons.specs.declared.SessionKey.the-variants.{Unnumbered}
 use Rattle.write_rules.specs.Verdict.{writeReasons}
-use Rattle.rule_names.specs.Rules.{Rule, byteForbidden, noVcc, noStart, inReadLeg, otherSelectByte, programmingNow, silent, ownSilence, failed}
-use Rattle.explanation.specs.Conditions.{ruleHolds}
-use Rattle.explanation.specs.Explanation.{frameRules, dataByteRules, otherByteRules, byteRules, wireRules, rulesFor, Explained, unexplained, explainedBy, explained}
-use Rattle.explanation_claims.specs.Claims.{asksRule, codeIn, isExplained, ruleCode, explainedCode, Explanation, Explains}
+use Rattle.rule_names.specs.Rules.{Rule, byteForbidden, noVcc, noStart, inReadLeg, otherSelectByte, programmingNow, silent, inventorySilence, ownSilence, failed}
+use Rattle.explanation_rules.specs.Conditions.{ruleHolds}
+use Rattle.explanation_rules.specs.Explanation.{frameRules, dataByteRules, otherByteRules, byteRules, wireRules, rulesFor, Explained, unexplained, explainedBy, explained}
+use Rattle.explanation_claims.specs.Claims.{isFrame, asksRule, codeIn, isExplained, ruleCode, explainedCode, Explanation, Explains}
 use Rattle.explanation_claims.proofs.Laws.{same-says, explained-any, explained-first}
 use Rattle.explanation_claims.proofs.Sent.{isNoAck, byte-says, has-vcc, not-programming}
 use Rattle.row_rules.specs.Claims.{Said, hushed, spoke, saidOf}
@@ -97,6 +99,7 @@ rule-asks inReadLeg = refl
 rule-asks otherSelectByte = refl
 rule-asks programmingNow = refl
 rule-asks (silent rule) = refl
+rule-asks inventorySilence = refl
 rule-asks ownSilence = refl
 rule-asks (failed error) = has-code error
 
@@ -109,6 +112,7 @@ rule-code inReadLeg = refl
 rule-code otherSelectByte = refl
 rule-code programmingNow = refl
 rule-code (silent rule) = refl
+rule-code inventorySilence = refl
 rule-code ownSilence = refl
 rule-code (failed error) = refl
 
@@ -145,7 +149,7 @@ second-byte n o h =
     pick-case (λ (l : List ℕ). getD l 1 0 ≡ n) _ _ _ (λ k. getD-sets-before (crcBytes (take 2 stored)) stored 2 1 (omega arith) ∙ kept) (λ k. kept)
 
 record Told (reply : ReplyBody) (o : List ℕ) : Type 0 where
-  asks : asksRule (fromRadio (answerOf reply)) (bufferOf reply o) ≡ asksSaid (saidOf reply)
+  asks : asksRule Frame (fromRadio (answerOf reply)) (bufferOf reply o) ≡ asksSaid (saidOf reply)
   code : codeIn (fromRadio (answerOf reply)) (bufferOf reply o) ≡ codeSaid (saidOf reply)
 
 told-good : (s o : List ℕ) → 1 < length o → Told (good s) o
@@ -160,7 +164,7 @@ told-fault error o h =
     record { asks = rw e (sym (has-code error)); code = rw (e, k) }
 
 told-nothing : (o : List ℕ) → Told nothing o
-unfolding asksRule codeIn fromRadio answerOf asksSaid codeSaid saidOf
+unfolding asksRule isFrame codeIn fromRadio answerOf asksSaid codeSaid saidOf
 told-nothing o = record { asks = refl; code = refl }
 
 told : (after : RadioSide) (m : List ℕ) (x : CommandResult) (o : List ℕ) → 1 < length o → Shape after m x → Told (x .reply) o
@@ -169,12 +173,12 @@ told after m x o h (shape-served s e) = subst (λ (reply : ReplyBody). Told repl
 told after m x o h (shape-failed error e) = subst (λ (reply : ReplyBody). Told reply o) (sym (ap (λ (y : CommandResult). y .reply) e)) (told-fault error o h)
 
 -- ---- the signals
-wire-asks : (answer : WireAnswer) (o : List ℕ) → asksRule (fromWire answer) o ≡ isNoAck answer
+wire-asks : (signal : WireSignal) (answer : WireAnswer) (o : List ℕ) → asksRule (Wire signal) (fromWire answer) o ≡ isNoAck answer
 unfolding asksRule fromWire isNoAck
-wire-asks WireNothing o = refl
-wire-asks WireAck o = refl
-wire-asks WireNoAck o = refl
-wire-asks (WireByte x) o = refl
+wire-asks signal WireNothing o = refl
+wire-asks signal WireAck o = refl
+wire-asks signal WireNoAck o = refl
+wire-asks signal (WireByte x) o = refl
 
 wire-code : (answer : WireAnswer) (o : List ℕ) → codeIn (fromWire answer) o ≡ 0
 unfolding codeIn fromWire
@@ -254,7 +258,7 @@ module _ (t : Tag) (m o f : List ℕ) (room : 1 < length o) (h : tagInRange t m 
   by-wire signal =
       let answer = signalOf (wireSide t) (t .uid) m signal .answer in
       record {
-        exactly = explained-any (ruleHolds t m (Wire signal) f) (wireRules (t .host .bus) signal) ∙ sym (wire-says t m f h signal) ∙ sym (wire-asks answer o);
+        exactly = explained-any (ruleHolds t m (Wire signal) f) (wireRules (t .host .bus) signal) ∙ sym (wire-says t m f h signal) ∙ sym (wire-asks signal answer o);
         first = explained-first (ruleHolds t m (Wire signal) f) (wireRules (t .host .bus) signal);
         code = wire-list-code (ruleHolds t m (Wire signal) f) (t .host .bus) signal ∙ sym (wire-code answer o);
       }
@@ -276,10 +280,35 @@ module _ (t : Tag) (m o f : List ℕ) (room : 1 < length o) (h : tagInRange t m 
         code = list-code holds (frameRules f) ∙ ap codeSaid (sym says) ∙ sym (buffer .code);
       }
 
+  -- an end-of-frame is answered by a good reply or not at all
+  abbrev Unasked : CommandResult → Type 0
+  Unasked x = (false ≡ asksRule EndOfFrame (fromRadio (answerOf (x .reply))) (bufferOf (x .reply) o)) × (_≡_ {A = ℕ} 0 (codeIn (fromRadio (answerOf (x .reply))) (bufferOf (x .reply) o)))
+
+  unasked-nothing : (v : RadioSide) → Unasked (commandResult nothing v m)
+  unfolding asksRule isFrame codeIn fromRadio answerOf
+  unasked-nothing v = (refl, refl)
+
+  unasked-good : (v : RadioSide) (s : List ℕ) → Unasked (commandResult (good s) v m)
+  unfolding asksRule codeIn fromRadio answerOf pick
+  unasked-good v s = let e = first-byte 0 s o (omega arith) in (rw e, rw e)
+
+  end-unasked : Unasked (nextSlotOf (radioSide t) (t .uid) (transferAt (t .host .bus)) (t .host .programming) m)
+  unfolding nextSlotOf
+  end-unasked =
+      let next = withAir (withSlots (t .air .slots - 1) (t .air)) (radioSide t) in
+      end-case Unasked (radioSide t) (t .uid) _ _ m
+      (λ _. pick-case Unasked (eqb (t .air .slots) 1) _ _ (λ _. unasked-good next _) (λ _. unasked-nothing next))
+      (unasked-nothing (radioSide t))
+
+  by-end : Explained-by EndOfFrame
+  unfolding explained actOf rulesFor firstSays isExplained explainedCode
+  by-end = record { exactly = end-unasked .0; first = explained-first (ruleHolds t m EndOfFrame f) []; code = end-unasked .1 }
+
   by-signal : (signal : Signal) → Explained-by signal
   by-signal (Wire signal) = by-wire signal
   by-signal (Field on) = by-field on
   by-signal Frame = by-frame
+  by-signal EndOfFrame = by-end
 
 pub explains : Explains
 explains t m call h =

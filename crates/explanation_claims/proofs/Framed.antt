@@ -1,13 +1,18 @@
 -- A frame is answered as the first rule of its list says: silence, or the error's code. Assumes nothing.
 use mathlib.Core.Path.{_≡_, refl, sym, ap, _∙_}
-use mathlib.Core.Bool.{Bool, true, false, not, _||_, false≢true}
+use mathlib.Core.Bool.{Bool, true, false, not, _&&_, _||_, false≢true}
 use mathlib.Core.List.{List, [], _∷_, map}
 use mathlib.Core.Logic.{_↔_}
 use Prim.Native.Nat.{ℕ}
 use native.Mathlib.Omega.{arith}
-use lib.Dec.{eqb}
+use lib.Dec.{ltb, eqb}
+use lib.ListN.{length}
 use borrow.Author.Tests.{not-false}
 use Rattle.parts.specs.Pick.{pick}
+use Rattle.parts.specs.Bits.{isSet}
+use Rattle.parts.specs.Bytes.{bytesAt}
+use Rattle.crc.specs.Crc.{goodFrame}
+use Rattle.air.specs.Radio.{isQuiet}
 use Rattle.parts.proofs.Picks.{pick-map, pick-same}
 use Rattle.rule_list.specs.RuleList.{anyHolds, firstSays, NoneHolds}
 use Rattle.rule_list.proofs.Laws.{says-through, says-passes}
@@ -20,13 +25,15 @@ use Rattle.tag.specs.declared.Tag.{Tag}
 use Rattle.signal_table.specs.declared.Signal.the-variants.{Frame}
 use Rattle.errors.specs.Errors.{errorCode}
 use Rattle.reply.specs.declared.RadioSide.{RadioSide}
-use Rattle.reply.specs.Reply.{nothing, body, fault}
+use Rattle.reply.specs.Reply.{nothing, body, good, fault}
 use Rattle.reply.specs.Outcome.{CommandResult, commandResult, fails, radioSide}
 use Rattle.commands.specs.declared.CommandCode.{CommandCode}
 use Rattle.commands.specs.declared.CommandCode.the-variants.{Unknown, Known}
 use Rattle.commands.specs.Table.{CodedRow, commandTable, commandOf, isKnown}
-use Rattle.frame.specs.Fields.{command}
-use Rattle.silence.specs.Silence.{silenceHolds, requestSilences, isSilent}
+use Rattle.frame.specs.Fields.{command, inventoryFlag}
+use Rattle.inventory.specs.Inventory.{isMalformed, slotsAfter, answersNow, takesPart, inventorySilent}
+use Rattle.inventory_reply.specs.Answers.{slotsLeft, isHeard, inventoryOf}
+use Rattle.silence_rules.specs.Silence.{silenceHolds, receptionSilences, requestSilences, isSilent}
 use Rattle.judge.specs.declared.Verdict.{Verdict}
 use Rattle.judge.specs.declared.Verdict.the-variants.{Silence, Error, Request}
 use Rattle.judge.specs.Judge.{ErrorRule, isUnknown, isMute, errorOf, errorHolds, ruleError, errorRules, firstError, judge}
@@ -36,11 +43,11 @@ use Rattle.serve.specs.Commands.{serveCode, serveOf}
 use Rattle.radio.specs.Radio.{verdictResult, verdictOf, radioOf}
 use Rattle.commands.proofs.Codes.{codeOf, differs, as-in-table, named}
 use Rattle.row_rules.specs.RowErrors.{errorApplies, rowErrors, firstApplying}
-use Rattle.rule_names.specs.Rules.{Rule, byteForbidden, noVcc, noStart, inReadLeg, otherSelectByte, programmingNow, silent, ownSilence, failed}
-use Rattle.explanation.specs.Conditions.{dynamicOf, isBusy, ruleHolds}
-use Rattle.explanation.specs.Explanation.{frameErrors, frameRules}
-use Rattle.explanation.proofs.Frames.{onRequest, error-append, list-parts}
-use Rattle.explanation_claims.proofs.Laws.{same-says}
+use Rattle.rule_names.specs.Rules.{Rule, byteForbidden, noVcc, noStart, inReadLeg, otherSelectByte, programmingNow, silent, inventorySilence, ownSilence, failed}
+use Rattle.explanation_rules.specs.Conditions.{dynamicOf, isBusy, ruleHolds}
+use Rattle.explanation_rules.specs.Explanation.{frameErrors, requestRules, inventoryRules, frameRules}
+use Rattle.explanation_rules.proofs.Frames.{onRequest, error-append, list-parts, inventory-parts}
+use Rattle.explanation_claims.proofs.Laws.{same-says, heard-says}
 use Rattle.row_rules.specs.Claims.{Said, hushed, spoke, saidOf, verdictSaid}
 use Rattle.row_rules.proofs.Commands.{every-said}
 
@@ -53,6 +60,7 @@ ruleSaid inReadLeg = hushed
 ruleSaid otherSelectByte = hushed
 ruleSaid programmingNow = hushed
 ruleSaid (silent rule) = hushed
+ruleSaid inventorySilence = hushed
 ruleSaid ownSilence = hushed
 ruleSaid (failed error) = spoke (errorCode error)
 
@@ -121,7 +129,7 @@ module _ (t : Tag) (m f : List ℕ) where
   abbrev errors : Said
   errors = verdictSaid (firstApplying (dynamicOf t) (isBusy t) (radioSide t) f (frameErrors f))
 
-  list-says : firstSays holds ruleSaid (spoke 0) (frameRules f) ≡ pick (isSilent f (t .air) (t .uid) (dynamicOf t)) hushed (pick (isMute f (t .uid)) hushed errors)
+  list-says : firstSays holds ruleSaid (spoke 0) (requestRules f) ≡ pick (isSilent f (t .air) (t .uid) (dynamicOf t)) hushed (pick (isMute f (t .uid)) hushed errors)
   unfolding ruleSaid isSilent firstApplying verdictSaid
   list-says =
       let silent-first = silenceHolds f (t .air) (t .uid) (dynamicOf t) in
@@ -129,7 +137,47 @@ module _ (t : Tag) (m f : List ℕ) where
       ∙ ap (λ (x : Said). firstSays silent-first (λ rule. hushed) (pick (isMute f (t .uid)) hushed x) requestSilences) (sym (says-through verdictSaid (errorApplies (dynamicOf t) (isBusy t) (radioSide t) f) Error Request (frameErrors f)))
       ∙ same-says silent-first hushed _ requestSilences
 
+  -- ---- an inventory frame
+  abbrev v : RadioSide
+  v = radioSide t
+
+  abbrev unheard : Bool
+  unheard = inventorySilent f (t .air) (t .uid) (t .core .registers .afi) (dynamicOf t) (isBusy t)
+
+  inventory-list : inventoryFlag f ≡ true → firstSays holds ruleSaid (spoke 0) inventoryRules
+      ≡ pick (anyHolds (silenceHolds f (t .air) (t .uid) (dynamicOf t)) receptionSilences) hushed (pick unheard hushed (spoke 0))
+  unfolding ruleSaid
+  inventory-list h =
+      let silent-first = silenceHolds f (t .air) (t .uid) (dynamicOf t) in
+      inventory-parts t m f ruleSaid (spoke 0)
+      ∙ ap (λ (b : Bool). firstSays silent-first (λ rule. hushed) (pick (b && unheard) hushed (spoke 0)) receptionSilences) h
+      ∙ same-says silent-first hushed (pick unheard hushed (spoke 0)) receptionSilences
+
+  said-good : (s : List ℕ) → saidOf (good s) ≡ spoke 0
+  unfolding saidOf pick
+  said-good s = refl
+
+  inventory-says : inventoryFlag f ≡ true → saidOf (inventoryOf v (t .uid) (dynamicOf t) (isBusy t) m f .reply) ≡ firstSays holds ruleSaid (spoke 0) inventoryRules
+  unfolding inventoryOf isHeard takesPart inventorySilent saidOf anyHolds silenceHolds receptionSilences
+  inventory-says h =
+      let own = t .core .registers .afi in
+      let answers = answersNow f (t .uid) own in
+      let next = slotsLeft v (t .uid) (slotsAfter f (t .uid) own) answers m in
+      let said-by : CommandResult → Said = λ x. saidOf (x .reply) in
+      pick-map said-by (isHeard f (t .air) (dynamicOf t) (isBusy t)) next (commandResult nothing v m)
+      ∙ ap (λ (x : Said). pick (isHeard f (t .air) (dynamicOf t) (isBusy t)) x hushed)
+      (pick-map said-by answers _ _ ∙ ap (λ (x : Said). pick answers x hushed) (said-good (t .core .registers .dsfid .bits ∷ bytesAt (t .uid .bytes) 0 8)))
+      ∙ heard-says (spoke 0) hushed (t .air .field) (isSet 2 (dynamicOf t .bits)) (isQuiet (t .air .radio)) (isSet 1 (dynamicOf t .bits) || isBusy t) (ltb (length f) 4 || ltb 270 (length f)) (goodFrame f) (isMalformed f) answers
+      ∙ sym (inventory-list h)
+
+  by-flag : (flag : Bool) → inventoryFlag f ≡ flag
+      → saidOf (pick flag (inventoryOf v (t .uid) (dynamicOf t) (isBusy t) m f) (verdictResult (verdictOf v (t .uid) (transferAt (t .host .bus)) (t .host .programming) f) v (t .uid) (t .host .vcc) m f) .reply)
+      ≡ firstSays holds ruleSaid (spoke 0) (pick flag inventoryRules (requestRules f))
+  unfolding pick
+  by-flag true h = inventory-says h
+  by-flag false h = judged v (t .uid) (t .host .vcc) m f (dynamicOf t) (isBusy t) ∙ sym list-says
+
   -- the reply says what the first rule says
   pub frame-says : saidOf (radioOf (radioSide t) (t .uid) (t .host .vcc) (transferAt (t .host .bus)) (t .host .programming) m f .reply) ≡ firstSays holds ruleSaid (spoke 0) (frameRules f)
-  unfolding radioOf
-  frame-says = judged (radioSide t) (t .uid) (t .host .vcc) m f (dynamicOf t) (isBusy t) ∙ sym list-says
+  unfolding radioOf frameRules
+  frame-says = by-flag (inventoryFlag f) refl

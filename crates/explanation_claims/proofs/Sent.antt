@@ -41,8 +41,8 @@ use Rattle.write_reasons.specs.Reasons.{isAllowed}
 use Rattle.write_rules.specs.Situation.{Situation, situationOf}
 use Rattle.write_rules.specs.Verdict.{forbids, writeReasons, sessionKey, writeVerdict}
 use Rattle.rule_names.specs.Rules.{Rule, byteForbidden}
-use Rattle.explanation.specs.Conditions.{isIdle, awaitsSelect, isReadLeg, isSelectByte, signalByte, dataByteIn, ruleHolds}
-use Rattle.explanation.specs.Explanation.{dataByteRules, otherByteRules, byteRules}
+use Rattle.explanation_rules.specs.Conditions.{isIdle, awaitsSelect, isReadLeg, isSelectByte, signalByte, dataByteIn, ruleHolds}
+use Rattle.explanation_rules.specs.Explanation.{dataByteRules, otherByteRules, byteRules}
 
 unfoldable pub isNoAck : WireAnswer → Bool
 isNoAck WireNothing = false

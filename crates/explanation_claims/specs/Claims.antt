@@ -9,6 +9,7 @@ use Rattle.parts.specs.Pick.{pick}
 use Rattle.rule_list.specs.RuleList.{IsFirst}
 use Rattle.tag.specs.declared.Tag.{Tag}
 use Rattle.signal_table.specs.declared.Signal.{Signal}
+use Rattle.signal_table.specs.declared.Signal.the-variants.{Wire, Field, Frame, EndOfFrame}
 use Rattle.signal_table.specs.Table.{signalBy}
 use Rattle.errors.specs.Errors.{errorCode}
 use Rattle.refusals.specs.declared.Judgement.the-variants.{NoRefusal}
@@ -17,24 +18,31 @@ use Rattle.refusals.specs.Refusals.{entryRules, judgement}
 use Rattle.model.specs.declared.Answer.{Answer}
 use Rattle.model.specs.declared.Answer.the-variants.{Refused, Nothing, Ack, NoAck, Byte, Silence, Reply}
 use Rattle.model.specs.Step.{StepResult, stepOf}
-use Rattle.rule_names.specs.Rules.{Rule, byteForbidden, noVcc, noStart, inReadLeg, otherSelectByte, programmingNow, silent, ownSilence, failed}
-use Rattle.explanation.specs.Conditions.{ruleHolds}
-use Rattle.explanation.specs.Explanation.{rulesFor, Explained, unexplained, explainedBy, explained}
+use Rattle.rule_names.specs.Rules.{Rule, byteForbidden, noVcc, noStart, inReadLeg, otherSelectByte, programmingNow, silent, inventorySilence, ownSilence, failed}
+use Rattle.explanation_rules.specs.Conditions.{ruleHolds}
+use Rattle.explanation_rules.specs.Explanation.{rulesFor, Explained, unexplained, explainedBy, explained}
 
 -- ---- the answers that are explained
 -- "01h and the code": a reply's first byte, of the reply buffer o after the call
 abbrev pub isErrorReply : List ℕ → Bool
 isErrorReply o = eqb (getD o 0 0) 0x01
 
+-- an end-of-frame that is not answered is no silent frame
+unfoldable pub isFrame : Signal → Bool
+isFrame (Wire signal) = false
+isFrame (Field on) = false
+isFrame Frame = true
+isFrame EndOfFrame = false
+
 -- "each N, error code or silent frame"
-unfoldable pub asksRule : Answer → List ℕ → Bool
-asksRule (Refused refusal) o = false
-asksRule Nothing o = false
-asksRule Ack o = false
-asksRule NoAck o = true
-asksRule (Byte x) o = false
-asksRule Silence o = true
-asksRule (Reply n) o = isErrorReply o
+unfoldable pub asksRule : Signal → Answer → List ℕ → Bool
+asksRule signal (Refused refusal) o = false
+asksRule signal Nothing o = false
+asksRule signal Ack o = false
+asksRule signal NoAck o = true
+asksRule signal (Byte x) o = false
+asksRule signal Silence o = isFrame signal
+asksRule signal (Reply n) o = isErrorReply o
 
 -- the code of an error reply; of every other answer 0
 unfoldable pub codeIn : Answer → List ℕ → ℕ
@@ -60,6 +68,7 @@ ruleCode inReadLeg = 0
 ruleCode otherSelectByte = 0
 ruleCode programmingNow = 0
 ruleCode (silent rule) = 0
+ruleCode inventorySilence = 0
 ruleCode ownSilence = 0
 ruleCode (failed error) = errorCode error
 
@@ -70,7 +79,7 @@ explainedCode (explainedBy rule) = ruleCode rule
 -- ---- of one signal, with the explanation `found` and what the call then left
 pub record Explanation (t : Tag) (m : List ℕ) (signal : Signal) (f : List ℕ) (found : Explained) (result : StepResult) : Type 0 where
   -- "a name is given exactly when the tag gave such an answer"
-  pub exactly : isExplained found ≡ asksRule (result .answer) (result .reply)
+  pub exactly : isExplained found ≡ asksRule signal (result .answer) (result .reply)
   -- "the named rule's condition holds of the tag and signal", "no earlier rule's does"
   pub first : (rule : Rule) → found ≡ explainedBy rule → IsFirst (ruleHolds t m signal f) (rulesFor (t .host .bus) signal f) rule
   -- an error's rule has the code that the reply has

@@ -8,7 +8,7 @@ use Rattle.rule_list.proofs.Laws.{says-through}
 use Rattle.register_types.specs.declared.RfMngt.{RfMngt}
 use Rattle.air.specs.declared.Air.{Air}
 use Rattle.keys.specs.declared.Uid.{Uid}
-use Rattle.silence.specs.Silence.{isSilent}
+use Rattle.silence_rules.specs.Silence.{isSilent}
 use Rattle.judge.specs.declared.Verdict.{Verdict}
 use Rattle.judge.specs.declared.Verdict.the-variants.{Silence, Error, Request}
 use Rattle.judge.specs.Judge.{errorOf, errorHolds, ruleError, errorRules, firstError, judge}

@@ -12,7 +12,7 @@ use Rattle.judge.specs.declared.Verdict.the-variants.{Silence, Error}
 use Rattle.judge.specs.Claims.{ShutOutDecides, ShutOutAnswers}
 use Rattle.judge.specs.Judge.{isMute, errorOf, shutOut, errorHolds, ruleError, errorRules, judge}
 use Rattle.rule_list.specs.RuleList.{firstSays}
-use Rattle.silence.specs.Silence.{isSilent}
+use Rattle.silence_rules.specs.Silence.{isSilent}
 
 pub shut-out-decides : ShutOutDecides
 unfolding judge shutOut pick firstSays errorHolds ruleError errorRules

@@ -15,7 +15,7 @@ use Rattle.commands.specs.Table.{commandOf, isKnown, takesOption, paramBytes, s
 use Rattle.judge.specs.declared.Verdict.{Verdict}
 use Rattle.judge.specs.declared.Verdict.the-variants.{Silence, Error, Request}
 use Rattle.frame.specs.Fields.{command, extensionFlag, optionFlag, reservedFlag, paramPlace, crcPlace, ownUid, param}
-use Rattle.silence.specs.Silence.{isSilent}
+use Rattle.silence_rules.specs.Silence.{isSilent}
 
 -- "Stay Quiet, and Select with another UID: silence"
 unfoldable pub isMute : List ℕ → Uid → Bool

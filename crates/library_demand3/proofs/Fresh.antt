@@ -66,6 +66,7 @@ fresh-tag-fits : (u : List ℕ) → areBytes u ≡ true → Fits (fresh u)
 unfolding freshTag freshRegisters freshPasswords areBytes registerBytes transferAt transferFits legFits busFits
 fresh-tag-fits u h = record {
   session = refl;
+  slots = refl;
   counter = refl;
   bus = refl;
   registers = refl;

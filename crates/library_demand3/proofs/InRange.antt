@@ -27,6 +27,7 @@ use Rattle.mailbox.specs.declared.Mailbox.{Mailbox}
 use Rattle.tag.specs.declared.Tag.{Tag}
 use Rattle.bus.specs.Bus.{transferAt, isOpen, pageBytes}
 use Rattle.tag.specs.Parts.{wireSide}
+use Rattle.ranges.proofs.AirKept.{session-at-most, slots-at-most}
 use Rattle.ranges.specs.Ranges.{registersInRange, airInRange, putCurrent, mailboxInRange, suppliedInRange, transferInRange, hostInRange, coreInRange, wireInRange, inRange}
 use Rattle.page.specs.PageRange.{busInRange}
 use Rattle.refusals.specs.Refusals.{tagInRange}
@@ -85,10 +86,10 @@ bus-is b h k x = and-both (transferFits (transferAt b)) (legFits b) (transfer-is
 -- ---- a tag in range fits, if what the ranges do not say does
 pub fits-in-range : (t : Tag) (m : List ℕ) → tagInRange t m ≡ true → t .host .counter < 65536 → highByteOf (t .host .bus) < 256
     → PasswordsFit (t .core .passwords) → areEight (t .uid .bytes) ≡ true → Fits t
-unfolding tagInRange inRange wireInRange coreInRange hostInRange airInRange
+unfolding tagInRange inRange wireInRange coreInRange hostInRange
 fits-in-range t m h counter high passwords uid =
     let all = and-left (inRange t) (busInRange (t .host .bus) (t .host .counter) (t .core) (t .host .session) m) h in
-    let a = leb (t .air .session) 4 in
+    let a = airInRange (t .air) in
     let air = and-left a (wireInRange (wireSide t)) all in
     let wire = and-right a (wireInRange (wireSide t)) all in
     let c = coreInRange (t .core) in
@@ -102,7 +103,8 @@ fits-in-range t m h counter high passwords uid =
     let o = not (t .host .programming && isOpen (t .host .bus)) in
     let x = transferInRange (transferAt (t .host .bus)) in
     record {
-      session = lt-ltb (t .air .session) 256 (omega (arith, leb-true (t .air .session) 4 air));
+      session = lt-ltb (t .air .session) 256 (omega (arith, session-at-most (t .air) air));
+      slots = lt-ltb (t .air .slots) 256 (omega (arith, slots-at-most (t .air) air));
       counter = lt-ltb (t .host .counter) 65536 counter;
       bus = bus-is (t .host .bus) (and-left n o (and-left (n && o) x host)) (and-right (n && o) x host) high;
       registers = registers-are (t .core .registers) (and-left r b core);

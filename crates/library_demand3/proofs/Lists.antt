@@ -29,7 +29,7 @@ use Rattle.calls.proofs.Laws.{first-fits, rest-fits}
 use Rattle.capi.proofs.Tags.{steps-the-tag}
 use Rattle.refusals.specs.Call.{Call}
 use Rattle.calls.specs.Calls.{Device, device, DeviceResult, RunResult, entry, runBy, framesFit}
-use Rattle.demand3.specs.Demand3.{isFrame, struck, Shut, startAfter, EachStruck, AllShut}
+use Rattle.demand3.specs.Demand3.{isRadio, struck, Shut, startAfter, EachStruck, AllShut}
 use Rattle.library_demand3.specs.Calls.{exported, answerBy, LibraryRunResult, libraryRunResult, libraryRun}
 use Rattle.library_demand3.specs.Claim.{inNumber, inNumbers, libraryStruck, shutAnswer, EachLibraryStruck, LibraryShut}
 use Rattle.library_demand3.proofs.Kept.{keeps-fits}
@@ -124,7 +124,7 @@ decoded t f = decodes-encoded t f .1
 struck-is : (d : Device) (c : Call) → Good d → libraryStruck exported (bytesOf (d .tag)) (d .memory) c ≡ struck entry d c
 unfolding libraryStruck struck
 struck-is d c g =
-    let frame = isFrame (signalBy (c .code) (c .value)) in
+    let frame = isRadio (signalBy (c .code) (c .value)) in
     ap (λ (t : Tag). transferOpen t && frame && not (ltb (exported (bytesOf (d .tag)) (d .memory) c .number) 0x100)) (decoded (d .tag) (g .fits))
     ∙ ap (λ (e : CallResult). transferOpen (d .tag) && frame && not (ltb (e .number) 0x100)) (step-is (d .tag) (d .memory) c (g .fits))
     ∙ ap (λ (b : Bool). transferOpen (d .tag) && frame && not b) (refusal-number d c)

@@ -26,8 +26,8 @@ use Rattle.next_state.specs.After.{stateAfter}
 use Rattle.refusals.specs.Call.{Call}
 use Rattle.calls.specs.Calls.{Device, device, framesFit}
 use Rattle.calls.specs.Examples.{zeros, fieldTo, send, stop, programmingEnd, frame, uid, powered, _but_, radioState, radioSession, i2cSession, beingProgrammed, onBus, hostMessage}
-use Rattle.waiting.specs.Waiting.{fill, answered, notesOf, isStarted, ackedSelect, opens, whenClosed, note, frameAnswer, notes, whenOpen, waitAct, waitStep, waitRun}
-use Rattle.demand3.specs.Demand3.{isFrame, isClosed}
+use Rattle.waiting.specs.Waiting.{fill, answered, notesOf, isStarted, ackedSelect, opens, whenClosed, note, frameAnswer, endAnswer, notes, whenOpen, waitAct, waitStep, waitRun}
+use Rattle.demand3.specs.Demand3.{isRadio, shutReply, isClosed}
 use Rattle.calls.proofs.Computes.{computes}
 use Rattle.library_demand3.specs.Calls.{LibraryAnswer, LibraryRunResult, exported, libraryRun}
 use Rattle.library_demand3.specs.Claim.{inNumbers, inBytes, libraryStruck, EachLibraryStruck, LibrarySame, Starts}
@@ -35,7 +35,7 @@ use Rattle.library_demand3.specs.Wrong.{LibraryRefuted, acksStop, refuse
 
 -- all that a run of the library's calls, and the waiting tag's, computes with
 unfoldable runs : Unit {0}
-unfolding computes flagByte radioNumber radioStateOf spaceNumber spaceOf airBytes airDecodes airAt transferByte busBytes isBus busOf busDecodes busAt hostBytes hostDecodes hostAt registerBytes registersAt mailboxBytes mailboxDecodes mailboxAt passwordBytes passwordsAt bytesOf decodes tagOf selectRefused ends fresher isEmpty finished push parse bytesSent replies accepted writeLeg selectedLeg legOf lastLeg legsOf transferOf answerNumber isRefused stateAfter stepCall fill answered isStarted ackedSelect notesOf opens whenClosed note notes frameAnswer whenOpen waitAct waitStep waitRun framesFit isFrame isClosed exported libraryRun inNumbers inBytes libraryStruck EachLibraryStruck
+unfolding computes flagByte radioNumber radioStateOf spaceNumber spaceOf airBytes airDecodes airAt transferByte busBytes isBus busOf busDecodes busAt hostBytes hostDecodes hostAt registerBytes registersAt mailboxBytes mailboxDecodes mailboxAt passwordBytes passwordsAt bytesOf decodes tagOf selectRefused ends fresher isEmpty finished push parse bytesSent replies accepted writeLeg selectedLeg legOf lastLeg legsOf transferOf answerNumber isRefused stateAfter stepCall fill answered isStarted ackedSelect notesOf opens whenClosed note notes frameAnswer endAnswer whenOpen waitAct waitStep waitRun framesFit isRadio shutReply isClosed exported libraryRun inNumbers inBytes libraryStruck EachLibraryStruck
 runs = tt
 
 -- ---- what is compared: of the last answer its number, and byte i of its buffer

@@ -19,7 +19,7 @@ use Rattle.capi.specs.Interface.{answerNumber, freshCall}
 use Rattle.refusals.specs.Call.{Call}
 use Rattle.calls.specs.Calls.{CallAnswer, device, framesFit, callReply}
 use Rattle.waiting.specs.Waiting.{Waiting, noTransfer, inside, waitRun}
-use Rattle.demand3.specs.Demand3.{isFrame, shutReply, startAfter, isClosed}
+use Rattle.demand3.specs.Demand3.{isRadio, shutReply, startAfter, isClosed}
 use Rattle.library_demand3.specs.Calls.{LibraryStep, exported, LibraryAnswer, libraryAnswer, answerBy, LibraryRunResult, libraryRunResult, libraryRun}
 
 -- ---- the waiting tag in numbers and bytes
@@ -33,11 +33,11 @@ inNumbers (answer ∷ answers) = inNumber answer ∷ inNumbers answers
 -- its answers, the bytes of its tag, and its memory; with a transfer open (no list of the claim ends so), as at the transfer's start
 unfoldable pub inBytes : Waiting → LibraryRunResult
 inBytes (noTransfer out d) = libraryRunResult (inNumbers out) (bytesOf (d .tag)) (d .memory)
-inBytes (inside out d noted slots) = libraryRunResult (inNumbers out) (bytesOf (d .tag)) (d .memory)
+inBytes (inside out d noted pending) = libraryRunResult (inNumbers out) (bytesOf (d .tag)) (d .memory)
 
--- ---- the frames to strike out: those that came while a transfer was open and were not refused; a number below 0x100 is a refusal
+-- ---- the frames and ends-of-frame to strike out: those that came while a transfer was open and were not refused; a number below 0x100 is a refusal
 unfoldable pub libraryStruck : LibraryStep → List ℕ → List ℕ → Call → Bool
-libraryStruck step s m call = transferOpen (tagOf s) && isFrame (signalBy (call .code) (call .value)) && not (ltb (step s m call .number) 0x100)
+libraryStruck step s m call = transferOpen (tagOf s) && isRadio (signalBy (call .code) (call .value)) && not (ltb (step s m call .number) 0x100)
 
 -- the calls that are left
 unfoldable pub libraryOthers : LibraryStep → List ℕ → List ℕ → List Call → List Call
@@ -62,7 +62,7 @@ EachLibraryStruck step P start s m (call ∷ calls) =
     × EachLibraryStruck step P (startAfter start (tagOf s)) (step s m call .state) (step s m call .memory) calls
 
 abbrev pub shutAnswer : Tag → Air → Call → LibraryAnswer
-shutAnswer start air call = inNumber (callReply (shutReply start air (call .frame)) (call .buffer))
+shutAnswer start air call = inNumber (callReply (shutReply (signalBy (call .code) (call .value)) start air (call .frame)) (call .buffer))
 
 pub record LibraryShut (step : LibraryStep) (start : Tag) (s m : List ℕ) (call : Call) : Type 0 where
   pub state : step s m call .state ≡ s

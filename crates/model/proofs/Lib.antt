@@ -2,3 +2,4 @@ pub mod Acts
 pub mod Kept
 pub mod Served
 pub mod Clear
+pub mod Room

@@ -10,9 +10,9 @@ use Rattle.signal.specs.declared.WireAnswer.{WireAnswer}
 use Rattle.signal.specs.declared.WireAnswer.the-variants.{Nothing as WireNothing, Ack as WireAck, NoAck as WireNoAck, Byte as WireByte}
 use Rattle.wire.specs.Wire.{signalOf}
 use Rattle.reply.specs.Reply.{ReplyBody, nothing, body, answerOf}
-use Rattle.radio.specs.Radio.{radioOf}
+use Rattle.radio.specs.Radio.{radioOf, nextSlotOf}
 use Rattle.signal_table.specs.declared.Signal.{Signal}
-use Rattle.signal_table.specs.declared.Signal.the-variants.{Wire, Field, Frame}
+use Rattle.signal_table.specs.declared.Signal.the-variants.{Wire, Field, Frame, EndOfFrame}
 use Rattle.model.specs.Step.{isRefused, fromWire, fromRadio, actOf}
 use Rattle.reply.specs.Outcome.{radioSide}
 use Rattle.tag.specs.Parts.{wireSide}
@@ -34,3 +34,4 @@ unfolding actOf isRefused
 act-served (Wire x) t m o f = wire-served (signalOf (wireSide t) (t .uid) m x .answer)
 act-served (Field on) t m o f = refl
 act-served Frame t m o f = radio-served (radioOf (radioSide t) (t .uid) (t .host .vcc) (transferAt (t .host .bus)) (t .host .programming) m f .reply)
+act-served EndOfFrame t m o f = radio-served (nextSlotOf (radioSide t) (t .uid) (transferAt (t .host .bus)) (t .host .programming) m .reply)

@@ -11,7 +11,7 @@ use Rattle.bus.specs.Bus.{transferAt, isOpen}
 use Rattle.air.specs.Radio.{fieldAt}
 use Rattle.tag.specs.Supply.{freshTag}
 use Rattle.signal_table.specs.declared.Signal.{Signal}
-use Rattle.signal_table.specs.declared.Signal.the-variants.{Wire, Field, Frame}
+use Rattle.signal_table.specs.declared.Signal.the-variants.{Wire, Field, Frame, EndOfFrame}
 use Rattle.signal_table.specs.Table.{signalBy}
 use Rattle.signal.specs.declared.WireAnswer.{WireAnswer}
 use Rattle.signal.specs.declared.WireAnswer.the-variants.{Nothing as WireNothing, Ack as WireAck, NoAck as WireNoAck, Byte as WireByte}
@@ -19,8 +19,8 @@ use Rattle.wire.specs.Wire.{signalOf}
 use Rattle.reply.specs.Reply.{bufferOf, answerOf}
 use Rattle.reply.specs.declared.RadioAnswer.{RadioAnswer}
 use Rattle.reply.specs.declared.RadioAnswer.the-variants.{Silence as RadioSilence, Reply as RadioReply}
-use Rattle.reply.specs.Outcome.{radioSide, withRadio}
-use Rattle.radio.specs.Radio.{radioOf}
+use Rattle.reply.specs.Outcome.{CommandResult, radioSide, withRadio}
+use Rattle.radio.specs.Radio.{radioOf, nextSlotOf}
 use Rattle.refusals.specs.declared.Refusal.{Refusal}
 use Rattle.refusals.specs.Call.{Call}
 use Rattle.refusals.specs.Refusals.{entryRules, freshRules, judgement, unlessRefused}
@@ -53,6 +53,16 @@ isRefused (Byte x) = false
 isRefused Silence = false
 isRefused (Reply n) = false
 
+-- an answer is a reply, an error's too
+unfoldable pub isReply : Answer → Bool
+isReply (Refused why) = false
+isReply Nothing = false
+isReply Ack = false
+isReply NoAck = false
+isReply (Byte x) = false
+isReply Silence = false
+isReply (Reply n) = true
+
 -- "A refusal returns the number and the state handed in; every lent byte stays."
 abbrev pub refused : Refusal → Tag → List ℕ → List ℕ → StepResult
 refused refusal t m o = stepResult (Refused refusal) t m o
@@ -64,7 +74,7 @@ fromWire WireAck = Ack
 fromWire WireNoAck = NoAck
 fromWire (WireByte x) = Byte x
 
--- to a frame: silence, or a reply with its length
+-- to a frame or an end-of-frame: silence, or a reply with its length
 unfoldable pub fromRadio : RadioAnswer → Answer
 fromRadio RadioSilence = Silence
 fromRadio (RadioReply n) = Reply n
@@ -73,15 +83,19 @@ fromRadio (RadioReply n) = Reply n
 abbrev pub transferOpen : Tag → Bool
 transferOpen t = isOpen (t .host .bus)
 
+-- what a frame or an end-of-frame leaves of the tag, and its reply in the buffer o
+abbrev pub byRadio : CommandResult → Tag → List ℕ → StepResult
+byRadio result t o =
+    stepResult (fromRadio (answerOf (result .reply))) (withRadio (result .side) t) (result .memory) (bufferOf (result .reply) o)
+
 -- ---- one signal that is not refused; f is the frame, o the reply buffer
 unfoldable pub actOf : Signal → Tag → List ℕ → List ℕ → List ℕ → StepResult
 actOf (Wire signal) t m o f =
     let result = signalOf (wireSide t) (t .uid) m signal in
     stepResult (fromWire (result .answer)) (withWire (result .side) t) (result .memory) o
 actOf (Field on) t m o f = stepResult Nothing (withTagAir (fieldAt on (t .air)) t) m o
-actOf Frame t m o f =
-    let result = radioOf (radioSide t) (t .uid) (t .host .vcc) (transferAt (t .host .bus)) (t .host .programming) m f in
-    stepResult (fromRadio (answerOf (result .reply))) (withRadio (result .side) t) (result .memory) (bufferOf (result .reply) o)
+actOf Frame t m o f = byRadio (radioOf (radioSide t) (t .uid) (t .host .vcc) (transferAt (t .host .bus)) (t .host .programming) m f) t o
+actOf EndOfFrame t m o f = byRadio (nextSlotOf (radioSide t) (t .uid) (transferAt (t .host .bus)) (t .host .programming) m) t o
 
 -- ---- the two entry points
 -- one call: the refusals "in this order", then the signal

@@ -1,7 +1,7 @@
 // The tag's two entry points: the fresh tag, and one call. Nothing here relies on a check by the caller.
 ghost use mathlib.Core.Path.{_≡_};
 ghost use Rattle.air.specs.Radio.{fieldAt};
-ghost use Rattle.signal_table.specs.declared.Signal.the-variants.{Frame};
+ghost use Rattle.signal_table.specs.declared.Signal.the-variants.{Frame, EndOfFrame};
 ghost use Rattle.tag.specs.Parts.{wireSide, withWire, withTagAir};
 ghost use Rattle.wire.specs.Wire.{signalOf};
 ghost use Rattle.model.specs.declared.Answer.the-variants.{Refused, Nothing};
@@ -115,6 +115,35 @@ fn by_frame(t: Tag, m: &mut [u8], out: &mut [u8], frame: &[u8]) -> Outcome
     }
 }
 
+fn by_end_of_frame(t: Tag, m: &[u8], out: &mut [u8], frame: &[u8]) -> Outcome
+    ensures { λ r. ⌜ stepResultOf r (now (m .entry)) (now (out .exit)) ≡ actOf EndOfFrame t (now (m .entry)) (now (out .entry)) (now (frame .entry)) ⌝ }
+{
+    let air = t.air;
+    let core = t.core;
+    let host = t.host;
+    let bus = host.bus;
+    let transfer = bus::transfer_at(bus);
+    let o = radio::end_of_frame(
+        RadioSide { air, core },
+        t.uid,
+        transfer,
+        t.host.programming,
+        m,
+        out,
+    );
+    let answer = o.answer;
+    let side = o.side;
+    let next_air = side.air;
+    let next_core = side.core;
+    let mut n = t;
+    n.air = next_air;
+    n.core = next_core;
+    Outcome {
+        answer: from_radio(answer),
+        tag: n,
+    }
+}
+
 fn act(signal: Signal, t: Tag, m: &mut [u8], out: &mut [u8], frame: &[u8]) -> Outcome
     ensures { λ r. ⌜ stepResultOf r (now (m .exit)) (now (out .exit)) ≡ actOf signal t (now (m .entry)) (now (out .entry)) (now (frame .entry)) ⌝ }
 {
@@ -122,6 +151,7 @@ fn act(signal: Signal, t: Tag, m: &mut [u8], out: &mut [u8], frame: &[u8]) -> Ou
         Signal::Wire(x) => by_wire(t, m, x),
         Signal::Field(on) => by_field(t, on),
         Signal::Frame => by_frame(t, m, out, frame),
+        Signal::EndOfFrame => by_end_of_frame(t, m, out, frame),
     }
 }
 

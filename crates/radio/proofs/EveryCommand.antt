@@ -19,11 +19,13 @@ use Rattle.parts.proofs.Lists.{length-bytesAt}
 use Rattle.parts.proofs.Picks.{pick-case}
 use Rattle.rule_list.specs.RuleList.{anyHolds}
 use Rattle.rule_list.proofs.Laws.{says-passes}
+use Rattle.register_types.specs.declared.RfMngt.{RfMngt}
 use Rattle.register_types.specs.declared.MbMode.{MbMode}
 use Rattle.register_table.specs.declared.WriteRule.{WriteRule}
 use Rattle.register_table.specs.declared.WriteRule.the-variants.{Plain, AreaEnd, MailboxMode}
 use Rattle.register_table.specs.Table.{rowOf}
 use Rattle.ranges.specs.Ranges.{registersInRange, airInRange, mailboxInRange}
+use Rattle.ranges.proofs.AirKept.{session-kept, state-kept, quieted-kept, slots-kept}
 use Rattle.ranges.proofs.MailboxKept.{empty-kept, radio-read-kept, controlled-kept, radio-put-kept}
 use Rattle.ranges.proofs.RegistersKept.{written-kept, ccfile-kept}
 use Rattle.keys.specs.declared.Passwords.{Passwords}
@@ -31,7 +33,9 @@ use Rattle.keys.specs.declared.Uid.{Uid}
 use Rattle.keys.specs.Keys.{passwordAt, withRadioPassword}
 use Rattle.air.specs.declared.Air.{Air}
 use Rattle.bus.specs.declared.Transfer.{Transfer}
-use Rattle.air.specs.Radio.{deselected}
+use Rattle.air.specs.declared.RadioState.the-variants.{Ready, Selected}
+use Rattle.air.specs.Parts.{withSlots}
+use Rattle.air.specs.Radio.{isQuiet, deselected}
 use Rattle.mailbox.specs.declared.Mailbox.{Mailbox}
 use Rattle.mailbox.specs.Mailbox.{enabled, controlled}
 use Rattle.errors.specs.declared.RadioError.{RadioError}
@@ -44,7 +48,10 @@ use Rattle.commands.specs.declared.CommandCode.{CommandCode}
 use Rattle.commands.specs.declared.CommandCode.the-variants.{Unknown, Known}
 use Rattle.commands.specs.Table.{CodedRow, commandTable, commandOf}
 use Rattle.commands.proofs.Codes.{codeOf, differs, as-in-table, named}
-use Rattle.frame.specs.Fields.{command}
+use Rattle.frame.specs.Fields.{command, inventoryFlag}
+use Rattle.inventory.proofs.Laws.{slots-most, part-awake}
+use Rattle.inventory_reply.specs.Answers.{slotsLeft, inventoryOf}
+use Rattle.inventory_reply.proofs.Laws.{inventory-case}
 use Rattle.judge.specs.declared.Verdict.{Verdict}
 use Rattle.judge.specs.declared.Verdict.the-variants.{Silence, Error, Request}
 use Rattle.blocks.specs.Blocks.{readOf}
@@ -71,7 +78,7 @@ use Rattle.request.specs.declared.RequestFields.{RequestFields}
 use Rattle.request.specs.Request.{requestOf}
 use Rattle.serve.specs.Commands.{serveCommand, serveCode, serveOf}
 use Rattle.radio.specs.Claims.{replySize}
-use Rattle.radio.specs.Radio.{verdictResult, verdictOf, radioOf}
+use Rattle.radio.specs.Radio.{dynamicNow, busyNow, verdictResult, verdictOf, radioOf}
 
 -- ---- what is proved of a result
 -- the ranges as facts
@@ -258,12 +265,12 @@ module _ (q : RequestFields) (v : RadioSide) (vcc : Bool) (m f : List ℕ) where
 
   -- ---- passwords and the radio state
   presents-password : (n at : ℕ) → K (PresentPassword ≡ PresentPassword) (presentOf v m n f at)
-  unfolding airInRange replySize
+  unfolding replySize
   presents-password n at =
       let P = PresentPassword ≡ PresentPassword in
       present-case (K P) v m n f at (λ _. fail)
-      (λ _ _ error. record { room = λ _. omega arith; range = in-air _ (λ _. refl); size = refl; bytes = λ b _. b; keys = same-keys refl; errors = inl refl })
-      (λ h. gives [] _ (λ _. omega arith) (in-air _ (λ _. le-leb (n + 1) 4 (omega (arith, h)))) (same-keys refl))
+      (λ _ _ error. record { room = λ _. omega arith; range = in-air _ (session-kept (v .air) 0 refl); size = refl; bytes = λ b _. b; keys = same-keys refl; errors = inl refl })
+      (λ h. gives [] _ (λ _. omega arith) (in-air _ (session-kept (v .air) (n + 1) (le-leb (n + 1) 4 (omega (arith, h))))) (same-keys refl))
 
   writes-password : {P : Type 0} (n at : ℕ) → K P (writePasswordOf v m n f at)
   writes-password {P} n at =
@@ -273,17 +280,28 @@ module _ (q : RequestFields) (v : RadioSide) (vcc : Bool) (m f : List ℕ) where
       (new-key n at refl))
 
   selects : {P : Type 0} (own : Bool) → K P (selectUidOf v m own)
-  unfolding airInRange deselected
+  unfolding isQuiet deselected
   selects {P} own =
-      select-case (K P) v m own (gives [] _ (λ _. omega arith) (in-air _ (λ h. h)) (same-keys refl))
-      (hushes _ (λ h. pick-case (λ (a : Air). leb (a .session) 4 ≡ true) _ _ _ (λ k. h) (λ k. h)))
+      select-case (K P) v m own (gives [] _ (λ _. omega arith) (in-air _ (state-kept (v .air) Selected refl)) (same-keys refl))
+      (hushes _ (λ h. pick-case (λ (a : Air). airInRange a ≡ true) _ _ _ (λ k. state-kept (v .air) Ready refl h) (λ k. h)))
+
+  -- ---- inventory
+  leaves : {P : Type 0} (u : Uid) (n : ℕ) (answers : Bool) → (airInRange (v .air) ≡ true → airInRange (withSlots n (v .air)) ≡ true) → K P (slotsLeft v u n answers m)
+  leaves {P} u n answers h =
+      pick-case (K P) answers _ _ (λ _. gives _ _ (λ _. omega (arith, length-bytesAt (u .bytes) 0 8)) (in-air _ h) (same-keys refl)) (λ _. hushes _ h)
+
+  pub inventories : {P : Type 0} (u : Uid) (dynamic : RfMngt) (busy : Bool) → K P (inventoryOf v u dynamic busy m f)
+  inventories {P} u dynamic busy =
+      inventory-case (K P) v u dynamic busy m f
+      (λ h. leaves u _ _ (slots-kept (v .air) _ (slots-most f u (v .core .registers .afi)) (part-awake (v .air) dynamic busy h)))
+      (hushes (v .air) (λ h. h))
 
   -- ---- every command, a line each
   every-command : (c : Command) → K (c ≡ PresentPassword) (serveCommand c q v vcc m f)
-  unfolding serveCommand airInRange
-  every-command StayQuiet = stay-quiet-case (K _) v m (hushes _ (λ h. h))
+  unfolding serveCommand isQuiet
+  every-command StayQuiet = stay-quiet-case (K _) v m (hushes _ (quieted-kept (v .air)))
   every-command Select = selects (q .own)
-  every-command ResetToReady = reset-case (K _) v m (gives [] _ (λ _. omega arith) (in-air _ (λ h. h)) (same-keys refl))
+  every-command ResetToReady = reset-case (K _) v m (gives [] _ (λ _. omega arith) (in-air _ (state-kept (v .air) Ready refl)) (same-keys refl))
   every-command ReadSingleBlock = reads (q .option) (q .first) 0
   every-command ReadMultipleBlocks = reads (q .option) (q .first) (q .second)
   every-command WriteSingleBlock = writes (q .first) 0 (q .at + 1)
@@ -325,4 +343,6 @@ module _ (v : RadioSide) (vcc : Bool) (m f : List ℕ) where
 
   pub frame-behaves : (u : Uid) (transfer : Transfer) (programming : Bool) → F (requestOf f u) (radioOf v u vcc transfer programming m f)
   unfolding radioOf
-  frame-behaves u transfer programming = answer-behaves u (verdictOf v u transfer programming f)
+  frame-behaves u transfer programming =
+      pick-case (F (requestOf f u)) (inventoryFlag f) _ _ (λ h. inventories (requestOf f u) v vcc m f u (dynamicNow v transfer) (busyNow transfer programming))
+      (λ h. answer-behaves u (verdictOf v u transfer programming f))

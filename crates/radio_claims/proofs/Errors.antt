@@ -9,7 +9,7 @@ use lib.Dec.{eqb}
 use lib.ListN.{getD}
 use borrow.Author.Tests.{eq-eqb, eqb-true, lt-leb, le-leb}
 use Rattle.parts.specs.Pick.{pick}
-use Rattle.parts.proofs.Picks.{pick-true, pick-false}
+use Rattle.parts.proofs.Picks.{pick-true, pick-false, pick-case}
 use Rattle.rule_list.specs.RuleList.{firstSays}
 use Rattle.bus.specs.declared.Transfer.{Transfer}
 use Rattle.keys.specs.declared.Uid.{Uid}
@@ -19,7 +19,11 @@ use Rattle.reply.specs.declared.RadioSide.{RadioSide}
 use Rattle.reply.specs.Reply.{ReplyBody, nothing, body, fault}
 use Rattle.reply.specs.Outcome.{CommandResult, commandResult}
 use Rattle.commands.specs.Table.{commandTable, commandOf}
-use Rattle.frame.specs.Fields.{command, paramPlace, param}
+use Rattle.frame.specs.Fields.{command, paramPlace, param, inventoryFlag}
+use Rattle.inventory.specs.Inventory.{answersNow}
+use Rattle.inventory_reply.specs.Answers.{inventoryOf}
+use Rattle.inventory_reply.proofs.Laws.{inventory-case}
+use Rattle.register_types.specs.declared.RfMngt.{RfMngt}
 use Rattle.judge.specs.declared.Verdict.{Verdict}
 use Rattle.judge.specs.declared.Verdict.the-variants.{Silence, Error, Request}
 use Rattle.password.specs.Password.{presentOf}
@@ -27,7 +31,7 @@ use Rattle.password.proofs.Cases.{present-case}
 use Rattle.request.specs.Request.{requestOf}
 use Rattle.serve.specs.Commands.{serveCommand, serveOf}
 use Rattle.serve.proofs.Rows.{known-row}
-use Rattle.radio.specs.Radio.{verdictResult, verdictOf, radioOf}
+use Rattle.radio.specs.Radio.{dynamicNow, busyNow, verdictResult, verdictOf, radioOf}
 use Rattle.radio.proofs.EveryCommand.{Shape, silent, served, failed, request-behaves, frame-behaves}
 use Rattle.radio_claims.specs.Claims.{ErrorsChangeNothing, isRequest, presentsWrong, sessionClosed, errorLeaves, ErrorsLeave}
 
@@ -85,10 +89,20 @@ module _ (v : RadioSide) (u : Uid) (vcc : Bool) (m f : List ℕ) where
   answer-leaves (Error e) = failed e refl
   answer-leaves Request = request-shape (eqb (command f) 0xB3) refl
 
+-- an inventory frame gets no error
+inventory-leaves : (v after : RadioSide) (u : Uid) (dynamic : RfMngt) (busy : Bool) (m f : List ℕ) → Shape after m (inventoryOf v u dynamic busy m f)
+inventory-leaves v after u dynamic busy m f =
+    let K : CommandResult → Type 0 = Shape after m in
+    let own = v .core .registers .afi in
+    inventory-case K v u dynamic busy m f (λ _. pick-case K (answersNow f u own) _ _ (λ _. served _ refl) (λ _. silent refl)) (silent refl)
+
 pub frame-leaves : (v : RadioSide) (u : Uid) (vcc : Bool) (transfer : Transfer) (programming : Bool) (m f : List ℕ)
     → Shape (errorLeaves v u transfer programming f) m (radioOf v u vcc transfer programming m f)
 unfolding radioOf
-frame-leaves v u vcc transfer programming m f = answer-leaves v u vcc m f (verdictOf v u transfer programming f)
+frame-leaves v u vcc transfer programming m f =
+    pick-case (Shape (errorLeaves v u transfer programming f) m) (inventoryFlag f) _ _
+    (λ h. inventory-leaves v (errorLeaves v u transfer programming f) u (dynamicNow v transfer) (busyNow transfer programming) m f)
+    (λ h. answer-leaves v u vcc m f (verdictOf v u transfer programming f))
 
 pub errors-leave : ErrorsLeave
 errors-leave v u vcc transfer programming m f rest h =

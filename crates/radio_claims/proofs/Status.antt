@@ -26,7 +26,7 @@ use Rattle.reply.specs.Outcome.{CommandResult}
 use Rattle.rule_list.specs.RuleList.{firstSays}
 use Rattle.commands.specs.Table.{commandTable, commandOf}
 use Rattle.judge.specs.declared.Verdict.{Verdict}
-use Rattle.frame.specs.Fields.{command, optionFlag, paramPlace, param}
+use Rattle.frame.specs.Fields.{command, optionFlag, paramPlace, param, inventoryFlag}
 use Rattle.blocks.specs.Blocks.{leavesArea, blocksOf, readOf}
 use Rattle.block_status.specs.Status.{statusOf, statusesOf, statusReply}
 use Rattle.block_bytes.specs.Block.{blockOf}
@@ -208,7 +208,7 @@ module _ (t : RadioSide) (u : Uid) (vcc : Bool) (transfer : Transfer) (programmi
   asked : (c : ℕ) (s : List ℕ) → Asks t u transfer programming c s
       → radioOf t u vcc transfer programming m s ≡ serveOf (requestOf s u) t vcc m s
   unfolding radioOf verdictResult
-  asked c s a = ap (λ (v : Verdict). verdictResult v t u vcc m s) (a .judged)
+  asked c s a = sym (pick-false _ _ _ (inventoryFlag s) (a .plain) (sym (ap (λ (v : Verdict). verdictResult v t u vcc m s) (a .judged))))
 
   -- 21 on a block of the memory, and the block's status
   write-asked : (w : List ℕ) (block : ℕ) → Asks t u transfer programming 0x21 w → param w 0 ≡ block → block < 128

@@ -20,7 +20,7 @@ use Rattle.reply.specs.Reply.{ReplyBody, body, good, fault}
 use Rattle.reply.specs.Outcome.{commandResult, fails, withAir, radioSide, withRadio}
 use Rattle.judge.specs.declared.Verdict.{Verdict}
 use Rattle.judge.specs.declared.Verdict.the-variants.{Silence, Error, Request}
-use Rattle.frame.specs.Fields.{command, optionFlag, paramPlace, param}
+use Rattle.frame.specs.Fields.{command, inventoryFlag, optionFlag, paramPlace, param}
 use Rattle.radio.specs.Radio.{verdictOf, radioOf}
 use Rattle.refusals.specs.Call.{handedIn}
 use Rattle.model.specs.declared.Answer.the-variants.{Reply}
@@ -70,8 +70,9 @@ ErrorCallsLeave = (t : Tag) (m o f : List ℕ) (n : ℕ)
     × (result .memory ≡ m)
 
 -- ---- "1 exactly when 21 would give 12h"
--- the frame f asks for the command of a code, and is served
+-- the frame f asks for the command of a code, and is served; it is no inventory
 pub record Asks (v : RadioSide) (u : Uid) (transfer : Transfer) (programming : Bool) (code : ℕ) (f : List ℕ) : Type 0 where
+  pub plain : inventoryFlag f ≡ false
   pub judged : verdictOf v u transfer programming f ≡ Request
   pub named : command f ≡ code
 

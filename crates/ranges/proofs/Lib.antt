@@ -1,3 +1,4 @@
 pub mod Fresh
 pub mod MailboxKept
 pub mod RegistersKept
+pub mod AirKept

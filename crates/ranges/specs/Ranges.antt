@@ -6,6 +6,7 @@ use Rattle.register_types.specs.Types.{rfMngtBits}
 use Rattle.defined_bits.specs.Defined.{onlyBits, definedOnly}
 use Rattle.areas.specs.Ends.{endsInRange}
 use Rattle.air.specs.declared.Air.{Air}
+use Rattle.air.specs.Radio.{isQuiet}
 use Rattle.tag.specs.declared.Host.{Host}
 use Rattle.mailbox.specs.declared.Message.{Message}
 use Rattle.mailbox.specs.declared.Mailbox.{Mailbox}
@@ -21,9 +22,9 @@ use Rattle.bus.specs.Bus.{transferAt, isOpen, isActive, pageBytes}
 unfoldable pub registersInRange : Registers → Bool
 registersInRange r = endsInRange (r .ends) && definedOnly r
 
--- "radio session 0 none, 1 to 4 for passwords 0 to 3"
+-- "radio session 0 none, 1 to 4 for passwords 0 to 3"; the ends-of-frame left "to its slot, 0 to 15, 0 when Quiet or out of the field"
 unfoldable pub airInRange : Air → Bool
-airInRange a = leb (a .session) 4
+airInRange a = leb (a .session) 4 && leb (a .slots) 15 && (eqb (a .slots) 0 || (a .field && not (isQuiet (a .radio))))
 
 -- "a PUT set only with its CURRENT bit"
 abbrev pub putCurrent : Message → Bool

@@ -21,7 +21,8 @@ fn registers_in_range(r: Registers) -> bool
 fn air_in_range(a: Air) -> bool
     ensures { λ b. ⌜ b ≡ airInRange a ⌝ }
 {
-    a.session <= 4
+    let radio = a.radio;
+    (a.session <= 4) & (a.slots <= 15) & ((a.slots == 0) | (a.field & !air::is_quiet(radio)))
 }
 
 fn mailbox_in_range(mailbox: Mailbox) -> bool

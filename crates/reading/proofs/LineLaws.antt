@@ -33,7 +33,8 @@ module _ (G : Type 0) where
       pick-case (Says G) _ _ _ (λ _ e. never e)
       (λ _. pick-case (Says G) _ _ _ (λ _ e. never e)
       (λ _. pick-case (Says G) _ _ _ (λ _ e. never e)
-      (λ _ e. never e)))
+      (λ _. pick-case (Says G) _ _ _ (λ _ e. never e)
+      (λ _ e. never e))))
 
   in-level : (code : ℕ) (s : List ℕ) → Says G (level code s)
   unfolding level isFrame

@@ -19,13 +19,14 @@ pub data ScriptLine : Type 0 where
 abbrev pub longest : ℕ
 longest = 1200
 
--- a letter alone: S Start, P Stop, D programming end
+-- a letter alone: S Start, P Stop, D programming end, E end-of-frame
 unfoldable pub alone : ℕ → ScriptLine
 alone x =
     pick (eqb x 0x53) (signalLine 3 0)
     (pick (eqb x 0x50) (signalLine 6 0)
     (pick (eqb x 0x44) (signalLine 7 0)
-    badLine))
+    (pick (eqb x 0x45) (signalLine 9 0)
+    badLine)))
 
 -- "0/1"
 unfoldable pub level : ℕ → List ℕ → ScriptLine

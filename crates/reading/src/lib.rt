@@ -19,6 +19,7 @@ fn alone(s: &[u8]) -> Reading
         b'S' => Reading::Signal { code: 3, value: 0 },
         b'P' => Reading::Signal { code: 6, value: 0 },
         b'D' => Reading::Signal { code: 7, value: 0 },
+        b'E' => Reading::Signal { code: 9, value: 0 },
         _ => Reading::Bad,
     }
 }

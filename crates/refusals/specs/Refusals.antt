@@ -12,7 +12,7 @@ use Rattle.rule_list.specs.RuleList.{firstSays}
 use Rattle.signal_table.specs.Table.{signalInRange}
 use Rattle.refusals.specs.Call.{Call}
 use Rattle.refusals.specs.declared.Refusal.{Refusal}
-use Rattle.refusals.specs.declared.Refusal.the-variants.{MemoryLength, ReplyShort, SignalUnknown, OutOfRange, StateLength, UidLength}
+use Rattle.refusals.specs.declared.Refusal.the-variants.{MemoryLength, ReplyShort, SignalUnknown, OutOfRange, RackSize, NoSuchTag, EqualUids, StateLength, UidLength}
 use Rattle.refusals.specs.declared.Judgement.{Judgement}
 use Rattle.refusals.specs.declared.Judgement.the-variants.{NoRefusal, RefusedBy}
 
@@ -22,11 +22,15 @@ number MemoryLength = 1
 number ReplyShort = 2
 number SignalUnknown = 3
 number OutOfRange = 4
+-- of a rack alone, 02: "5 rack empty or above 16; 6 no such tag; 7 two equal UIDs"
+number RackSize = 5
+number NoSuchTag = 6
+number EqualUids = 7
 -- of the library for C alone
 number StateLength = 13
 number UidLength = 14
 
--- 1 and 4 look at the tag or its memory; the model's others look at what the call hands in alone
+-- of one tag's refusals, 1 and 4 look at the tag or its memory; the others look at what the call hands in alone
 unfoldable pub looksAtTag : Refusal → Bool
 looksAtTag refusal = eqb (number refusal) 1 || eqb (number refusal) 4
 

@@ -4,12 +4,18 @@ ghost use Rattle.refusals.specs.Call.{handedIn};
 ghost use Rattle.refusals.specs.Refusals.{number, tagInRange, freshRules, callRules, laterRules, entryRules, judgement};
 use tag::Tag;
 
-// Document 01's table of refusals, and two of the library for C.
+// Document 01's table of refusals, three of a rack, and two of the library for C.
 pub enum Refusal {
     MemoryLength,
     ReplyShort,
     SignalUnknown,
     OutOfRange,
+    // The rack has no tag, or more than 16.
+    RackSize,
+    // The rack has no tag of the number that the call names.
+    NoSuchTag,
+    // Two tags of the rack have the same UID.
+    EqualUids,
     // The state buffer has not a state's length.
     StateLength,
     // The UID has not its 8 bytes.
@@ -26,6 +32,9 @@ impl Refusal {
             Refusal::ReplyShort => 2,
             Refusal::SignalUnknown => 3,
             Refusal::OutOfRange => 4,
+            Refusal::RackSize => 5,
+            Refusal::NoSuchTag => 6,
+            Refusal::EqualUids => 7,
             Refusal::StateLength => 13,
             Refusal::UidLength => 14,
         }

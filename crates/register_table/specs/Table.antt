@@ -7,7 +7,7 @@ use Rattle.parts.specs.Pick.{pick}
 use Rattle.register_table.specs.declared.WriteRule.{WriteRule}
 use Rattle.register_table.specs.declared.WriteRule.the-variants.{Plain, AreaEnd, MailboxMode}
 use Rattle.register_table.specs.declared.RegisterRow.{RegisterRow}
-use Rattle.register_types.specs.Types.{rfMngtBits, rfaSsBits, endABits, i2cSsBits, lockCcFileBits, mbModeBits, lockCfgBits}
+use Rattle.register_types.specs.Types.{rfMngtBits, rfaSsBits, endABits, i2cSsBits, lockCcFileBits, mbModeBits, lockCfgBits, dsfidBits, afiBits}
 
 -- An entry: the address on the wire, how many of the register's bits are defined, the row. The host reads every register.
 -- A row says where the register's byte stands among those of all registers, whether the host may write it, with the session open, and whether A0 and A1 have a pointer to it, which is its address.
@@ -21,7 +21,7 @@ registerEntry address place n rule host radio = record { address = address; defi
 
 -- how many bytes the registers are, RF_MNGT_Dyn among them
 abbrev pub registerCount : ℕ
-registerCount = 13
+registerCount = 15
 
 -- the places that something else than the table names; RF_MNGT_Dyn has no address in system space
 abbrev pub mngtPlace : ℕ
@@ -38,7 +38,7 @@ abbrev pub noPlace : ℕ
 noPlace = 0xFF
 
 -- "System: 0003h RF_MNGT, 0004h-000Ah RFA1SS, ENDA1, RFA2SS, ENDA2, RFA3SS, ENDA3, RFA4SS, 000Bh I2CSS, 000Ch LOCK_CCFILE, 000Dh MB_MODE, 000Fh LOCK_CFG";
--- A0, A1: "pointers 03-0A, 0D, 0F". The columns: address, place, defined bits, rule on writing, whether the host writes it, whether the radio has a pointer. In the order of the places.
+-- "DSFID and AFI registers (0012h, 0013h, read only for all)"; A0, A1: "pointers 03-0A, 0D, 0F". The columns: address, place, defined bits, rule on writing, whether the host writes it, whether the radio has a pointer. In the order of the places.
 abbrev pub registerTable : List RegisterEntry
 registerTable =
     registerEntry 0x03 mngtPlace rfMngtBits Plain true true
@@ -53,6 +53,8 @@ registerTable =
     ∷ registerEntry 0x0C ccfilePlace lockCcFileBits Plain true false
     ∷ registerEntry 0x0D 11 mbModeBits MailboxMode true true
     ∷ registerEntry 0x0F 12 lockCfgBits Plain true true
+    ∷ registerEntry 0x12 13 dsfidBits Plain false false
+    ∷ registerEntry 0x13 14 afiBits Plain false false
     ∷ []
 
 -- how many bits are defined of the byte at each place: RF_MNGT_Dyn, between RF_MNGT and the others, has as many as RF_MNGT

@@ -4,6 +4,8 @@ ghost use mathlib.Core.Path.{_≡_};
 ghost use lib.ListN.{getD};
 ghost use Rattle.parts.specs.Bits.{keepBits};
 ghost use Rattle.register_table.specs.Table.{placeBits, rowOf};
+use register_types::Afi;
+use register_types::Dsfid;
 use register_types::EndA;
 use register_types::I2cSs;
 use register_types::LockCcFile;
@@ -13,7 +15,7 @@ use register_types::RfMngt;
 use register_types::RfaSs;
 
 // How many bytes the registers are, RF_MNGT_Dyn among them.
-pub const REGISTER_BYTES: usize = 13;
+pub const REGISTER_BYTES: usize = 15;
 
 // The places that something else than the table names: RF_MNGT, RF_MNGT_Dyn, LOCK_CCFILE.
 pub const MNGT_PLACE: u8 = 0;
@@ -40,6 +42,8 @@ pub const MASKS: [u8; REGISTER_BYTES] = [
     LockCcFile::MASK,
     MbMode::MASK,
     LockCfg::MASK,
+    Dsfid::MASK,
+    Afi::MASK,
 ];
 
 // The defined bits of a byte for a place; past the last place there are none.
@@ -105,6 +109,9 @@ pub fn row_of(at: u32) -> RegisterRow
         0x0D => RegisterRow::new(11, WriteRule::MailboxMode, true, true),
         // LOCK_CFG.
         0x0F => RegisterRow::new(12, WriteRule::Plain, true, true),
+        // DSFID and AFI.
+        0x12 => RegisterRow::new(13, WriteRule::Plain, false, false),
+        0x13 => RegisterRow::new(14, WriteRule::Plain, false, false),
         _ => RegisterRow::new(NO_PLACE, WriteRule::Plain, false, false),
     }
 }

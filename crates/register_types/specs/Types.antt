@@ -8,6 +8,8 @@ use Rattle.register_types.specs.declared.I2cSs.{I2cSs}
 use Rattle.register_types.specs.declared.LockCcFile.{LockCcFile}
 use Rattle.register_types.specs.declared.MbMode.{MbMode}
 use Rattle.register_types.specs.declared.LockCfg.{LockCfg}
+use Rattle.register_types.specs.declared.Dsfid.{Dsfid}
+use Rattle.register_types.specs.declared.Afi.{Afi}
 
 -- "Defined bits: RF_MNGT two, RFAiSS four, LOCK_CCFILE two, MB_MODE and LOCK_CFG one; others read 0." I2CSS has eight, ENDAi is 0 to 0Fh.
 abbrev pub rfMngtBits : ℕ
@@ -30,6 +32,13 @@ mbModeBits = 1
 
 abbrev pub lockCfgBits : ℕ
 lockCfgBits = 1
+
+-- 000: DSFID and AFI are whole bytes
+abbrev pub dsfidBits : ℕ
+dsfidBits = 8
+
+abbrev pub afiBits : ℕ
+afiBits = 8
 
 -- RF_MNGT and RF_MNGT_Dyn: b0 radio disabled, b1 radio asleep
 abbrev pub rfMngt : ℕ → RfMngt
@@ -58,3 +67,11 @@ mbMode x = record { bits = keepBits mbModeBits x }
 -- LOCK_CFG: b0 locks the configuration against the radio
 abbrev pub lockCfg : ℕ → LockCfg
 lockCfg x = record { bits = keepBits lockCfgBits x }
+
+-- DSFID: the data storage format identifier, which the tag tells in its reply to an inventory
+abbrev pub dsfid : ℕ → Dsfid
+dsfid x = record { bits = keepBits dsfidBits x }
+
+-- AFI: the application family identifier, by which an inventory may ask
+abbrev pub afi : ℕ → Afi
+afi x = record { bits = keepBits afiBits x }

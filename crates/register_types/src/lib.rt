@@ -1,7 +1,7 @@
 // The registers one by one: each a type of its own, with its defined bits.
 ghost use mathlib.Core.Path.{_≡_};
 ghost use Rattle.parts.specs.Bits.{keepBits};
-ghost use Rattle.register_types.specs.Types.{rfMngtBits, rfaSsBits, endABits, i2cSsBits, lockCcFileBits, mbModeBits, lockCfgBits, rfMngt, rfaSs, endA, i2cSs, lockCcFile, mbMode, lockCfg};
+ghost use Rattle.register_types.specs.Types.{rfMngtBits, rfaSsBits, endABits, i2cSsBits, lockCcFileBits, mbModeBits, lockCfgBits, dsfidBits, afiBits, rfMngt, rfaSs, endA, i2cSs, lockCcFile, mbMode, lockCfg, dsfid, afi};
 
 // RF_MNGT and RF_MNGT_Dyn: b0 radio disabled, b1 radio asleep.
 pub struct RfMngt {
@@ -159,6 +159,52 @@ impl LockCfg {
         ensures { λ r. ⌜ r ≡ lockCfg byte ⌝ }
     {
         LockCfg {
+            bits: Self::keep(byte),
+        }
+    }
+}
+
+// DSFID: the data storage format identifier, which the tag tells in its reply to an inventory.
+pub struct Dsfid {
+    pub bits: u8,
+}
+
+impl Dsfid {
+    pub const MASK: u8 = 0xFF;
+
+    pub fn keep(byte: u8) -> u8
+        ensures { λ r. ⌜ r ≡ keepBits dsfidBits byte ⌝ }
+    {
+        byte & Self::MASK
+    }
+
+    pub fn new(byte: u8) -> Dsfid
+        ensures { λ r. ⌜ r ≡ dsfid byte ⌝ }
+    {
+        Dsfid {
+            bits: Self::keep(byte),
+        }
+    }
+}
+
+// AFI: the application family identifier, by which an inventory may ask.
+pub struct Afi {
+    pub bits: u8,
+}
+
+impl Afi {
+    pub const MASK: u8 = 0xFF;
+
+    pub fn keep(byte: u8) -> u8
+        ensures { λ r. ⌜ r ≡ keepBits afiBits byte ⌝ }
+    {
+        byte & Self::MASK
+    }
+
+    pub fn new(byte: u8) -> Afi
+        ensures { λ r. ⌜ r ≡ afi byte ⌝ }
+    {
+        Afi {
             bits: Self::keep(byte),
         }
     }

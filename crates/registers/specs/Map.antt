@@ -11,13 +11,13 @@ use Rattle.registers.specs.declared.Ends.{Ends}
 use Rattle.registers.specs.declared.Registers.{Registers}
 use Rattle.register_table.specs.Table.{mngtPlace, dynamicPlace, noPlace, placeBits, rowOf}
 
--- the byte at each place: "RF_MNGT, RF_MNGT_Dyn, RFA1SS, ENDA1, RFA2SS, ENDA2, RFA3SS, ENDA3, RFA4SS, I2CSS, LOCK_CCFILE, MB_MODE, LOCK_CFG"
+-- the byte at each place: "RF_MNGT, RF_MNGT_Dyn, RFA1SS, ENDA1, RFA2SS, ENDA2, RFA3SS, ENDA3, RFA4SS, I2CSS, LOCK_CCFILE, MB_MODE, LOCK_CFG, DSFID, AFI"
 unfoldable pub registerBytes : Registers → List ℕ
 registerBytes r =
     r .mngt .bits ∷ r .dynamic .bits
     ∷ r .security .area1 .bits ∷ r .ends .end1 .bits ∷ r .security .area2 .bits ∷ r .ends .end2 .bits
     ∷ r .security .area3 .bits ∷ r .ends .end3 .bits ∷ r .security .area4 .bits
-    ∷ r .i2css .bits ∷ r .ccfile .bits ∷ r .mode .bits ∷ r .config .bits ∷ []
+    ∷ r .i2css .bits ∷ r .ccfile .bits ∷ r .mode .bits ∷ r .config .bits ∷ r .dsfid .bits ∷ r .afi .bits ∷ []
 
 -- the registers of such bytes; one that is missing is 0
 abbrev pub registersOf : List ℕ → Registers
@@ -31,6 +31,8 @@ registersOf s =
       ccfile = record { bits = getD s 10 0 };
       mode = record { bits = getD s 11 0 };
       config = record { bits = getD s 12 0 };
+      dsfid = record { bits = getD s 13 0 };
+      afi = record { bits = getD s 14 0 };
     }
 
 -- the byte of the register at a place; "FFh where unmapped"
@@ -44,7 +46,7 @@ registerAt r address = byteOf (rowOf address .place) r
 -- ---- one of the registers replaced
 abbrev pub withDynamic : RfMngt → Registers → Registers
 withDynamic x r =
-    record { mngt = r .mngt; dynamic = x; security = r .security; ends = r .ends; i2css = r .i2css; ccfile = r .ccfile; mode = r .mode; config = r .config }
+    record { mngt = r .mngt; dynamic = x; security = r .security; ends = r .ends; i2css = r .i2css; ccfile = r .ccfile; mode = r .mode; config = r .config; dsfid = r .dsfid; afi = r .afi }
 
 -- ENDAi replaced
 unfoldable pub withEnd : ℕ → EndA → Ends → Ends

@@ -4,6 +4,8 @@ ghost use Rattle.register_types.specs.Types.{rfMngt};
 ghost use Rattle.registers.specs.Fresh.{freshRegisters};
 ghost use Rattle.registers.specs.Map.{registerBytes, registersOf, byteOf, registerAt, withDynamic, putDefined, writtenTo, written};
 use register_table::REGISTER_BYTES;
+use register_types::Afi;
+use register_types::Dsfid;
 use register_types::EndA;
 use register_types::I2cSs;
 use register_types::LockCcFile;
@@ -40,6 +42,8 @@ pub struct Registers {
     pub mode: MbMode,
     // LOCK_CFG.
     pub config: LockCfg,
+    pub dsfid: Dsfid,
+    pub afi: Afi,
 }
 
 // Puts a byte at a place of the registers' bytes, its defined bits kept.
@@ -69,6 +73,8 @@ impl Registers {
             self.ccfile.bits,
             self.mode.bits,
             self.config.bits,
+            self.dsfid.bits,
+            self.afi.bits,
         ]
     }
 
@@ -94,6 +100,8 @@ impl Registers {
             ccfile: LockCcFile { bits: s[10] },
             mode: MbMode { bits: s[11] },
             config: LockCfg { bits: s[12] },
+            dsfid: Dsfid { bits: s[13] },
+            afi: Afi { bits: s[14] },
         }
     }
 
@@ -120,6 +128,8 @@ impl Registers {
             ccfile: LockCcFile::new(0),
             mode: MbMode::new(0),
             config: LockCfg::new(0),
+            dsfid: Dsfid::new(0),
+            afi: Afi::new(0),
         }
     }
 

@@ -17,12 +17,12 @@ use Rattle.signal.specs.declared.WireAnswer.the-variants.{Nothing as WireNothin
 use Rattle.wire.specs.Wire.{signalOf}
 use Rattle.reply.specs.Reply.{ReplyBody, nothing, body, answerOf}
 use Rattle.radio.specs.Claims.{replySize}
-use Rattle.radio.specs.Radio.{radioOf}
-use Rattle.radio.proofs.Room.{replies-fit}
+use Rattle.radio.specs.Radio.{radioOf, nextSlotOf}
+use Rattle.radio.proofs.Room.{replies-fit, end-fits}
 use Rattle.model.specs.declared.Answer.{Answer}
 use Rattle.model.specs.declared.Answer.the-variants.{Reply}
 use Rattle.signal_table.specs.declared.Signal.{Signal}
-use Rattle.signal_table.specs.declared.Signal.the-variants.{Wire, Field, Frame}
+use Rattle.signal_table.specs.declared.Signal.the-variants.{Wire, Field, Frame, EndOfFrame}
 use Rattle.model.specs.Step.{StepResult, fromWire, fromRadio, actOf, stepOf, FreshResult, freshOf}
 use Rattle.replies_fit.specs.Claims.{replyFits, StepRepliesFit}
 use Rattle.reply.specs.Outcome.{radioSide}
@@ -52,6 +52,9 @@ act-fits (Field on) t m o f h = refl
 act-fits Frame t m o f h =
     radio-fits (radioOf (radioSide t) (t .uid) (t .host .vcc) (transferAt (t .host .bus)) (t .host .programming) m f .reply)
     (replies-fit (radioSide t) (t .uid) (t .host .vcc) (transferAt (t .host .bus)) (t .host .programming) m f (mailbox-fits t m h))
+act-fits EndOfFrame t m o f h =
+    radio-fits (nextSlotOf (radioSide t) (t .uid) (transferAt (t .host .bus)) (t .host .programming) m .reply)
+    (end-fits (radioSide t) (t .uid) (transferAt (t .host .bus)) (t .host .programming) m)
 
 pub steps-fit : StepRepliesFit
 unfolding stepOf replyFits

@@ -5,8 +5,8 @@ use Rattle.write_reasons.specs.declared.WriteReason.{WriteReason}
 use Rattle.write_reasons.specs.declared.WriteReason.the-variants.{LegSpoiled, OutsideMap, MailboxModeOn, ModeOff, MailboxBusy, MailboxLegNotFrom2008, AnotherArea, LockedBlock, AreaNeverWritable, ConfigurationLocked, SessionNeeded, RegisterReadOnly, PasswordCode, EndaRule, PageFull}
 use Rattle.write_reasons.specs.Reasons.{reasonNumber, reasonWords}
 use Rattle.errors.specs.declared.RadioError.the-variants.{ShutOut, UnknownCommand, UnsupportedFlags, WrongLength, NoSuchBlock, ReadLeavesArea, ReadProtected, TooManyBlocks, WriteLeavesArea, WriteForbidden, NotLockable, AlreadyLocked, NoSuchRegister, ConfigurationClosed, EndRefused, NoSuchDynamicRegister, MailboxUnavailable, MailboxDisabled, PastMessage, NoSuchPassword, WrongPassword, PasswordSessionClosed}
-use Rattle.silence.specs.Silence.{noField, rfSleep, badSize, badCrc, inventorySet, bothFlags, otherMaker, otherUid, notSelected, neitherWhenQuiet, notAddressed, silenceNumber}
-use Rattle.rule_names.specs.Rules.{Rule, byteForbidden, noVcc, noStart, inReadLeg, otherSelectByte, programmingNow, silent, ownSilence, failed, ruleNumber, silenceWords, errorWords, ruleWords}
+use Rattle.silence_rules.specs.Silence.{noField, rfSleep, badSize, badCrc, bothFlags, otherMaker, otherUid, notSelected, neitherWhenQuiet, notAddressed, silenceNumber}
+use Rattle.rule_names.specs.Rules.{Rule, byteForbidden, noVcc, noStart, inReadLeg, otherSelectByte, programmingNow, silent, inventorySilence, ownSilence, failed, ruleNumber, silenceWords, errorWords, ruleWords}
 use Rattle.rule_names.specs.Names.{allRules, names, stringBytes, nameAt}
 use Rattle.rule_names.specs.Claims.{NamedByNumber, countedFrom, NumberedInOrder}
 
@@ -40,7 +40,7 @@ named (silent noField) = refl
 named (silent rfSleep) = refl
 named (silent badSize) = refl
 named (silent badCrc) = refl
-named (silent inventorySet) = refl
+named inventorySilence = refl
 named (silent bothFlags) = refl
 named (silent otherMaker) = refl
 named (silent otherUid) = refl

@@ -7,8 +7,8 @@ use lib.ListN.{getD}
 use Rattle.write_reasons.specs.declared.WriteReason.the-variants.{LegSpoiled, OutsideMap, MailboxModeOn, ModeOff, MailboxBusy, MailboxLegNotFrom2008, AnotherArea, LockedBlock, AreaNeverWritable, ConfigurationLocked, SessionNeeded, RegisterReadOnly, PasswordCode, EndaRule, PageFull}
 use Rattle.write_reasons.specs.declared.SessionKey.the-variants.{Unnumbered}
 use Rattle.errors.specs.declared.RadioError.the-variants.{ShutOut, UnknownCommand, UnsupportedFlags, WrongLength, NoSuchBlock, ReadLeavesArea, ReadProtected, TooManyBlocks, WriteLeavesArea, WriteForbidden, NotLockable, AlreadyLocked, NoSuchRegister, ConfigurationClosed, EndRefused, NoSuchDynamicRegister, MailboxUnavailable, MailboxDisabled, PastMessage, NoSuchPassword, WrongPassword, PasswordSessionClosed}
-use Rattle.silence.specs.Silence.{noField, rfSleep, badSize, badCrc, inventorySet, bothFlags, otherMaker, otherUid, notSelected, neitherWhenQuiet, notAddressed}
-use Rattle.rule_names.specs.Rules.{Rule, byteForbidden, noVcc, noStart, inReadLeg, otherSelectByte, programmingNow, silent, ownSilence, failed, ruleWords}
+use Rattle.silence_rules.specs.Silence.{noField, rfSleep, badSize, badCrc, bothFlags, otherMaker, otherUid, notSelected, neitherWhenQuiet, notAddressed}
+use Rattle.rule_names.specs.Rules.{Rule, byteForbidden, noVcc, noStart, inReadLeg, otherSelectByte, programmingNow, silent, inventorySilence, ownSilence, failed, ruleWords}
 
 -- the bytes of a text
 unfoldable pub stringBytes : String → List ℕ
@@ -42,7 +42,7 @@ allRules =
     ∷ᴸ silent rfSleep
     ∷ᴸ silent badSize
     ∷ᴸ silent badCrc
-    ∷ᴸ silent inventorySet
+    ∷ᴸ inventorySilence
     ∷ᴸ silent bothFlags
     ∷ᴸ silent otherMaker
     ∷ᴸ silent otherUid

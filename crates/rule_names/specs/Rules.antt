@@ -6,7 +6,7 @@ use Rattle.write_reasons.specs.Reasons.{reasonNumber, reasonWords}
 use Rattle.errors.specs.declared.RadioError.{RadioError}
 use Rattle.errors.specs.declared.RadioError.the-variants.{ShutOut, UnknownCommand, UnsupportedFlags, WrongLength, NoSuchBlock, ReadLeavesArea, ReadProtected, TooManyBlocks, WriteLeavesArea, WriteForbidden, NotLockable, AlreadyLocked, NoSuchRegister, ConfigurationClosed, EndRefused, NoSuchDynamicRegister, MailboxUnavailable, MailboxDisabled, PastMessage, NoSuchPassword, WrongPassword, PasswordSessionClosed}
 use Rattle.errors.specs.Errors.{errorNumber}
-use Rattle.silence.specs.Silence.{SilenceRule, noField, rfSleep, badSize, badCrc, inventorySet, bothFlags, otherMaker, otherUid, notSelected, neitherWhenQuiet, notAddressed, silenceNumber}
+use Rattle.silence_rules.specs.Silence.{SilenceRule, noField, rfSleep, badSize, badCrc, bothFlags, otherMaker, otherUid, notSelected, neitherWhenQuiet, notAddressed, silenceNumber}
 
 pub data Rule : Type 0 where
   -- "Ask 2's for an N on a data byte"
@@ -15,6 +15,8 @@ pub data Rule : Type 0 where
   noVcc noStart inReadLeg otherSelectByte programmingNow : Rule
   -- "01's silence list"
   silent : SilenceRule → Rule
+  -- its rule "inventory flag", as Ask 4 amends it
+  inventorySilence : Rule
   -- "own silence (any Stay Quiet or Select of another UID)"
   ownSilence : Rule
   -- "shut out, the errors"
@@ -29,6 +31,7 @@ ruleNumber inReadLeg = 18
 ruleNumber otherSelectByte = 19
 ruleNumber programmingNow = 20
 ruleNumber (silent rule) = silenceNumber rule
+ruleNumber inventorySilence = 25
 ruleNumber ownSilence = 32
 ruleNumber (failed error) = errorNumber error
 
@@ -38,7 +41,6 @@ silenceWords noField = "field off"
 silenceWords rfSleep = "RF_MNGT_Dyn b1"
 silenceWords badSize = "under 4 or over 270 bytes"
 silenceWords badCrc = "bad CRC"
-silenceWords inventorySet = "inventory flag"
 silenceWords bothFlags = "both select and address"
 silenceWords otherMaker = "02h missing or other"
 silenceWords otherUid = "UID short or, except in Select, other"
@@ -82,5 +84,6 @@ ruleWords inReadLeg = "read leg"
 ruleWords otherSelectByte = "other select byte"
 ruleWords programmingNow = "programming"
 ruleWords (silent rule) = silenceWords rule
+ruleWords inventorySilence = "inventory flag"
 ruleWords ownSilence = "own silence"
 ruleWords (failed error) = errorWords error

@@ -8,24 +8,17 @@ use native.Mathlib.Omega.{arith}
 use lib.Dec.{T, leb, ltb, eqb}
 use lib.Pow.{areBytes as areAll}
 use lib.ListN.{length, take, drop, getD, replicate}
-use lib.Seq.{sets, length-sets}
 use borrow.Author.Tests.{eq-eqb, eqb-true, le-leb, le-ltb, lt-ltb}
 use Rattle.parts.specs.Pick.{pick}
 use Rattle.parts.specs.Bytes.{areBytes}
 use Rattle.parts.proofs.Bools.{and-left, and-right, and-both, or-cases}
 use Rattle.parts.proofs.Picks.{pick-case}
-use Rattle.crc.specs.Crc.{crcOf, crcBytes, closed, closedAt}
+use Rattle.crc.specs.Crc.{crcOf, crcBytes, closed}
 use Rattle.crc.proofs.Below.{crc-below}
-use Rattle.bus.specs.Bus.{transferAt}
 use Rattle.tag.specs.declared.Tag.{Tag}
 use Rattle.tag.specs.Layout.{replyBytes}
 use Rattle.tag.specs.Supply.{freshTag}
-use Rattle.reply.specs.Reply.{ReplyBody, nothing, body, bufferOf}
-use Rattle.reply.specs.Outcome.{radioSide}
-use Rattle.radio.specs.Radio.{radioOf}
 use Rattle.model.specs.declared.Answer.the-variants.{Nothing}
-use Rattle.signal_table.specs.declared.Signal.{Signal}
-use Rattle.signal_table.specs.declared.Signal.the-variants.{Wire, Field, Frame}
 use Rattle.signal_table.specs.Table.{signalTable, signalFound, isFound, signalInRange}
 use Rattle.signal_table.proofs.Laws.{byte-known, frame-known}
 use Rattle.refusals.specs.declared.Judgement.the-variants.{NoRefusal}
@@ -37,6 +30,7 @@ use Rattle.rule_list.specs.RuleList.{firstSays}
 use Rattle.refusals.proofs.Laws.{judged-case, NoneApplies, no-refusal}
 use Rattle.model.proofs.Acts.{signalOfCall, fit-acts}
 use Rattle.model.proofs.Served.{act-served}
+use Rattle.model.proofs.Room.{step-room}
 use Rattle.model.specs.Claims.{Fit}
 use Rattle.model.proofs.Kept.{keeps, fresh-fits}
 use Rattle.hex.specs.Hex.{allHex, hexByte, hexBytes}
@@ -64,7 +58,8 @@ alone-sane x =
     pick-case Sane (eqb x 0x53) _ _ (λ _. refl)
     (λ _. pick-case Sane (eqb x 0x50) _ _ (λ _. refl)
     (λ _. pick-case Sane (eqb x 0x44) _ _ (λ _. refl)
-    (λ _. refl)))
+    (λ _. pick-case Sane (eqb x 0x45) _ _ (λ _. refl)
+    (λ _. refl))))
 
 level-sane : (code : ℕ) (s : List ℕ) → signalInRange code 0 ≡ true → signalInRange code 1 ≡ true → Sane (level code s)
 unfolding level sane
@@ -136,28 +131,6 @@ crc-bytes s h = rw (lt-ltb (crcOf s % 256) 256 (omega arith), lt-ltb (crcOf s / 
 
 closed-bytes : (s : List ℕ) → areBytes s ≡ true → areBytes (closed s) ≡ true
 closed-bytes s h = bytes-append s (crcBytes s) h (crc-bytes s (crc-below s (subst T (sym (sym (same-bytes s) ∙ h)) tt)))
-
--- ---- the reply buffer keeps its length
-buffer-room : (r : ReplyBody) (o : List ℕ) → length (bufferOf r o) ≡ length o
-unfolding bufferOf closedAt
-buffer-room nothing o = refl
-buffer-room (body b) o =
-    let x = sets o 0 b in
-    pick-case (λ (l : List ℕ). length l ≡ length o) (leb (length b + 2) (length x)) _ _
-    (λ _. length-sets x (length b) (crcBytes (take (length b) x)) ∙ length-sets o 0 b)
-    (λ _. length-sets o 0 b)
-
-act-room : (x : Signal) (t : Tag) (m o s : List ℕ) → length (actOf x t m o s .reply) ≡ length o
-unfolding actOf
-act-room (Wire x) t m o s = refl
-act-room (Field on) t m o s = refl
-act-room Frame t m o s = buffer-room (radioOf (radioSide t) (t .uid) (t .host .vcc) (transferAt (t .host .bus)) (t .host .programming) m s .reply) o
-
-step-room : (t : Tag) (m : List ℕ) (c : Call) → length (stepOf t m c .reply) ≡ length (c .buffer)
-unfolding stepOf
-step-room t m c =
-    let P : StepResult → Type 0 = λ e. length (e .reply) ≡ length (c .buffer) in
-    judged-case P _ _ _ (λ r h. refl) (λ h. act-room (signalOfCall c) t m (c .buffer) (c .frame))
 
 -- ---- a call from a bench that fits
 module _ (named : Bool) (c : BenchState) (f : BenchFit c) where

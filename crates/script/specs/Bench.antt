@@ -9,7 +9,7 @@ use Rattle.tag.specs.declared.Tag.{Tag}
 use Rattle.crc.specs.Crc.{closed}
 use Rattle.refusals.specs.Call.{handedIn}
 use Rattle.model.specs.Step.{stepOf}
-use Rattle.explanation.specs.Explanation.{ruleAt}
+use Rattle.explanation_rules.specs.Explanation.{ruleAt}
 use Rattle.bench_start.specs.declared.Bench.{Bench}
 use Rattle.reading.specs.Line.{ScriptLine, badLine, signalLine, frameLine, lineOf}
 use Rattle.printing.specs.Text.{badText, answerText, nameField, lineText}

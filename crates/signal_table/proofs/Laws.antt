@@ -13,7 +13,7 @@ use Rattle.rule_list.proofs.Laws.{says-passes}
 use Rattle.signal_table.specs.declared.WireSignal.{WireSignal}
 use Rattle.signal_table.specs.declared.WireSignal.the-variants.{Send}
 use Rattle.signal_table.specs.declared.Signal.{Signal}
-use Rattle.signal_table.specs.declared.Signal.the-variants.{Wire, Field, Frame}
+use Rattle.signal_table.specs.declared.Signal.the-variants.{Wire, Field, Frame, EndOfFrame}
 use Rattle.signal_table.specs.declared.SignalFound.{SignalFound}
 use Rattle.signal_table.specs.declared.SignalFound.the-variants.{NoSignal, Found}
 use Rattle.signal_table.specs.Table.{SignalRow, signalTable, signalFound, isFound, signalInRange, signalIn, signalBy, sentByte}
@@ -23,6 +23,7 @@ unfoldable pub sent : Signal → ℕ
 sent (Wire x) = sentByte x
 sent (Field on) = 0
 sent Frame = 0
+sent EndOfFrame = 0
 
 -- no row has a signal that sends more than its value, or a value that is no byte
 sends-more : ℕ → SignalRow → Bool

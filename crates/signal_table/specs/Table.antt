@@ -7,7 +7,7 @@ use Rattle.rule_list.specs.RuleList.{firstSays}
 use Rattle.signal_table.specs.declared.WireSignal.{WireSignal}
 use Rattle.signal_table.specs.declared.WireSignal.the-variants.{Start, Send, Fetch, Stop, Vcc, ProgrammingEnd}
 use Rattle.signal_table.specs.declared.Signal.{Signal}
-use Rattle.signal_table.specs.declared.Signal.the-variants.{Wire, Field, Frame}
+use Rattle.signal_table.specs.declared.Signal.the-variants.{Wire, Field, Frame, EndOfFrame}
 use Rattle.signal_table.specs.declared.SignalFound.{SignalFound}
 use Rattle.signal_table.specs.declared.SignalFound.the-variants.{NoSignal, Found}
 
@@ -31,6 +31,8 @@ signalTable =
     ∷ signalRow 6 0 (λ value. Wire Stop)
     ∷ signalRow 7 0 (λ value. Wire ProgrammingEnd)
     ∷ signalRow 8 0 (λ value. Frame)
+    -- "The lone end-of-frame that opens the next slot becomes a signal."
+    ∷ signalRow 9 0 (λ value. EndOfFrame)
     ∷ []
 
 -- what a code and a value stand for

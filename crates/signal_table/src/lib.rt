@@ -20,6 +20,8 @@ pub enum Signal {
     // The field at a level.
     Field(bool),
     Frame,
+    // The lone end-of-frame that opens the next slot of an inventory.
+    EndOfFrame,
 }
 
 // What a code and a value stand for.
@@ -54,6 +56,9 @@ fn signal_found(code: u32, value: u32) -> SignalFound
     }
     if (code == 8) & (value <= 0) {
         return SignalFound::Found(Signal::Frame);
+    }
+    if (code == 9) & (value <= 0) {
+        return SignalFound::Found(Signal::EndOfFrame);
     }
     SignalFound::NoSignal
 }

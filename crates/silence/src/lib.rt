@@ -1,7 +1,7 @@
 // The silence list: whether a frame gets no answer and changes nothing.
 ghost use mathlib.Core.Path.{_≡_};
 ghost use Rattle.rule_list.specs.RuleList.{firstSays};
-ghost use Rattle.silence.specs.Silence.{makerDiffers, uidDiffers, silenceHolds, silenceNumber, receptionSilences, addressSilences, firstSilence, isSilent};
+ghost use Rattle.silence_rules.specs.Silence.{makerDiffers, uidDiffers, silenceHolds, silenceNumber, receptionSilences, addressSilences, firstSilence, isSilent};
 use air::Air;
 use keys::Uid;
 use register_types::RfMngt;
@@ -30,8 +30,8 @@ fn uid_differs(f: &[u8], u: Uid) -> bool
     (end < at) | (!select & !own)
 }
 
-// The rules that every frame meets first. The CRC is computed only where the length is right.
-fn first_of_reception(f: &[u8], a: Air, dynamic: RfMngt) -> u8
+// The number of the first of the rules that every frame meets first, or 0. The CRC is computed only where the length is right.
+pub fn first_of_reception(f: &[u8], a: Air, dynamic: RfMngt) -> u8
     ensures { λ r. ⌜ ((u : Uid) → r ≡ firstSays (silenceHolds (now (f .entry)) a u dynamic) silenceNumber 0 receptionSilences) ⌝ }
 {
     if !a.field {
@@ -57,9 +57,6 @@ fn first_of_address(f: &[u8], a: Air, u: Uid) -> u8
     let flags = parts::byte_at(f, 0);
     let select = flags / 0x10 % 2 == 1;
     let address = flags / 0x20 % 2 == 1;
-    if flags / 0x04 % 2 == 1 {
-        return 25;
-    }
     if select & address {
         return 26;
     }

@@ -17,9 +17,9 @@ pub air-length : (a : Air) → length (airBytes a) ≡ airPartLength
 unfolding airBytes
 air-length a = refl
 
-pub air-bytes : (a : Air) → isByte (a .session) ≡ true → areBytes (airBytes a) ≡ true
+pub air-bytes : (a : Air) → isByte (a .session) ≡ true → isByte (a .slots) ≡ true → areBytes (airBytes a) ≡ true
 unfolding areBytes airBytes
-air-bytes a h = simp (flag-byte, radio-byte, h)
+air-bytes a h k = simp (flag-byte, radio-byte, h, k)
 
 pub air-decodes : (a : Air) → airDecodes (airBytes a) 0 ≡ true
 unfolding airDecodes airBytes
@@ -39,6 +39,6 @@ module _ (s : List ℕ) (at : ℕ) where
   unfolding airDecodes airBytes airAt bytesAt
   air-again d = search (same-head, flag-again, radio-again, and-left, and-right, d) depth 20
 
-  pub air-fits : Below s → isByte (airAt s at .session) ≡ true
+  pub air-fits : Below s → (isByte (airAt s at .session) ≡ true) × (isByte (airAt s at .slots) ≡ true)
   unfolding airAt
-  air-fits h = byte-fits s h _
+  air-fits h = (byte-fits s h _, byte-fits s h _)

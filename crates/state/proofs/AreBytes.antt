@@ -11,7 +11,7 @@ use Rattle.state.proofs.Passwords.{eight-bytes, password-bytes}
 pub encodes-bytes : EncodesBytes
 unfolding bytesOf
 encodes-bytes t f =
-    are-append (airBytes (t .air)) _ (air-bytes (t .air) (f .session))
+    are-append (airBytes (t .air)) _ (air-bytes (t .air) (f .session) (f .slots))
     (are-append (hostBytes (t .host)) _ (host-bytes (t .host) (f .counter) (f .bus))
     (are-append (registerBytes (t .core .registers)) _ (f .registers)
     (are-append (mailboxBytes (t .core .mailbox)) _ (mailbox-bytes (t .core .mailbox) (f .message))

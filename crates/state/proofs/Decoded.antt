@@ -27,7 +27,8 @@ unfolding tagOf passwordsAt
 decoded-fits s are =
     let h : Below s = bytes-below s are in
     record {
-      session = air-fits s _ h;
+      session = air-fits s _ h .0;
+      slots = air-fits s _ h .1;
       counter = counter-fits s _ h;
       bus = host-bus-fits s _ h;
       registers = registers-fit s _ h;

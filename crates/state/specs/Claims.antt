@@ -54,6 +54,7 @@ pub record PasswordsFit (p : Passwords) : Type 0 where
 
 pub record Fits (t : Tag) : Type 0 where
   pub session : isByte (t .air .session) ≡ true
+  pub slots : isByte (t .air .slots) ≡ true
   pub counter : isWord (t .host .counter) ≡ true
   pub bus : busFits (t .host .bus) ≡ true
   pub registers : areBytes (registerBytes (t .core .registers)) ≡ true

@@ -29,7 +29,7 @@ use Rattle.keys.specs.Keys.{passwordAt, uidAt}
 
 -- ---- the parts: each has its length, and stands where the one before it ends
 abbrev pub airPartLength : ℕ
-airPartLength = 3
+airPartLength = 4
 
 -- in the host's part: the bytes before the bus, and the bus
 abbrev pub busOffset : ℕ
@@ -113,15 +113,15 @@ spaceNumber System = 1
 unfoldable pub spaceOf : ℕ → Space
 spaceOf n = pick (eqb n 1) System User
 
--- ---- field, radio state, radio session
+-- ---- field, radio state, radio session, ends-of-frame left to the slot
 unfoldable pub airBytes : Air → List ℕ
-airBytes a = flagByte (a .field) ∷ radioNumber (a .radio) ∷ a .session ∷ []
+airBytes a = flagByte (a .field) ∷ radioNumber (a .radio) ∷ a .session ∷ a .slots ∷ []
 
 unfoldable pub airDecodes : List ℕ → ℕ → Bool
 airDecodes s at = isFlag (getD s (at + 0) 0) && leb (getD s (at + 1) 0) 2
 
 unfoldable pub airAt : List ℕ → ℕ → Air
-airAt s at = record { field = flagOf (getD s (at + 0) 0); radio = radioStateOf (getD s (at + 1) 0); session = getD s (at + 2) 0 }
+airAt s at = record { field = flagOf (getD s (at + 0) 0); radio = radioStateOf (getD s (at + 1) 0); session = getD s (at + 2) 0; slots = getD s (at + 3) 0 }
 
 -- ---- the bus
 -- "with a transfer open: RF_MNGT_Dyn at its start"

@@ -1,5 +1,5 @@
 // The tag's state as bytes: how long each part is and where it stands. Which bytes they are, the definitions say.
-pub const AIR_PART_LENGTH: usize = 3;
+pub const AIR_PART_LENGTH: usize = 4;
 // In the host's part: the bytes before the bus, and the bus.
 pub const BUS_OFFSET: usize = 5;
 

@@ -61,6 +61,7 @@ fn air_at(s: &[u8], at: usize) -> Air
         field: flag_at(s, at, 0),
         radio: radio_state_of(parts::byte_in(s, at, 1)),
         session: parts::byte_in(s, at, 2),
+        slots: parts::byte_in(s, at, 3),
     }
 }
 

@@ -48,7 +48,7 @@ fn put_air(a: Air, s: &mut [u8], at: usize)
     ensures { λ _. ⌜ now (s .exit) ≡ sets (now (s .entry)) at (airBytes a) ⌝ }
 {
     let radio = a.radio;
-    let b = [flag_byte(a.field), radio_number(radio), a.session];
+    let b = [flag_byte(a.field), radio_number(radio), a.session, a.slots];
     parts::put_bytes(s, at, &b, 0, state::AIR_PART_LENGTH);
 }
 

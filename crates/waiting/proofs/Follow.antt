@@ -34,16 +34,16 @@ use Rattle.refusals.specs.declared.Judgement.{Judgement}
 use Rattle.refusals.specs.declared.Judgement.the-variants.{NoRefusal, RefusedBy}
 use Rattle.refusals.specs.Refusals.{unlessRefused}
 use Rattle.signal_table.specs.declared.Signal.{Signal}
-use Rattle.signal_table.specs.declared.Signal.the-variants.{Wire, Field, Frame}
+use Rattle.signal_table.specs.declared.Signal.the-variants.{Wire, Field, Frame, EndOfFrame}
 use Rattle.signal_table.specs.Table.{signalBy}
 use Rattle.model.specs.Step.{fromWire, transferOpen, actOf}
 use Rattle.refusals.specs.Call.{Call}
 use Rattle.calls.specs.Calls.{CallAnswer, callAnswer, Device, device, DeviceResult, deviceResult, entry, callReply}
-use Rattle.waiting.specs.Waiting.{Slot, given, waits, fill, Waiting, noTransfer, inside, answered, notesOf, isStarted, opens, atOnce, acts, whenClosed, note, frameAnswer, notes, whenOpen, waitAct, waitStep}
+use Rattle.waiting.specs.Waiting.{Pending, given, waits, fill, Waiting, noTransfer, inside, answered, notesOf, isStarted, opens, atOnce, acts, whenClosed, note, frameAnswer, endAnswer, notes, whenOpen, waitAct, waitStep}
 use Rattle.waiting.proofs.OpenStep.{Open, Going, going, stays-shut, NotedAs, isNoted, isIdle, noted-as, Selects, selects, first-goes}
 use Rattle.waiting.proofs.Lists.{run-snoc, run-length, On, here, more, on-snoc, on-finished, waiting, waiting-waits, waiting-given, fill-waits, fill-given}
 use Rattle.calls.proofs.Laws.{found, Fits, call-is, actedBy, supplied}
-use Rattle.waiting.proofs.Frames.{shutBy, frame-shut, frame-waits}
+use Rattle.waiting.proofs.Frames.{shutBy, frame-shut, frame-waits, end-shut, end-waits}
 
 -- ---- where the tag by signals stands
 abbrev pub running : Device → List Noted → TransferResult
@@ -64,7 +64,7 @@ answers (inside out k n sl) = out ++ fill sl (running k n .answers)
 
 -- in a transfer: the kept tag stood before an Acked select, a place waits for each noted signal, none of which ended the transfer,
 -- and RF_MNGT_Dyn counts as it stands in the kept tag
-pub record Inside (k : Device) (n : List Noted) (sl : List Slot) : Type 0 where
+pub record Inside (k : Device) (n : List Noted) (sl : List Pending) : Type 0 where
   pub ready : Ready (wireSide (k .tag)) (k .memory)
   pub before : Transfer
   pub at : k .tag .host .bus ≡ Started before
@@ -155,15 +155,20 @@ by-frame : (out : List CallAnswer) (k : Device) (c : Call) → transferOpen (k .
 unfolding actOf
 by-frame out k c h = at-once out k (actedBy Frame k c) h
 
+by-end : (out : List CallAnswer) (k : Device) (c : Call) → transferOpen (k .tag) ≡ false → Stepped (noTransfer out k) (acts out k EndOfFrame c) (actedBy EndOfFrame k c)
+unfolding actOf
+by-end out k c h = at-once out k (actedBy EndOfFrame k c) h
+
 from-closed : (out : List CallAnswer) (k : Device) (x : Signal) (c : Call) → Fits k → transferOpen (k .tag) ≡ false
     → Stepped (noTransfer out k) (whenClosed out k x c) (actedBy x k c)
 unfolding whenClosed
 from-closed out k (Wire x) c f h = by-wire out k c x f h
 from-closed out k (Field on) c f h = by-air out k c on h
 from-closed out k Frame c f h = by-frame out k c h
+from-closed out k EndOfFrame c f h = by-end out k c h
 
 -- ---- a transfer open
-module _ (out : List CallAnswer) (k : Device) (n : List Noted) (sl : List Slot) (g : Inside k n sl) where
+module _ (out : List CallAnswer) (k : Device) (n : List Noted) (sl : List Pending) (g : Inside k n sl) where
   -- the signal s after those of the list
   abbrev next : Noted → WireResult
   next s = signalOf (running k n .side) (k .tag .uid) (running k n .memory) (wireSignal s)
@@ -279,12 +284,19 @@ module _ (out : List CallAnswer) (k : Device) (n : List Noted) (sl : List Slot) 
       ∙ ap (λ (d : RfMngt). deviceResult (callReply (shutBy (c .frame) (k .tag .air) (k .tag .uid) d) (c .buffer)) (after k (running k n))) (g .counted)
       ∙ ap (λ (x : CallAnswer). deviceResult x (after k (running k n))) (sym (frame-waits k c))
 
+  end : (c : Call) → actedBy EndOfFrame (now (inside out k n sl)) c ≡ deviceResult (endAnswer k c) (now (inside out k n sl))
+  unfolding now
+  end c =
+      end-shut (after k (running k n)) c (g .state .bus)
+      ∙ ap (λ (x : CallAnswer). deviceResult x (after k (running k n))) (sym (end-waits k c))
+
   from-inside : (x : Signal) (c : Call) → Fits (now (inside out k n sl))
       → Stepped (inside out k n sl) (whenOpen out k n sl x c) (actedBy x (now (inside out k n sl)) c)
   unfolding whenOpen
   from-inside (Wire x) c f = wire x c (noted-as x) f
   from-inside (Field on) c f = field on c
   from-inside Frame c f = given-as (frameAnswer k c) _ (frame c)
+  from-inside EndOfFrame c f = given-as (endAnswer k c) _ (end c)
 
 -- ---- one call
 at-signal : (w : Waiting) (x : Signal) (c : Call) → Good w → Fits (now w) → Stepped w (waitAct w x c) (actedBy x (now w) c)

@@ -17,7 +17,7 @@ use Rattle.transfer.specs.Claim.{runOf}
 use Rattle.transfer.proofs.Run.{run-append}
 use Rattle.model.specs.Step.{fromWire}
 use Rattle.calls.specs.Calls.{CallAnswer, callAnswer}
-use Rattle.waiting.specs.Waiting.{Slot, given, waits, fill}
+use Rattle.waiting.specs.Waiting.{Pending, given, waits, fill}
 
 -- ---- runs
 -- a run with one signal more
@@ -54,25 +54,25 @@ on-finished here s = pick-self _
 on-finished (more q o) s = sym (pick-false _ _ _ _ q (sym (on-finished o s)))
 
 -- ---- places: how many wait
-unfoldable pub waiting : List Slot → ℕ
+unfoldable pub waiting : List Pending → ℕ
 waiting [] = 0
 waiting (given a ∷ sl) = waiting sl
 waiting (waits o ∷ sl) = suc (waiting sl)
 
-pub waiting-waits : (sl : List Slot) (o : List ℕ) → waiting (sl ++ waits o ∷ []) ≡ suc (waiting sl)
+pub waiting-waits : (sl : List Pending) (o : List ℕ) → waiting (sl ++ waits o ∷ []) ≡ suc (waiting sl)
 unfolding waiting
 waiting-waits [] o = refl
 waiting-waits (given a ∷ sl) o = waiting-waits sl o
 waiting-waits (waits p ∷ sl) o = ap suc (waiting-waits sl o)
 
-pub waiting-given : (sl : List Slot) (a : CallAnswer) → waiting (sl ++ given a ∷ []) ≡ waiting sl
+pub waiting-given : (sl : List Pending) (a : CallAnswer) → waiting (sl ++ given a ∷ []) ≡ waiting sl
 unfolding waiting
 waiting-given [] a = refl
 waiting-given (given b ∷ sl) a = waiting-given sl a
 waiting-given (waits p ∷ sl) a = ap suc (waiting-given sl a)
 
 -- one more that waits, with its answer; one more that is given
-pub fill-waits : (sl : List Slot) (xs : List WireAnswer) (o : List ℕ) (x : WireAnswer) → waiting sl ≡ length xs
+pub fill-waits : (sl : List Pending) (xs : List WireAnswer) (o : List ℕ) (x : WireAnswer) → waiting sl ≡ length xs
     → fill (sl ++ waits o ∷ []) (xs ++ x ∷ []) ≡ fill sl xs ++ callAnswer (fromWire x) o ∷ []
 unfolding fill waiting
 fill-waits [] [] o x h = refl
@@ -81,7 +81,7 @@ fill-waits (given b ∷ sl) xs o x h = ap (λ (l : List CallAnswer). b ∷ l) (f
 fill-waits (waits p ∷ sl) [] o x h = absurd (omega arith)
 fill-waits (waits p ∷ sl) (y ∷ xs) o x h = ap (λ (l : List CallAnswer). callAnswer (fromWire y) p ∷ l) (fill-waits sl xs o x (omega arith))
 
-pub fill-given : (sl : List Slot) (xs : List WireAnswer) (a : CallAnswer) → waiting sl ≡ length xs → fill (sl ++ given a ∷ []) xs ≡ fill sl xs ++ a ∷ []
+pub fill-given : (sl : List Pending) (xs : List WireAnswer) (a : CallAnswer) → waiting sl ≡ length xs → fill (sl ++ given a ∷ []) xs ≡ fill sl xs ++ a ∷ []
 unfolding fill waiting
 fill-given [] [] a h = refl
 fill-given [] (y ∷ xs) a h = absurd (omega arith)

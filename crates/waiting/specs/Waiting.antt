@@ -4,6 +4,7 @@ use mathlib.Core.Bool.{Bool, true, false, not, _&&_}
 use mathlib.Core.List.{List, [], _∷_, _++_}
 use Prim.Native.Nat.{ℕ}
 use Rattle.parts.specs.Pick.{pick}
+use Rattle.bus.specs.declared.Transfer.{Transfer}
 use Rattle.bus.specs.declared.Transfer.the-variants.{Closed, Open}
 use Rattle.bus.specs.declared.Bus.{Bus}
 use Rattle.bus.specs.declared.Bus.the-variants.{Idle, Started, ReadLeg, WriteLeg, LowAddress, DataLeg}
@@ -17,12 +18,12 @@ use Rattle.signal_table.specs.declared.WireSignal.{WireSignal}
 use Rattle.signal_table.specs.declared.WireSignal.the-variants.{Start as SignalStart, Send, Fetch, Stop as SignalStop, Vcc, ProgrammingEnd}
 use Rattle.transfer.specs.Legs.{Noted, NotedStart, NotedSend, NotedFetch, NotedStop, NotedVccOff, selectRefused, finished}
 use Rattle.transfer.specs.Whole.{transferOf}
-use Rattle.radio.specs.Radio.{radioOf}
+use Rattle.radio.specs.Radio.{radioOf, nextSlotOf}
 use Rattle.model.specs.declared.Answer.the-variants.{Refused, Nothing}
 use Rattle.refusals.specs.declared.Refusal.{Refusal}
 use Rattle.refusals.specs.Refusals.{argumentRules, judgement, unlessRefused}
 use Rattle.signal_table.specs.declared.Signal.{Signal}
-use Rattle.signal_table.specs.declared.Signal.the-variants.{Wire, Field, Frame}
+use Rattle.signal_table.specs.declared.Signal.the-variants.{Wire, Field, Frame, EndOfFrame}
 use Rattle.signal_table.specs.Table.{signalBy}
 use Rattle.model.specs.Step.{fromWire, actOf}
 use Rattle.reply.specs.Outcome.{radioSide}
@@ -30,27 +31,27 @@ use Rattle.refusals.specs.Call.{Call}
 use Rattle.calls.specs.Calls.{callReply, CallAnswer, callAnswer, Device, device, DeviceResult, deviceResultOf}
 
 -- the place of an answer: given, or waiting for the transfer's end with the reply buffer of its call
-pub data Slot : Type 0 where
-  given : CallAnswer → Slot
-  waits : List ℕ → Slot
+pub data Pending : Type 0 where
+  given : CallAnswer → Pending
+  waits : List ℕ → Pending
 
 -- the places filled with the whole transfer's answers
-unfoldable pub fill : List Slot → List WireAnswer → List CallAnswer
+unfoldable pub fill : List Pending → List WireAnswer → List CallAnswer
 fill [] answers = []
-fill (given answer ∷ slots) answers = answer ∷ fill slots answers
-fill (waits o ∷ slots) [] = []
-fill (waits o ∷ slots) (answer ∷ answers) = callAnswer (fromWire answer) o ∷ fill slots answers
+fill (given answer ∷ pending) answers = answer ∷ fill pending answers
+fill (waits o ∷ pending) [] = []
+fill (waits o ∷ pending) (answer ∷ answers) = callAnswer (fromWire answer) o ∷ fill pending answers
 
 -- with no transfer open: what was answered, and the kept tag.
 -- In a transfer: what was answered before it, the kept tag, the noted signals, and the places of the answers since the select.
 pub data Waiting : Type 0 where
   noTransfer : List CallAnswer → Device → Waiting
-  inside : List CallAnswer → Device → List Noted → List Slot → Waiting
+  inside : List CallAnswer → Device → List Noted → List Pending → Waiting
 
 -- an answer that needs no waiting; "A refused call gives its number and changes nothing."
 unfoldable pub answered : Waiting → CallAnswer → Waiting
 answered (noTransfer out d) answer = noTransfer (out ++ answer ∷ []) d
-answered (inside out d noted slots) answer = inside out d noted (slots ++ given answer ∷ [])
+answered (inside out d noted pending) answer = inside out d noted (pending ++ given answer ∷ [])
 
 -- ---- what is noted of a wire signal: "That select and each later Start, byte, fetch, Stop and VCC off are noted"
 unfoldable pub notesOf : WireSignal → List Noted
@@ -97,38 +98,48 @@ whenClosed out d (Wire signal) call =
     (acts out d (Wire signal) call)
 whenClosed out d (Field on) call = acts out d (Field on) call
 whenClosed out d Frame call = acts out d Frame call
+whenClosed out d EndOfFrame call = acts out d EndOfFrame call
 
 -- ---- a transfer open
 -- "at the transfer's end these act on the kept tag as 2's whole transfer, which answers each"
-unfoldable pub note : List CallAnswer → Device → List Noted → List Slot → Waiting
-note out d noted slots =
+unfoldable pub note : List CallAnswer → Device → List Noted → List Pending → Waiting
+note out d noted pending =
     let result = transferOf (wireSide (d .tag)) (d .tag .uid) (d .memory) noted in
-    pick (finished true noted) (noTransfer (out ++ fill slots (result .answers)) (device (withWire (result .side) (d .tag)) (result .memory)))
-    (inside out d noted slots)
+    pick (finished true noted) (noTransfer (out ++ fill pending (result .answers)) (device (withWire (result .side) (d .tag)) (result .memory)))
+    (inside out d noted pending)
 
 -- "frames are answered from the kept tag, a transfer being open"
+abbrev pub asOpened : Device → Transfer
+asOpened d = Open (keptOf Closed (d .tag .core .registers .dynamic))
+
 unfoldable pub frameAnswer : Device → Call → CallAnswer
 frameAnswer d call =
-    let transfer = Open (keptOf Closed (d .tag .core .registers .dynamic)) in
-    let result = radioOf (radioSide (d .tag)) (d .tag .uid) (d .tag .host .vcc) transfer (d .tag .host .programming) (d .memory) (call .frame) in
+    let result = radioOf (radioSide (d .tag)) (d .tag .uid) (d .tag .host .vcc) (asOpened d) (d .tag .host .programming) (d .memory) (call .frame) in
+    callReply (result .reply) (call .buffer)
+
+-- ends-of-frame like frames
+unfoldable pub endAnswer : Device → Call → CallAnswer
+endAnswer d call =
+    let result = nextSlotOf (radioSide (d .tag)) (d .tag .uid) (asOpened d) (d .tag .host .programming) (d .memory) in
     callReply (result .reply) (call .buffer)
 
 -- one more signal noted, or answered as one that does nothing
-unfoldable pub notes : List CallAnswer → Device → List Noted → List Slot → List Noted → Call → Waiting
-notes out d noted slots [] call = answered (inside out d noted slots) (callAnswer Nothing (call .buffer))
-notes out d noted slots (next ∷ rest) call = note out d (noted ++ next ∷ []) (slots ++ waits (call .buffer) ∷ [])
+unfoldable pub notes : List CallAnswer → Device → List Noted → List Pending → List Noted → Call → Waiting
+notes out d noted pending [] call = answered (inside out d noted pending) (callAnswer Nothing (call .buffer))
+notes out d noted pending (next ∷ rest) call = note out d (noted ++ next ∷ []) (pending ++ waits (call .buffer) ∷ [])
 
 -- "Until then field changes act at once and nothing else acts"
-unfoldable pub whenOpen : List CallAnswer → Device → List Noted → List Slot → Signal → Call → Waiting
-whenOpen out d noted slots (Wire signal) call = notes out d noted slots (notesOf signal) call
-whenOpen out d noted slots (Field on) call =
-    answered (inside out (device (withTagAir (fieldAt on (d .tag .air)) (d .tag)) (d .memory)) noted slots) (callAnswer Nothing (call .buffer))
-whenOpen out d noted slots Frame call = answered (inside out d noted slots) (frameAnswer d call)
+unfoldable pub whenOpen : List CallAnswer → Device → List Noted → List Pending → Signal → Call → Waiting
+whenOpen out d noted pending (Wire signal) call = notes out d noted pending (notesOf signal) call
+whenOpen out d noted pending (Field on) call =
+    answered (inside out (device (withTagAir (fieldAt on (d .tag .air)) (d .tag)) (d .memory)) noted pending) (callAnswer Nothing (call .buffer))
+whenOpen out d noted pending Frame call = answered (inside out d noted pending) (frameAnswer d call)
+whenOpen out d noted pending EndOfFrame call = answered (inside out d noted pending) (endAnswer d call)
 
 -- ---- one call
 unfoldable pub waitAct : Waiting → Signal → Call → Waiting
 waitAct (noTransfer out d) signal call = whenClosed out d signal call
-waitAct (inside out d noted slots) signal call = whenOpen out d noted slots signal call
+waitAct (inside out d noted pending) signal call = whenOpen out d noted pending signal call
 
 -- it judges the refusals that the call's own arguments tell
 unfoldable pub waitStep : Waiting → Call → Waiting

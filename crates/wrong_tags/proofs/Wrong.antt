@@ -15,14 +15,15 @@ use Rattle.air.specs.Radio.{isSelected}
 use Rattle.model.specs.declared.Answer.{Answer}
 use Rattle.model.specs.declared.Answer.the-variants.{Refused, Nothing, Ack, NoAck, Byte, Silence, Reply}
 use Rattle.refusals.specs.Refusals.{number}
+use Rattle.model.specs.Step.{isReply}
 use Rattle.refusals.specs.Call.{Call}
 use Rattle.calls.specs.Calls.{CallAnswer, callAnswer, Device, RunResult}
-use Rattle.calls.specs.Examples.{vccTo, start, send, stop, programmingEnd, frame, zeros, powered, _but_, radioState, radioSession, fieldIs, vccIs, i2cSession, beingProgrammed, counterAt, onBus, onRegisters, mailboxMode, hostMessage, bytes}
+use Rattle.calls.specs.Examples.{vccTo, start, send, stop, programmingEnd, frame, endOfFrame, zeros, powered, _but_, radioState, radioSession, slotsAre, fieldIs, vccIs, i2cSession, beingProgrammed, counterAt, onBus, onRegisters, mailboxMode, hostMessage, bytes}
 use Rattle.waiting.specs.Waiting.{Waiting, noTransfer, inside}
 use Rattle.wrong_tags.specs.Told.{bySame, byJudged, byStriking, byUnchanged, byReply, WrongTag, Told, AllTold}
-use Rattle.wrong_tags.specs.Wrong.{isBlank, feigning, readsHalf, otherSelect, deselects, commitsAtOff, answersFromLeg, neverCloses}
+use Rattle.wrong_tags.specs.Wrong.{isBlank, feigning, readsHalf, otherSelect, deselects, countsInside, countsDown, countsAnew, commitsAtOff, answersFromLeg, neverCloses}
 use Rattle.wrong_tags.specs.RepeatedStart.{isDataLeg, dropsAtStart, actingAtStart, putsAtStart, writesAtStart, judgingAsItStands, fallsAsleepAtOnce, wakesAtOnce, keeping, keepingAnew, keepsAtSelect, keepsAtStart, keepsFromStart}
-use Rattle.wrong_tags.specs.Pinned.{misanswering, touching, isReply, stopAcked, refusedByThree, replyByteWrong, pastReply, refusalTouches, struckTouches, behind, sessionPastRange, clearsPage, stopOutOfRange, isUserWriteLeg, marksFrames, hidesField, wrongTags, WrongTagsTold}
+use Rattle.wrong_tags.specs.Pinned.{misanswering, touching, stopAcked, refusedByThree, replyByteWrong, pastReply, refusalTouches, struckTouches, behind, sessionPastRange, clearsPage, stopOutOfRange, isUserWriteLeg, marksFrames, hidesField, wrongTags, WrongTagsTold}
 use Rattle.wrong_tags.proofs.Computes.{agrees}
 
 -- ---- calls
@@ -176,6 +177,22 @@ deselects-told h =
     ap (λ (d : Device). isSelected (d .tag .air .radio)) (h (powered but radioState Selected) wireCalls refl refl refl refl refl .1 .1 .0 refl) in
     false≢true f
 
+-- it awaited slot 5
+counts-down-told : Told byUnchanged countsDown
+unfolding agrees countsInside
+counts-down-told h =
+    let f : _≡_ {A = ℕ} 4 5 =
+    ap (λ (d : Device). d .tag .air .slots) (h (powered but slotsAre 5) (start ∷ send 0xA6 ∷ endOfFrame ∷ stop ∷ []) refl refl refl refl refl .1 .1 .0 refl) in
+    omega arith
+
+-- 06 01 00: sixteen slots and no mask, and the UID's lowest four bits are 1
+counts-anew-told : Told byUnchanged countsAnew
+unfolding agrees countsInside
+counts-anew-told h =
+    let f : _≡_ {A = ℕ} 1 0 =
+    ap (λ (d : Device). d .tag .air .slots) (h powered (start ∷ send 0xA6 ∷ frame (0x06 ∷ 0x01 ∷ 0x00 ∷ []) ∷ stop ∷ []) refl refl refl refl refl .1 .1 .0 refl) in
+    omega arith
+
 marks-frames-told : Told byUnchanged marksFrames
 unfolding agrees behind isUserWriteLeg
 marks-frames-told h =
@@ -291,6 +308,8 @@ tellings =
     feigning-told
     also reads-half-told
     also deselects-told
+    also counts-down-told
+    also counts-anew-told
     also commits-at-off-told
     also answers-from-leg-told
     also never-closes-told

@@ -15,14 +15,14 @@ use Rattle.bus.specs.Bus.{keptOf, transferAt, pageBytes}
 use Rattle.air.specs.Radio.{isSelected}
 use Rattle.refusals.specs.declared.Refusal.the-variants.{SignalUnknown, OutOfRange}
 use Rattle.model.specs.declared.Answer.{Answer}
-use Rattle.model.specs.declared.Answer.the-variants.{Refused, Nothing, Ack, NoAck, Byte, Silence, Reply}
-use Rattle.model.specs.Step.{transferOpen, isRefused}
+use Rattle.model.specs.declared.Answer.the-variants.{Refused, Ack}
+use Rattle.model.specs.Step.{transferOpen, isRefused, isReply}
 use Rattle.refusals.specs.Call.{Call}
 use Rattle.calls.specs.Calls.{CallAnswer, callAnswer, Device, device, DeviceResult, deviceResult, Step, entry}
 use Rattle.calls.specs.Examples.{zeros, onBus, fieldIs, radioSession, _but_}
 use Rattle.waiting.specs.Waiting.{isStarted}
 use Rattle.demand3.specs.Demand3.{struck}
-use Rattle.wrong_tags.specs.Wrong.{feigning, readsHalf, deselects, commitsAtOff, answersFromLeg, neverCloses}
+use Rattle.wrong_tags.specs.Wrong.{feigning, readsHalf, deselects, countsDown, countsAnew, commitsAtOff, answersFromLeg, neverCloses}
 use Rattle.wrong_tags.specs.RepeatedStart.{dropsAtStart, putsAtStart, writesAtStart, fallsAsleepAtOnce, wakesAtOnce, keepsAtSelect, keepsAtStart, keepsFromStart}
 use Rattle.wrong_tags.specs.Told.{bySame, byJudged, byStriking, byUnchanged, byReply, WrongTag, toldBy, AllTold}
 
@@ -48,15 +48,6 @@ ifStop d call answer = eqb (call .code) 6
 
 abbrev pub ifRefused : When
 ifRefused d call answer = isRefused (answer .answer)
-
-unfoldable pub isReply : Answer → Bool
-isReply (Refused why) = false
-isReply Nothing = false
-isReply Ack = false
-isReply NoAck = false
-isReply (Byte x) = false
-isReply Silence = false
-isReply (Reply n) = true
 
 -- with no transfer open: a struck frame's reply is `shut`'s too
 abbrev pub ifReplying : When
@@ -192,6 +183,7 @@ busStarted d = isStarted (d .tag .host .bus)
 -- ---- all of them, each with the part that tells it
 abbrev pub wrongTags : List WrongTag
 wrongTags = toldBy bySame feigning ∷ toldBy byStriking readsHalf ∷ toldBy byUnchanged deselects
+    ∷ toldBy byUnchanged countsDown ∷ toldBy byUnchanged countsAnew
     ∷ toldBy bySame commitsAtOff ∷ toldBy byReply answersFromLeg ∷ toldBy bySame neverCloses
     ∷ toldBy bySame stopAcked ∷ toldBy bySame refusedByThree ∷ toldBy bySame replyByteWrong
     ∷ toldBy bySame pastReply ∷ toldBy bySame refusalTouches ∷ toldBy byReply struckTouches

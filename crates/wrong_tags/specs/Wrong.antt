@@ -1,4 +1,4 @@
--- Tags that demand 3 shuts out: each is the entry point with one thing changed. Code 1 with value 0 is VCC off, 6 a Stop, 8 a frame.
+-- Tags that demand 3 shuts out: each is the entry point with one thing changed. Code 1 with value 0 is VCC off, 6 a Stop, 8 a frame, 9 an end-of-frame.
 use mathlib.Core.Bool.{Bool, true, not, _&&_}
 use mathlib.Core.List.{List, [], _∷_}
 use Prim.Native.Nat.{ℕ}
@@ -14,8 +14,8 @@ use Rattle.tag.specs.Layout.{userBytes}
 use Rattle.air.specs.Radio.{deselected}
 use Rattle.tag.specs.Parts.{withTagAir}
 use Rattle.commands.specs.Table.{selectCode}
-use Rattle.frame.specs.Fields.{command, ownUid}
-use Rattle.silence.specs.Silence.{isSilent}
+use Rattle.frame.specs.Fields.{command, inventoryFlag, ownUid}
+use Rattle.silence_rules.specs.Silence.{isSilent}
 use Rattle.model.specs.declared.Answer.the-variants.{NoAck}
 use Rattle.signal_table.specs.declared.Signal.the-variants.{Frame}
 use Rattle.model.specs.Step.{actOf}
@@ -55,6 +55,22 @@ deselects d call =
     pick (struck entry d call && otherSelect (call .frame) (d .tag))
     (deviceResult (result .says) (device (withTagAir (deselected (d .tag .air)) (d .tag)) (d .memory)))
     result
+
+-- ---- one that, inside a transfer, takes the ends-of-frame to its slot from a signal as if none were open
+unfoldable pub countsInside : (Call → Bool) → Device → Call → DeviceResult
+countsInside when d call =
+    let result = entry d call in
+    let counts = entry (onBus Idle d) call .device .tag .air in
+    pick (struck entry d call && when call) (deviceResult (result .says) (device (withTagAir counts (d .tag)) (d .memory)))
+    result
+
+-- from an end-of-frame
+abbrev pub countsDown : Device → Call → DeviceResult
+countsDown = countsInside (λ (call : Call). eqb (call .code) 9)
+
+-- from an inventory frame
+abbrev pub countsAnew : Device → Call → DeviceResult
+countsAnew = countsInside (λ (call : Call). eqb (call .code) 8 && inventoryFlag (call .frame))
 
 -- a transfer open that would have begun with the registers as they stand
 abbrev pub asItStands : Device → Device

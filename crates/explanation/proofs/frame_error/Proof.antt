@@ -1,5 +1,5 @@
 use borrow.Author.Needs.{needs}
-use Rattle.explanation.proofs.Frames.{onRequest, error-append}
+use Rattle.explanation_rules.proofs.Frames.{onRequest, error-append}
 use Rattle.explanation.proofs.frame_error.Statement.{statement}
 use Rattle.explanation.proofs.frame_error.Tie as tie
 

@@ -1,6 +1,6 @@
 use borrow.Author.Needs.{needs}
 use Rattle.parts.proofs.Picks.{picks}
-use Rattle.explanation.specs.Conditions.{isSelectByte}
+use Rattle.explanation_rules.specs.Conditions.{isSelectByte}
 use Rattle.explanation.proofs.other_byte.Statement.{statement}
 use Rattle.explanation.proofs.other_byte.Tie as tie
 

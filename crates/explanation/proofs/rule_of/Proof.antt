@@ -1,6 +1,6 @@
 use borrow.Author.Needs.{needs}
 use Rattle.rule_list.specs.RuleList.{firstSays}
-use Rattle.explanation.specs.Explanation.{rulesFor, explained, explainedNumber, ruleAt}
+use Rattle.explanation_rules.specs.Explanation.{rulesFor, explained, explainedNumber, ruleAt}
 use Rattle.explanation.proofs.rule_of.Statement.{statement}
 use Rattle.explanation.proofs.rule_of.Tie as tie
 
@@ -22,6 +22,9 @@ enum-told-2 c = search needs
 frame-rule-requires : tie.Need-frame-rule-requires
 frame-rule-requires c κs = search needs
 
+enum-told-3 : tie.Need-enum-told-3
+enum-told-3 c = search needs
+
 returns : tie.Need-returns
 unfolding ruleAt
 returns c =
@@ -41,6 +44,12 @@ returns-3 c =
     let by : tie.After-signal-by = search needs in
     rw (← by .signal-by .ensures, c .before .enum-told2 .given .1) (c .frame-rule .ensures)
 
+returns-4 : tie.Need-returns-4
+unfolding firstSays explained explainedNumber rulesFor ruleAt
+returns-4 c =
+    let by : tie.After-signal-by = search needs in
+    rw (← by .signal-by .ensures, c .enum-told3 .given .1)
+
 pub rule-of-spec : {M : Type 1} → statement M
 rule-of-spec =
     tie.close
@@ -51,6 +60,8 @@ rule-of-spec =
     enum-told
     enum-told-2
     frame-rule-requires
+    enum-told-3
     returns
     returns-2
-    returns-3)
+    returns-3
+    returns-4)

@@ -3,10 +3,10 @@ use mathlib.Core.Path.{refl, sym, ap, _∙_}
 use Rattle.write_reasons.specs.declared.WriteAsked.{WriteAsked}
 use Rattle.write_rules.specs.Situation.{situationOf}
 use Rattle.write_rules.specs.Verdict.{writeVerdict}
-use Rattle.explanation.specs.Numbers.{writeNumber}
-use Rattle.explanation.specs.Conditions.{isIdle, isReadLeg, awaitsSelect}
-use Rattle.explanation.specs.Explanation.{byteRules}
-use Rattle.explanation.proofs.Bytes.{other-number, data-number}
+use Rattle.explanation_rules.specs.Numbers.{writeNumber}
+use Rattle.explanation_rules.specs.Conditions.{isIdle, isReadLeg, awaitsSelect}
+use Rattle.explanation_rules.specs.Explanation.{byteRules}
+use Rattle.explanation_rules.proofs.Bytes.{other-number, data-number}
 use Rattle.explanation.proofs.sent_byte.Statement.{statement}
 use Rattle.explanation.proofs.sent_byte.Tie as tie
 

@@ -1,5 +1,5 @@
 use borrow.Author.Needs.{needs}
-use Rattle.explanation.specs.Numbers.{verdictNumber}
+use Rattle.explanation_rules.specs.Numbers.{verdictNumber}
 use Rattle.explanation.proofs.verdict_number.Statement.{statement}
 use Rattle.explanation.proofs.verdict_number.Tie as tie
 

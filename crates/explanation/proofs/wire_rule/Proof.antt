@@ -1,6 +1,6 @@
 use borrow.Author.Needs.{needs}
 use Rattle.rule_list.specs.RuleList.{firstSays}
-use Rattle.explanation.specs.Explanation.{wireRules, rulesFor, explained, explainedNumber}
+use Rattle.explanation_rules.specs.Explanation.{wireRules, rulesFor, explained, explainedNumber}
 use Rattle.explanation.proofs.wire_rule.Statement.{statement}
 use Rattle.explanation.proofs.wire_rule.Tie as tie
 

@@ -1,5 +1,5 @@
 use borrow.Author.Needs.{needs}
-use Rattle.explanation.specs.Numbers.{writeNumber}
+use Rattle.explanation_rules.specs.Numbers.{writeNumber}
 use Rattle.explanation.proofs.write_number.Statement.{statement}
 use Rattle.explanation.proofs.write_number.Tie as tie
 

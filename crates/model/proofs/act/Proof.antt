@@ -33,6 +33,12 @@ enum-told c = search needs
 by-frame-requires : tie.Need-by-frame-requires
 by-frame-requires c κs = search needs
 
+enum-told-2 : tie.Need-enum-told-2
+enum-told-2 c = search needs
+
+by-end-of-frame-requires : tie.Need-by-end-of-frame-requires
+by-end-of-frame-requires c κs = search needs
+
 -- src/lib.rt:159:1
 same-length : tie.Need-same-length
 same-length c = search needs
@@ -67,6 +73,18 @@ returns-3 c =
     let after-by-frame : tie.After-by-frame = search needs in
     rw (after-enum-told .enum-told .given .1) (after-by-frame .by-frame .ensures)
 
+same-length-4 : tie.Need-same-length-4
+same-length-4 c = search needs
+
+same-length-5 : tie.Need-same-length-5
+same-length-5 c = search needs
+
+returns-4 : tie.Need-returns-4
+returns-4 c =
+    let after-enum-told : tie.After-enum-told2 = search needs in
+    let after-end : tie.After-by-end-of-frame = search needs in
+    rw (after-enum-told .enum-told2 .given .1) (after-end .by-end-of-frame .ensures)
+
 pub act-spec : {M : Type 1} → statement M
 act-spec =
     tie.close
@@ -77,9 +95,14 @@ act-spec =
     by-field-requires
     enum-told
     by-frame-requires
+    enum-told-2
+    by-end-of-frame-requires
     same-length
     returns
     returns-2
     same-length-2
     same-length-3
-    returns-3)
+    returns-3
+    same-length-4
+    same-length-5
+    returns-4)

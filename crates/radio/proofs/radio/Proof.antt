@@ -1,11 +1,12 @@
-use Rattle.reply.specs.Reply.{fault, answerOf, bufferOf}
-use Rattle.reply.specs.Outcome.{commandResult}
-use mathlib.Core.Path.{_≡_}
-use Rattle.reply.proofs.Finish.{said}
-use Rattle.radio.specs.Radio.{verdictResult, verdictOf, radioOf}
+use borrow.Author.Tests.{eq-eqb, ne-eqb}
+use Rattle.parts.specs.Pick.{pick}
+use Rattle.radio.specs.Radio.{radioOf}
 use borrow.Author.Needs.{needs}
 use Rattle.radio.proofs.radio.Statement.{statement}
 use Rattle.radio.proofs.radio.Tie as tie
+
+byte-at-requires : tie.Need-byte-at-requires
+byte-at-requires c κs = search needs
 
 counted-dynamic-requires : tie.Need-counted-dynamic-requires
 counted-dynamic-requires c κs = search needs
@@ -13,82 +14,54 @@ counted-dynamic-requires c κs = search needs
 is-open-transfer-requires : tie.Need-is-open-transfer-requires
 is-open-transfer-requires c κs = search needs
 
-judge-requires : tie.Need-judge-requires
-judge-requires c κs = search needs
-
-enum-told : tie.Need-enum-told
-enum-told c = search needs
-
-enum-known-e : tie.Need-enum-known-e
-enum-known-e c = search needs
-
-error-requires : tie.Need-error-requires
-error-requires c κs = search needs
-
-enum-told-2 : tie.Need-enum-told-2
-enum-told-2 c = search needs
-
-fields-requires : tie.Need-fields-requires
-fields-requires c κs = search needs
-
-serve-requires : tie.Need-serve-requires
-serve-requires c κs = search needs
-
-verdict : (c : tie.After-judge) → let a = c .before .before .before .before .before .before .before .args in
-    c .judge .result ≡ verdictOf (a .v) (a .u) (a .transfer) (a .programming) (a .f .now)
-verdict c = rw (← c .before .before .counted-dynamic .ensures, ← c .before .is-open-transfer .ensures) (c .judge .ensures)
-
-returns : tie.Need-returns
-unfolding radioOf verdictResult answerOf bufferOf
-returns c =
-    let after-judge : tie.After-judge = search needs in
-    rw (← verdict after-judge, c .enum-told .given .1)
+inventory-requires : tie.Need-inventory-requires
+inventory-requires c κs = search needs
 
 same-length : tie.Need-same-length
 same-length c = search needs
 
-returns-2 : tie.Need-returns-2
-unfolding radioOf verdictResult
-returns-2 c =
-    let start : tie.Start = search needs in
-    let after-judge : tie.After-judge = search needs in
-    let after-e : tie.After-e = search needs in
-    let failed = c .before .before in
-    let a = start .args in
-    said (radioOf (a .v) (a .u) (a .vcc) (a .transfer) (a .programming) (a .m .now) (a .f .now)) (a .out .now) _ (failed .error .ensures)
-    (rw (← verdict after-judge, after-e .e .given .1))
-
 same-length-2 : tie.Need-same-length-2
 same-length-2 c = search needs
+
+returns : tie.Need-returns
+unfolding radioOf pick
+returns c =
+    let first : tie.After-byte-at = search needs in
+    let then1 : tie.Then1 = search needs in
+    let counted : tie.After-counted-dynamic = search needs in
+    let opened : tie.After-is-open-transfer = search needs in
+    let call : tie.After-inventory = search needs in
+    rw (← first .byte-at .ensures, eq-eqb _ 1 (then1 .if1 .taken), ← counted .counted-dynamic .ensures, ← opened .is-open-transfer .ensures) (call .inventory .ensures)
+
+request-requires : tie.Need-request-requires
+request-requires c κs = search needs
 
 same-length-3 : tie.Need-same-length-3
 same-length-3 c = search needs
 
-returns-3 : tie.Need-returns-3
-unfolding radioOf verdictResult
-returns-3 c =
-    let after-judge : tie.After-judge = search needs in
-    let after-enum-told2 : tie.After-enum-told2 = search needs in
-    let after-fields : tie.After-fields = search needs in
-    let after-serve : tie.After-serve = search needs in
-    rw (← verdict after-judge, after-enum-told2 .enum-told2 .given .1, ← after-fields .fields .ensures) (after-serve .serve .ensures)
+same-length-4 : tie.Need-same-length-4
+same-length-4 c = search needs
+
+returns-2 : tie.Need-returns-2
+unfolding radioOf pick
+returns-2 c =
+    let first : tie.After-byte-at = search needs in
+    let else1 : tie.Else1 = search needs in
+    let call : tie.After-request = search needs in
+    rw (← first .byte-at .ensures, ne-eqb _ 1 (else1 .if1 .left)) (call .request .ensures)
 
 pub radio-spec : {M : Type 1} → statement M
 radio-spec =
     tie.close
     (tie.spec
+    byte-at-requires
     counted-dynamic-requires
     is-open-transfer-requires
-    judge-requires
-    enum-told
-    enum-known-e
-    error-requires
-    enum-told-2
-    fields-requires
-    serve-requires
-    returns
+    inventory-requires
     same-length
-    returns-2
     same-length-2
+    returns
+    request-requires
     same-length-3
-    returns-3)
+    same-length-4
+    returns-2)

@@ -44,6 +44,12 @@ new-requires-12 c κs = search needs
 new-requires-13 : tie.Need-new-requires-13
 new-requires-13 c κs = search needs
 
+new-requires-14 : tie.Need-new-requires-14
+new-requires-14 c κs = search needs
+
+new-requires-15 : tie.Need-new-requires-15
+new-requires-15 c κs = search needs
+
 returns : tie.Need-returns
 unfolding rowOf rowIn pick
 returns c = rw (c .new .ensures, c .before .match .keys1)
@@ -93,8 +99,16 @@ unfolding rowOf rowIn pick
 returns-12 c = rw (c .new12 .ensures, c .before .match .keys12)
 
 returns-13 : tie.Need-returns-13
+unfolding rowOf rowIn pick
+returns-13 c = rw (c .new13 .ensures, c .before .match .keys13)
+
+returns-14 : tie.Need-returns-14
+unfolding rowOf rowIn pick
+returns-14 c = rw (c .new14 .ensures, c .before .match .keys14)
+
+returns-15 : tie.Need-returns-15
 unfolding rowOf rowIn
-returns-13 c = rw (c .new13 .ensures) (search (picks, c .before .match .rest .1, c .before .match .rest .0 .1, c .before .match .rest .0 .0 .1, c .before .match .rest .0 .0 .0 .1, c .before .match .rest .0 .0 .0 .0 .1, c .before .match .rest .0 .0 .0 .0 .0 .1, c .before .match .rest .0 .0 .0 .0 .0 .0 .1, c .before .match .rest .0 .0 .0 .0 .0 .0 .0 .1, c .before .match .rest .0 .0 .0 .0 .0 .0 .0 .0 .1, c .before .match .rest .0 .0 .0 .0 .0 .0 .0 .0 .0 .1, c .before .match .rest .0 .0 .0 .0 .0 .0 .0 .0 .0 .0 .1, c .before .match .rest .0 .0 .0 .0 .0 .0 .0 .0 .0 .0 .0) depth 30)
+returns-15 c = rw (c .new15 .ensures) (search (picks, c .before .match .rest .1, c .before .match .rest .0 .1, c .before .match .rest .0 .0 .1, c .before .match .rest .0 .0 .0 .1, c .before .match .rest .0 .0 .0 .0 .1, c .before .match .rest .0 .0 .0 .0 .0 .1, c .before .match .rest .0 .0 .0 .0 .0 .0 .1, c .before .match .rest .0 .0 .0 .0 .0 .0 .0 .1, c .before .match .rest .0 .0 .0 .0 .0 .0 .0 .0 .1, c .before .match .rest .0 .0 .0 .0 .0 .0 .0 .0 .0 .1, c .before .match .rest .0 .0 .0 .0 .0 .0 .0 .0 .0 .0 .1, c .before .match .rest .0 .0 .0 .0 .0 .0 .0 .0 .0 .0 .0 .1, c .before .match .rest .0 .0 .0 .0 .0 .0 .0 .0 .0 .0 .0 .0 .1, c .before .match .rest .0 .0 .0 .0 .0 .0 .0 .0 .0 .0 .0 .0 .0) depth 30)
 
 pub row-of-spec : {M : Type 1} → statement M
 row-of-spec =
@@ -113,6 +127,8 @@ row-of-spec =
     new-requires-11
     new-requires-12
     new-requires-13
+    new-requires-14
+    new-requires-15
     returns
     returns-2
     returns-3
@@ -125,4 +141,6 @@ row-of-spec =
     returns-10
     returns-11
     returns-12
-    returns-13)
+    returns-13
+    returns-14
+    returns-15)

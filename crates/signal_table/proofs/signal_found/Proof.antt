@@ -51,6 +51,10 @@ returns-9 : tie.Need-returns-9
 unfolding signalFound signalTable firstSays
 returns-9 c = search picks depth 20
 
+returns-10 : tie.Need-returns-10
+unfolding signalFound signalTable firstSays
+returns-10 c = search picks depth 20
+
 pub signal-found-spec : {M : Type 1} → statement M
 signal-found-spec =
     tie.close
@@ -64,4 +68,5 @@ signal-found-spec =
     returns-6
     returns-7
     returns-8
-    returns-9)
+    returns-9
+    returns-10)

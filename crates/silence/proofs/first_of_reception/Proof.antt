@@ -1,6 +1,6 @@
 use Rattle.parts.proofs.Picks.{picks}
 use Rattle.rule_list.specs.RuleList.{firstSays}
-use Rattle.silence.specs.Silence.{silenceHolds, silenceNumber, receptionSilences}
+use Rattle.silence_rules.specs.Silence.{silenceHolds, silenceNumber, receptionSilences}
 use borrow.Author.Needs.{needs}
 use Rattle.silence.proofs.first_of_reception.Statement.{statement}
 use Rattle.silence.proofs.first_of_reception.Tie as tie

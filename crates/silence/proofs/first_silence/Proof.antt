@@ -2,8 +2,8 @@ use mathlib.Core.Path.{_≡_, _∙_, sym}
 use borrow.Author.Tests.{eq-eqb, ne-eqb}
 use Rattle.parts.specs.Pick.{pick}
 use Rattle.rule_list.proofs.Laws.{says-append, numbered-or}
-use Rattle.silence.specs.Silence.{silenceHolds, silenceNumber, receptionSilences, addressSilences, requestSilences, firstSilence}
-use Rattle.silence.proofs.Numbers.{numbered}
+use Rattle.silence_rules.specs.Silence.{silenceHolds, silenceNumber, receptionSilences, addressSilences, requestSilences, firstSilence}
+use Rattle.silence_rules.proofs.Numbers.{numbered}
 use borrow.Author.Needs.{needs}
 use Rattle.silence.proofs.first_silence.Statement.{statement}
 use Rattle.silence.proofs.first_silence.Tie as tie

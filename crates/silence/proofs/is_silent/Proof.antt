@@ -1,6 +1,6 @@
 use Rattle.rule_list.proofs.Laws.{numbered-any}
-use Rattle.silence.specs.Silence.{silenceHolds, silenceNumber, requestSilences, firstSilence, isSilent}
-use Rattle.silence.proofs.Numbers.{numbered}
+use Rattle.silence_rules.specs.Silence.{silenceHolds, silenceNumber, requestSilences, firstSilence, isSilent}
+use Rattle.silence_rules.proofs.Numbers.{numbered}
 use borrow.Author.Needs.{needs}
 use Rattle.silence.proofs.is_silent.Statement.{statement}
 use Rattle.silence.proofs.is_silent.Tie as tie

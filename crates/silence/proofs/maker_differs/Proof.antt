@@ -1,4 +1,4 @@
-use Rattle.silence.specs.Silence.{makerDiffers}
+use Rattle.silence_rules.specs.Silence.{makerDiffers}
 use borrow.Author.Needs.{needs}
 use Rattle.silence.proofs.maker_differs.Statement.{statement}
 use Rattle.silence.proofs.maker_differs.Tie as tie

@@ -1,5 +1,5 @@
 use borrow.Author.Tests.{eq-eqb, ne-eqb}
-use Rattle.silence.specs.Silence.{uidDiffers}
+use Rattle.silence_rules.specs.Silence.{uidDiffers}
 use borrow.Author.Needs.{needs}
 use Rattle.silence.proofs.uid_differs.Statement.{statement}
 use Rattle.silence.proofs.uid_differs.Tie as tie

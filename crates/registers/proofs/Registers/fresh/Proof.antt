@@ -27,16 +27,24 @@ new-requires-7 c κs = search needs
 new-requires-8 : tie.Need-new-requires-8
 new-requires-8 c κs = search needs
 
+new-requires-9 : tie.Need-new-requires-9
+new-requires-9 c κs = search needs
+
+new-requires-10 : tie.Need-new-requires-10
+new-requires-10 c κs = search needs
+
 returns : tie.Need-returns
 unfolding freshRegisters
 returns c =
-    let new7 = c .before in
+    let new9 = c .before in
+    let new8 = new9 .before in
+    let new7 = new8 .before in
     let new6 = new7 .before in
     let new5 = new6 .before in
     let new4 = new5 .before in
     let new3 = new4 .before in
     let new2 = new3 .before in
-    rw (c .new8 .ensures, new7 .new7 .ensures, new6 .new6 .ensures, new5 .new5 .ensures, new4 .new4 .ensures, new3 .new3 .ensures, new2 .new2 .ensures, new2 .before .new .ensures)
+    rw (c .new10 .ensures, new9 .new9 .ensures, new8 .new8 .ensures, new7 .new7 .ensures, new6 .new6 .ensures, new5 .new5 .ensures, new4 .new4 .ensures, new3 .new3 .ensures, new2 .new2 .ensures, new2 .before .new .ensures)
 
 pub fresh-spec : {M : Type 1} → statement M
 fresh-spec =
@@ -50,4 +58,6 @@ fresh-spec =
     new-requires-6
     new-requires-7
     new-requires-8
+    new-requires-9
+    new-requires-10
     returns)

@@ -1,0 +1,5 @@
+pub mod Parts
+pub mod Fits
+pub mod Kept
+pub mod Report
+pub mod Claims

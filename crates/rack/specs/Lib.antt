@@ -1,0 +1,4 @@
+pub mod Rack
+pub mod Rules
+pub mod Step
+pub mod Claims

@@ -1,0 +1,1 @@
+// A rack of tags: what one call does to it, and lists of calls. Definitions.

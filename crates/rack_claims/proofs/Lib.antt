@@ -1,0 +1,5 @@
+pub mod Alone
+pub mod ItsTags
+pub mod WellFormed
+pub mod Demand3
+pub mod Report

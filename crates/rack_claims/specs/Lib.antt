@@ -1,0 +1,3 @@
+pub mod Cut
+pub mod ItsTags
+pub mod Demand3

@@ -1,0 +1,5 @@
+pub mod Sent
+pub mod Count
+pub mod OneTag
+pub mod Slots
+pub mod Search

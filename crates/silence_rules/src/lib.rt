@@ -1,0 +1,1 @@
+// No code: the silence list as definitions, and its order.

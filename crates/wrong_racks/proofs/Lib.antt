@@ -1,0 +1,4 @@
+pub mod Computes
+pub mod Racks
+pub mod Wrong
+pub mod WrongSearch

@@ -5,7 +5,6 @@ use Prim.Native.Nat.{ℕ, _+_}
 use lib.Dec.{leb}
 use lib.ListN.{length, take}
 use lib.Seq.{sets, length-sets}
-use Rattle.parts.specs.Pick.{pick}
 use Rattle.parts.proofs.Picks.{pick-case}
 use Rattle.crc.specs.Crc.{crcBytes, closedAt}
 use Rattle.bus.specs.Bus.{transferAt}

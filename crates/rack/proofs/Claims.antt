@@ -7,7 +7,6 @@ use native.Mathlib.Omega.{arith}
 use native.Mathlib.Nat.{zero-add}
 use lib.Dec.{leb, eqb}
 use lib.ListN.{length, getD, take, drop, take-append-drop, length-drop}
-use lib.Seq.{take-all}
 use borrow.Author.Tests.{eqb-true, eq-eqb, leb-false}
 use Rattle.parts.specs.Pick.{pick}
 use Rattle.parts.specs.Bytes.{areBytes}
@@ -22,13 +21,13 @@ use Rattle.tag.specs.declared.Tag.{Tag}
 use Rattle.refusals.specs.declared.Refusal.{Refusal}
 use Rattle.refusals.specs.declared.Refusal.the-variants.{NoSuchTag}
 use Rattle.refusals.specs.declared.Judgement.{Judgement}
-use Rattle.refusals.specs.declared.Judgement.the-variants.{NoRefusal, RefusedBy}
+use Rattle.refusals.specs.declared.Judgement.the-variants.{NoRefusal}
 use Rattle.refusals.specs.Refusals.{number, judgement, unlessRefused}
 use Rattle.refusals.proofs.Laws.{appliesOf, not-refused}
 use Rattle.calls.specs.Calls.{CallAnswer, Device, DeviceResult, entry}
 use Rattle.rack.specs.Rack.{Rack, rackOf, RackCall, memorySize, memorySizes, deviceAt, devicesOf, devices, memoriesOf, toAll, goesTo}
 use Rattle.rack.specs.Rules.{rackRules}
-use Rattle.rack.specs.Step.{unreached, turnOf, turnsOf, leftBy, saidBy, RackAnswer, lowestReply, noReply, together, rackRefused, rackResult, rackActs, rackStep, rackEntry}
+use Rattle.rack.specs.Step.{unreached, turnOf, turnsOf, leftBy, saidBy, RackAnswer, noReply, together, rackRefused, rackResult, rackActs, rackStep, rackEntry}
 use Rattle.rack.specs.Claims.{isWire, WireToOne, refusalNumbers, RefusalsInOrder, OwnMemory, PutTogether, RefusedChangesNothing, ServesEach}
 use Rattle.rack.proofs.Parts.{number-apart, tags-apart, at-apart}
 use Rattle.rack.proofs.Kept.{call-says, call-number, call-leaves}

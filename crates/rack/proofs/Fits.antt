@@ -1,10 +1,10 @@
 -- The tags of a rack in range, and that a call keeps them so. Assumes nothing.
-use mathlib.Core.Path.{_≡_, refl, sym, ap, subst, _∙_}
-use mathlib.Core.Bool.{Bool, true, false, not, _&&_, _||_}
+use mathlib.Core.Path.{_≡_, refl, sym, subst}
+use mathlib.Core.Bool.{true, false, _||_}
 use mathlib.Core.List.{List, [], _∷_}
-use Prim.Native.Nat.{ℕ, suc, zero, _+_, _<_, _≤_}
+use Prim.Native.Nat.{ℕ, suc, zero, _<_, _≤_}
 use native.Mathlib.Omega.{arith}
-use lib.Dec.{eqb, ltb, leb}
+use lib.Dec.{eqb, ltb}
 use lib.ListN.{length, getD}
 use borrow.Author.Tests.{eqb-true, ltb-false, not-false}
 use Rattle.parts.specs.Pick.{pick}
@@ -12,18 +12,17 @@ use Rattle.parts.specs.Bytes.{areBytes}
 use Rattle.parts.proofs.Picks.{pick-case}
 use Rattle.parts.proofs.Bools.{and-left, and-right, and-both}
 use Rattle.rule_list.specs.RuleList.{firstSays}
-use Rattle.tag.specs.declared.Tag.{Tag}
-use Rattle.tag.specs.Layout.{memoryBytes, replyBytes}
+use Rattle.tag.specs.Layout.{replyBytes}
 use Rattle.refusals.specs.declared.Judgement.the-variants.{NoRefusal}
 use Rattle.refusals.specs.declared.Refusal.the-variants.{MemoryLength, ReplyShort, OutOfRange, RackSize, EqualUids}
 use Rattle.refusals.specs.Refusals.{number, tagInRange, judgement}
 use Rattle.refusals.proofs.Laws.{appliesOf, not-refused}
 use Rattle.calls.specs.Calls.{Device, DeviceResult, entry}
 use Rattle.calls.proofs.Laws.{Fits, fits-next}
-use Rattle.rack.specs.Rack.{Rack, rackOf, RackCall, memorySize, memorySizes, deviceAt, devicesOf, devices, tagsOf, memoriesOf, racked, goesTo}
+use Rattle.rack.specs.Rack.{Rack, RackCall, memorySize, memorySizes, deviceAt, devices, goesTo}
 use Rattle.rack.specs.Rules.{allInRange, equalUids, mostTags, rackRules}
 use Rattle.rack.specs.Step.{unreached, turnOf, turnsOf, leftBy}
-use Rattle.rack.proofs.Parts.{Sized, AllSized, racked-apart, sized-apart, number-apart, at-apart}
+use Rattle.rack.proofs.Parts.{Sized, AllSized, sized-apart, number-apart, at-apart}
 
 -- ---- one tag
 pub sized : (d : Device) → Fits d → Sized d

@@ -1,21 +1,18 @@
 -- What one call leaves of a rack. Assumes nothing.
-use mathlib.Core.Path.{_≡_, refl, sym, ap, subst, _∙_}
-use mathlib.Core.Bool.{Bool, true, false, not, _&&_, _||_}
+use mathlib.Core.Path.{_≡_, refl, sym, ap, _∙_}
+use mathlib.Core.Bool.{true}
 use mathlib.Core.List.{List, [], _∷_}
 use Prim.Native.Nat.{ℕ, suc, _+_}
 use lib.ListN.{length}
-use Rattle.parts.specs.Pick.{pick}
 use Rattle.parts.specs.Bytes.{areBytes}
-use Rattle.parts.proofs.Picks.{pick-case}
-use Rattle.tag.specs.declared.Tag.{Tag}
 use Rattle.refusals.specs.declared.Refusal.{Refusal}
 use Rattle.refusals.specs.declared.Judgement.{Judgement}
 use Rattle.refusals.specs.declared.Judgement.the-variants.{NoRefusal, RefusedBy}
 use Rattle.refusals.specs.Refusals.{judgement, unlessRefused}
-use Rattle.calls.specs.Calls.{Device, DeviceResult, entry}
-use Rattle.rack.specs.Rack.{Rack, RackCall, memorySize, memorySizes, devices, tagsOf, goesTo}
+use Rattle.calls.specs.Calls.{Device, entry}
+use Rattle.rack.specs.Rack.{Rack, RackCall, memorySize, memorySizes, devices, tagsOf}
 use Rattle.rack.specs.Rules.{rackRules}
-use Rattle.rack.specs.Step.{unreached, turnOf, turnsOf, leftBy, saidBy, rackRefused, together, RackResult, rackResult, rackActs, rackStep, rackEntry}
+use Rattle.rack.specs.Step.{turnOf, turnsOf, leftBy, saidBy, rackRefused, together, RackResult, rackResult, rackActs, rackStep, rackEntry}
 use Rattle.rack.proofs.Parts.{racked-apart, number-apart, tags-apart, number-racked, size-racked, turns-number}
 use Rattle.rack.proofs.Fits.{AllFit, all-sized, turns-fit, size-of, fit-of}
 

@@ -3,3 +3,4 @@ pub mod Fits
 pub mod Kept
 pub mod Report
 pub mod Claims
+pub mod Unread

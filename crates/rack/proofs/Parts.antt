@@ -1,5 +1,5 @@
 -- A rack taken apart into its tags, and put together again. Assumes nothing.
-use mathlib.Core.Path.{_≡_, refl, sym, ap, _∙_}
+use mathlib.Core.Path.{_≡_, refl, ap, _∙_}
 use mathlib.Core.List.{List, [], _∷_, _++_}
 use Prim.Native.Nat.{ℕ, zero, suc, _+_, _<_}
 use native.Mathlib.Omega.{arith}
@@ -7,7 +7,7 @@ use lib.ListN.{length, getD, take, drop, length-append, length-take, length-drop
 use lib.Seq.{take-at, drop-at, drop-drop}
 use Rattle.tag.specs.declared.Tag.{Tag}
 use Rattle.calls.specs.Calls.{Device, device, Step}
-use Rattle.rack.specs.Rack.{Rack, rackOf, memorySize, memorySizes, noTag, deviceAt, devicesOf, tagsOf, memoriesOf, RackCall}
+use Rattle.rack.specs.Rack.{rackOf, memorySize, memorySizes, noTag, deviceAt, devicesOf, tagsOf, memoriesOf, RackCall}
 use Rattle.rack.specs.Step.{turnsOf, leftBy}
 
 -- ---- each memory is as long as its tag asks

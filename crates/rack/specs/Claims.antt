@@ -9,14 +9,15 @@ use Rattle.parts.specs.Pick.{pick}
 use Rattle.parts.specs.Bytes.{areBytes}
 use Rattle.refusals.specs.declared.Refusal.{Refusal}
 use Rattle.refusals.specs.declared.Judgement.the-variants.{NoRefusal, RefusedBy}
+use Rattle.refusals.specs.Call.{Call}
 use Rattle.refusals.specs.Refusals.{number, RefusalRule, judgement}
 use Rattle.signal_table.specs.declared.Signal.{Signal}
 use Rattle.signal_table.specs.declared.Signal.the-variants.{Wire, Field, Frame, EndOfFrame}
 use Rattle.signal_table.specs.Table.{signalInRange, signalBy}
 use Rattle.model.specs.declared.Answer.the-variants.{Refused}
 use Rattle.model.specs.Step.{isReply}
-use Rattle.calls.specs.Calls.{CallAnswer, callAnswer, Device, Step, entry}
-use Rattle.rack.specs.Rack.{Rack, RackCall, memorySizes, deviceAt, devices, racked, toAll, goesTo}
+use Rattle.calls.specs.Calls.{CallAnswer, callAnswer, Step, entry}
+use Rattle.rack.specs.Rack.{Rack, RackCall, rackCall, memorySizes, deviceAt, devices, racked, toAll, goesTo}
 use Rattle.rack.specs.Rules.{rackRules}
 use Rattle.rack.specs.Step.{rackAnswer, whoReplied, numbersFrom, lowestReply, rackResult, rackStep, rackEntry}
 
@@ -61,6 +62,11 @@ isWire EndOfFrame = false
 
 abbrev pub WireToOne : Type 0
 WireToOne = (code value : ℕ) → signalInRange code value ≡ true → toAll code ≡ not (isWire (signalBy code value))
+
+-- with a signal that goes to all the tag's number is "unread"
+abbrev pub NumberUnread : Type 0
+NumberUnread = (step : Step) (rack : Rack) (call : Call) (i j : ℕ) → toAll (call .code) ≡ true
+    → rackStep step rack (rackCall call i) ≡ rackStep step rack (rackCall call j)
 
 -- ---- the refusals, by their numbers
 unfoldable pub refusalNumbers : List RefusalRule → List ℕ

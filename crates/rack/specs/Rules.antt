@@ -44,12 +44,12 @@ unfoldable pub equalUids : List Tag → Bool
 equalUids [] = false
 equalUids (t ∷ tags) = hasUid (t .uid) tags || equalUids tags
 
-abbrev pub uidRule : Rack → RefusalRule
-uidRule rack = refusalRule (equalUids (rack .tags)) EqualUids
+abbrev pub uidsRule : Rack → RefusalRule
+uidsRule rack = refusalRule (equalUids (rack .tags)) EqualUids
 
 -- a rack to which none of them applies
 abbrev pub rackAloneRules : Rack → List RefusalRule
-rackAloneRules rack = rackMemoryRule rack ∷ rackRangeRule rack ∷ sizeRule rack ∷ uidRule rack ∷ []
+rackAloneRules rack = rackMemoryRule rack ∷ rackRangeRule rack ∷ sizeRule rack ∷ uidsRule rack ∷ []
 
 abbrev pub WellFormed : Rack → Type 0
 WellFormed rack = judgement (rackAloneRules rack) ≡ NoRefusal
@@ -71,5 +71,5 @@ rackRules rack call =
     ∷ rackRangeRule rack
     ∷ sizeRule rack
     ∷ namedRule rack call
-    ∷ uidRule rack
+    ∷ uidsRule rack
     ∷ []

@@ -39,10 +39,10 @@ saidBy (result ∷ rest) = result .says ∷ saidBy rest
 -- ---- the rack's answer: with the whole reply buffer as the call leaves it, and the numbers of the tags that answered
 pub record RackAnswer : Type 0 where
   pub says : CallAnswer
-  pub answered : List ℕ
+  pub report : List ℕ
 
 abbrev pub rackAnswer : CallAnswer → List ℕ → RackAnswer
-rackAnswer says answered = record { says = says; answered = answered }
+rackAnswer says report = record { says = says; report = report }
 
 -- "the rack reports which tags answered": those with a reply, an error reply too; a field change and a wire signal have none
 unfoldable pub whoReplied : List CallAnswer → List Bool

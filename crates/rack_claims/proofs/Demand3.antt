@@ -1,30 +1,28 @@
 -- Demand 3 for each tag of a rack. Assumes nothing.
-use mathlib.Core.Path.{_≡_, refl, sym, ap, subst, _∙_}
-use mathlib.Core.Bool.{Bool, true, false, not, _&&_}
+use mathlib.Core.Path.{_≡_, refl, sym, ap, _∙_}
+use mathlib.Core.Bool.{true, not, _&&_}
 use mathlib.Core.List.{List, [], _∷_}
-use Prim.Native.Nat.{ℕ, suc, _<_}
-use lib.ListN.{length}
+use Prim.Native.Nat.{ℕ, suc}
 use borrow.Author.Tests.{not-true}
-use Rattle.parts.specs.Pick.{pick}
 use Rattle.parts.specs.Bytes.{areBytes}
 use Rattle.parts.proofs.Picks.{pick-case}
 use Rattle.parts.proofs.Bools.{and-left, and-right, and-both}
-use Rattle.refusals.specs.Refusals.{judgement, unlessRefused}
+use Rattle.refusals.specs.Refusals.{judgement}
 use Rattle.refusals.specs.Call.{Call}
 use Rattle.refusals.proofs.Laws.{judged-case}
 use Rattle.model.specs.Step.{transferOpen}
-use Rattle.calls.specs.Calls.{CallAnswer, Device, entry, runBy, framesFit}
+use Rattle.calls.specs.Calls.{CallAnswer, Device, framesFit}
 use Rattle.calls.proofs.Laws.{Fits}
-use Rattle.waiting.specs.Waiting.{Waiting, noTransfer, inside, waitRun}
+use Rattle.waiting.specs.Waiting.{noTransfer}
 use Rattle.demand3.specs.Demand3.{isClosed}
 use Rattle.demand3.proofs.Demand3.{demand-3, ends-alike}
 use Rattle.rack.specs.Rack.{Rack, RackCall, deviceAt, devices}
 use Rattle.rack.specs.Rules.{rackRules}
-use Rattle.rack.specs.Step.{RackStep, rackEntry, rackRun}
+use Rattle.rack.specs.Step.{RackStep, rackEntry}
 use Rattle.rack.proofs.Fits.{AllFit}
-use Rattle.rack_claims.specs.Cut.{JudgedCall, judgedCall, judgedCalls, hasCall, refusedCall, ownCall, ownCalls, ofEach, answersMade}
+use Rattle.rack_claims.specs.Cut.{JudgedCall, judgedCall, judgedCalls, hasCall, ownCall, ownCalls, ofEach, answersMade}
 use Rattle.rack_claims.specs.ItsTags.{rackFramesFit, answersAlone}
-use Rattle.rack_claims.specs.Demand3.{ownOf, waitsFor, TagAgrees, RackDemand3, RackEndsAlike, answersWaited, standIn, AnswersAsWaiting}
+use Rattle.rack_claims.specs.Demand3.{ownOf, waitsFor, RackDemand3, RackEndsAlike, answersWaited, standIn, AnswersAsWaiting}
 use Rattle.rack_claims.proofs.ItsTags.{is-its-tags}
 use Rattle.rack_claims.proofs.WellFormed.{formed, formed-fit}
 

@@ -2,7 +2,7 @@
 use mathlib.Core.Path.{_≡_, refl, sym, ap, subst, _∙_}
 use mathlib.Core.Bool.{true}
 use mathlib.Core.List.{List, [], _∷_}
-use Prim.Native.Nat.{ℕ, suc, _+_, _<_}
+use Prim.Native.Nat.{ℕ, _+_, _<_}
 use native.Mathlib.Nat.{zero-add}
 use lib.ListN.{length, getD}
 use Rattle.parts.specs.Bytes.{areBytes}
@@ -12,14 +12,13 @@ use Rattle.refusals.specs.declared.Judgement.{Judgement}
 use Rattle.refusals.specs.declared.Judgement.the-variants.{NoRefusal, RefusedBy}
 use Rattle.refusals.specs.Refusals.{judgement, unlessRefused}
 use Rattle.calls.specs.Calls.{Device, entry}
-use Rattle.rack.specs.Rack.{Rack, RackCall, memorySizes, deviceAt, devices, tagsOf}
+use Rattle.rack.specs.Rack.{Rack, RackCall, deviceAt, devices}
 use Rattle.rack.specs.Rules.{rackRules}
-use Rattle.rack.specs.Step.{RackAnswer, rackRefused, together, RackResult, rackResult, rackActs, rackStep, rackEntry, rackRun, turnsOf, leftBy, saidBy}
-use Rattle.rack.proofs.Parts.{racked-apart, number-apart, tags-apart, number-racked, size-racked, at-apart, turns-number}
-use Rattle.rack.proofs.Fits.{AllFit, all-sized, turns-fit, size-of, fit-of}
-use Rattle.rack.proofs.Kept.{call-refused, call-acts, call-says, call-number, call-leaves, call-size}
-use Rattle.rack_claims.specs.Cut.{JudgedCall, judgedCall, judgedCalls, ownCalls, ofEach, laterOfEach, nextOfEach, answerMade, answersMade}
-use Rattle.rack_claims.specs.ItsTags.{rackFramesFit, answersAlone, ItsTags, IsItsTags}
+use Rattle.rack.specs.Step.{RackAnswer, together, RackResult, rackEntry, rackRun, turnsOf, leftBy}
+use Rattle.rack.proofs.Parts.{number-apart, at-apart}
+use Rattle.rack.proofs.Kept.{call-refused, call-says, call-number, call-leaves, call-size}
+use Rattle.rack_claims.specs.Cut.{JudgedCall, judgedCall, judgedCalls, ownCalls, ofEach, laterOfEach, answerMade, answersMade}
+use Rattle.rack_claims.specs.ItsTags.{rackFramesFit, answersAlone, IsItsTags}
 use Rattle.rack_claims.proofs.Alone.{endAlone, next-served, later-served, end-served, later-refused, end-refused, end-none, end-at}
 
 -- the rack r after judged calls js is r′, with these answers

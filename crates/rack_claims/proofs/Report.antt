@@ -12,7 +12,6 @@ use Rattle.wire.specs.Wire.{signalOf}
 use Rattle.signal_table.specs.declared.Signal.{Signal}
 use Rattle.signal_table.specs.declared.Signal.the-variants.{Wire, Field, Frame, EndOfFrame}
 use Rattle.signal_table.specs.Table.{signalBy}
-use Rattle.refusals.specs.declared.Refusal.{Refusal}
 use Rattle.refusals.specs.declared.Judgement.{Judgement}
 use Rattle.refusals.specs.declared.Judgement.the-variants.{NoRefusal, RefusedBy}
 use Rattle.refusals.specs.Refusals.{judgement}
@@ -21,7 +20,7 @@ use Rattle.model.specs.Step.{isReply, fromWire, actOf}
 use Rattle.calls.specs.Calls.{Device, DeviceResult, entry}
 use Rattle.calls.proofs.Laws.{Fits, actedBy, call-case}
 use Rattle.demand3.specs.Demand3.{isRadio}
-use Rattle.rack.specs.Rack.{Rack, RackCall, devices, goesTo}
+use Rattle.rack.specs.Rack.{RackCall, devices, goesTo}
 use Rattle.rack.specs.Rules.{rackRules}
 use Rattle.rack.specs.Step.{unreached, turnOf, turnsOf, saidBy, RackAnswer, whoReplied, numbersFrom, together, RackResult, rackEntry}
 use Rattle.rack.proofs.Fits.{AllFit, fit-of}
@@ -67,6 +66,6 @@ pub only-radio-reported : OnlyRadioReported rackEntry
 unfolding together
 only-radio-reported r c h = by (judgement (rackRules r c)) refl
   where
-    by : (j : Judgement) → judgement (rackRules r c) ≡ j → rackEntry r c .says .answered ≡ []
-    by NoRefusal k = ap (λ (a : RackAnswer). a .answered) (call-says r c k) ∙ none-replied c h 0 0 (devices r) (fit-of r c k)
-    by (RefusedBy x) k = ap (λ (e : RackResult). e .says .answered) (call-refused r c x k)
+    by : (j : Judgement) → judgement (rackRules r c) ≡ j → rackEntry r c .says .report ≡ []
+    by NoRefusal k = ap (λ (a : RackAnswer). a .report) (call-says r c k) ∙ none-replied c h 0 0 (devices r) (fit-of r c k)
+    by (RefusedBy x) k = ap (λ (e : RackResult). e .says .report) (call-refused r c x k)

@@ -1,6 +1,6 @@
 -- A well-formed rack stays so, and refusals 1, 4, 5 and 7 never come up. Assumes nothing.
 use mathlib.Core.Path.{_≡_, refl, sym, ap, subst, _∙_}
-use mathlib.Core.Bool.{Bool, true, false, not, _&&_, _||_}
+use mathlib.Core.Bool.{Bool, true, false, not, _||_}
 use mathlib.Core.List.{List, [], _∷_}
 use Prim.Native.Nat.{ℕ, suc}
 use lib.Dec.{eqb, ltb}
@@ -13,8 +13,6 @@ use Rattle.parts.proofs.Bools.{and-left, and-right}
 use Rattle.rule_list.specs.RuleList.{anyHolds, firstSays}
 use Rattle.keys.specs.declared.Uid.{Uid}
 use Rattle.keys.specs.Keys.{sameUid}
-use Rattle.tag.specs.declared.Tag.{Tag}
-use Rattle.refusals.specs.declared.Refusal.{Refusal}
 use Rattle.refusals.specs.declared.Judgement.{Judgement}
 use Rattle.refusals.specs.declared.Judgement.the-variants.{NoRefusal, RefusedBy}
 use Rattle.refusals.specs.Refusals.{number, RefusalRule, replyRule, signalRule, judgement, unlessRefused}
@@ -26,9 +24,9 @@ use Rattle.rack.specs.Rack.{Rack, RackCall, memorySizes, devices, tagsOf, goesT
 use Rattle.rack.specs.Rules.{allInRange, hasUid, equalUids, mostTags, rackAloneRules, WellFormed, looksAtRack, namedRule, rackRules}
 use Rattle.rack.specs.Step.{unreached, turnOf, turnsOf, leftBy, RackResult, rackActs, rackEntry, rackRun}
 use Rattle.rack.proofs.Parts.{tags-apart, sized-apart, size-racked}
-use Rattle.rack.proofs.Fits.{AllFit, all-fit, all-sized, all-in-range, fit-of}
-use Rattle.rack.proofs.Kept.{call-refused, call-acts, call-number, fit-left, call-leaves, call-size}
-use Rattle.rack_claims.specs.Cut.{JudgedCall, judgedCall, judgedCalls}
+use Rattle.rack.proofs.Fits.{AllFit, all-fit, all-sized, all-in-range}
+use Rattle.rack.proofs.Kept.{call-refused, call-acts, call-number, fit-left, call-leaves}
+use Rattle.rack_claims.specs.Cut.{judgedCall, judgedCalls}
 use Rattle.rack_claims.specs.ItsTags.{rackFramesFit, refusedByRack, StaysWellFormed, KeepsWellFormed}
 
 -- ---- the rules one by one

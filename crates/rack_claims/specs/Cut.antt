@@ -43,10 +43,10 @@ unfoldable pub ownCalls : ℕ → List JudgedCall → List Call
 ownCalls i [] = []
 ownCalls i (call ∷ calls) = pick (hasCall call i) (ownCall call ∷ ownCalls i calls) (ownCalls i calls)
 
--- what `of` gives for each tag and its list; the first has number `first`
+-- what `of` gives for each tag and its list; the first has number `from`
 unfoldable pub ofEach : {A : Type 0} → (Device → List Call → A) → List JudgedCall → ℕ → List Device → List A
-ofEach of calls first [] = []
-ofEach of calls first (d ∷ rest) = of d (ownCalls first calls) ∷ ofEach of calls (suc first) rest
+ofEach of calls from [] = []
+ofEach of calls from (d ∷ rest) = of d (ownCalls from calls) ∷ ofEach of calls (suc from) rest
 
 -- ---- the rack's answers, from each tag's list of answers
 -- a tag's answer to a call is the next of its list; a tag that has not the call says nothing

@@ -1,14 +1,14 @@
 -- "Demand 3 holds for each tag taken alone, its frames, field changes and refused calls being all the rack's."
 use mathlib.Core.Path.{_≡_}
-use mathlib.Core.Bool.{Bool, true, false, not, _&&_}
-use mathlib.Core.List.{List, [], _∷_}
+use mathlib.Core.Bool.{true, false, not, _&&_}
+use mathlib.Core.List.{List, []}
 use Prim.Native.Nat.{ℕ, _<_}
 use lib.ListN.{length}
 use Rattle.parts.specs.Pick.{pick}
 use Rattle.refusals.specs.Call.{Call}
 use Rattle.model.specs.Step.{transferOpen}
 use Rattle.model.specs.Claims.{Fit}
-use Rattle.calls.specs.Calls.{CallAnswer, Device, entry, runBy}
+use Rattle.calls.specs.Calls.{CallAnswer, Device, entry}
 use Rattle.waiting.specs.Waiting.{Waiting, noTransfer, inside, waitRun}
 use Rattle.demand3.specs.Demand3.{Agrees, isClosed}
 use Rattle.rack.specs.Rack.{Rack, RackCall, deviceAt, devices}

@@ -70,4 +70,4 @@ KeepsWellFormed go = (rack : Rack) (calls : List RackCall) → WellFormed rack �
 -- ---- the report: of a signal that is no frame and no end-of-frame nobody
 abbrev pub OnlyRadioReported : RackStep → Type 0
 OnlyRadioReported go = (rack : Rack) (call : RackCall) → isRadio (signalBy (call .handed .code) (call .handed .value)) ≡ false
-    → go rack call .says .answered ≡ []
+    → go rack call .says .report ≡ []

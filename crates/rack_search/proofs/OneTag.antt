@@ -14,8 +14,6 @@ use Rattle.rule_list.specs.RuleList.{firstSays}
 use Rattle.crc.specs.Crc.{goodFrame}
 use Rattle.register_types.specs.declared.Afi.{Afi}
 use Rattle.bus.specs.Bus.{transferAt}
-use Rattle.air.specs.declared.Air.{Air}
-use Rattle.keys.specs.declared.Uid.{Uid}
 use Rattle.tag.specs.declared.Tag.{Tag}
 use Rattle.tag.specs.Layout.{replyBytes}
 use Rattle.frame.specs.Fields.{inventoryFlag}
@@ -25,7 +23,7 @@ use Rattle.reply.specs.declared.RadioSide.{RadioSide}
 use Rattle.reply.specs.Reply.{nothing, answerOf}
 use Rattle.reply.specs.Outcome.{CommandResult, commandResult, radioSide, withRadio}
 use Rattle.inventory_reply.specs.Answers.{slotsLeft, isHeard, inventoryOf, endOfFrameOf}
-use Rattle.radio.specs.Radio.{dynamicNow, busyNow, radioOf, nextSlotOf}
+use Rattle.radio.specs.Radio.{radioOf, nextSlotOf}
 use Rattle.signal_table.specs.declared.Signal.{Signal}
 use Rattle.signal_table.specs.declared.Signal.the-variants.{Frame, EndOfFrame}
 use Rattle.signal_table.specs.Table.{signalTable, signalFound, isFound, signalInRange, signalIn, signalBy}
@@ -34,7 +32,7 @@ use Rattle.refusals.specs.declared.Refusal.{Refusal}
 use Rattle.refusals.specs.declared.Judgement.{Judgement}
 use Rattle.refusals.specs.declared.Judgement.the-variants.{NoRefusal}
 use Rattle.refusals.specs.Call.{Call, handedIn}
-use Rattle.refusals.specs.Refusals.{argumentRules, judgement, unlessRefused}
+use Rattle.refusals.specs.Refusals.{argumentRules, unlessRefused}
 use Rattle.refusals.proofs.Laws.{NoneApplies, no-refusal}
 use Rattle.model.specs.Step.{isReply, fromRadio, actOf}
 use Rattle.model.proofs.Room.{step-room}

@@ -1,11 +1,11 @@
 -- The search finds the first slot in which two tags answer. Assumes nothing.
 use mathlib.Core.Path.{_≡_, refl, sym, _∙_, ap, subst}
-use mathlib.Core.Bool.{Bool, true, false, not, _&&_, _||_, false≢true}
+use mathlib.Core.Bool.{Bool, true, false}
 use mathlib.Core.List.{List, [], _∷_}
 use Prim.Native.Nat.{ℕ, zero, suc, _+_, _<_, _≤_}
 use native.Mathlib.Omega.{arith}
 use native.Mathlib.Nat.{zero-add}
-use lib.Dec.{ltb, eqb}
+use lib.Dec.{ltb}
 use lib.ListN.{length}
 use borrow.Author.Tests.{eqb-true, ltb-false, not-false}
 use Rattle.parts.specs.Pick.{pick}
@@ -16,7 +16,6 @@ use Rattle.signal_table.proofs.Laws.{frame-known}
 use Rattle.refusals.specs.declared.Refusal.{Refusal}
 use Rattle.refusals.specs.declared.Judgement.{Judgement}
 use Rattle.refusals.specs.declared.Judgement.the-variants.{NoRefusal, RefusedBy}
-use Rattle.refusals.specs.Call.{handedIn}
 use Rattle.refusals.specs.Refusals.{number, judgement, unlessRefused}
 use Rattle.refusals.proofs.Laws.{NoneApplies, none-applies}
 use Rattle.calls.specs.Calls.{Device}
@@ -28,8 +27,8 @@ use Rattle.rack_claims.proofs.WellFormed.{Formed, next-formed}
 use Rattle.rack_search.specs.declared.SearchAnswer.{SearchAnswer}
 use Rattle.rack_search.specs.declared.SearchAnswer.the-variants.{Refused, NoCollision, Collision}
 use Rattle.rack_search.specs.Search.{sendsFrame, sendsEnd, sendsNext, opensSixteen, slotCount, SearchResult, searchResult, collides, look, searchRules, searchOf, searchEntry}
-use Rattle.rack_search.specs.Claims.{answersIn, howMany, tagsIn, FirstCollision, NoCollisions, sentCalls, slotsOpened, bufferAfter, sentBy, Searched, Searches, SearchRefusalsInOrder}
-use Rattle.rack_search.proofs.Sent.{opened, From, Left, look-left}
+use Rattle.rack_search.specs.Claims.{answersIn, howMany, tagsIn, sentCalls, slotsOpened, bufferAfter, Searches, SearchRefusalsInOrder}
+use Rattle.rack_search.proofs.Sent.{opened, From, look-left}
 use Rattle.rack_search.proofs.Count.{firstFrom, first-alike, Tells, first-tells, tells-slot, slot-told, tells-none, none-told}
 use Rattle.rack_search.proofs.OneTag.{waitsIn, end-known, single, past, frame-opens, frame-waits, end-turns, end-later}
 use Rattle.rack_search.proofs.Slots.{collides-is, counts-next, room-left, unrefused}

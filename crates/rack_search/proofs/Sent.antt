@@ -1,9 +1,8 @@
 -- A search leaves what the calls leave that it sends, one by one. Assumes nothing.
 use mathlib.Core.Path.{_≡_, refl, sym, _∙_, ap}
-use mathlib.Core.List.{List, [], _∷_}
+use mathlib.Core.List.{List}
 use Prim.Native.Nat.{ℕ, zero, suc, _-_, _≤_}
 use native.Mathlib.Omega.{arith}
-use Rattle.parts.specs.Pick.{pick}
 use Rattle.parts.proofs.Picks.{pick-case}
 use Rattle.rack.specs.Rack.{Rack, RackCall}
 use Rattle.rack.specs.Step.{RackStep, rackRun}

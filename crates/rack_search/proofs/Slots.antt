@@ -21,7 +21,7 @@ use Rattle.calls.specs.Calls.{CallAnswer, Device, DeviceResult, entry}
 use Rattle.calls.proofs.Laws.{Fits}
 use Rattle.rack.specs.Rack.{Rack, RackCall, devices, toAll, goesTo}
 use Rattle.rack.specs.Rules.{rackRules}
-use Rattle.rack.specs.Step.{unreached, turnOf, turnsOf, leftBy, saidBy, RackAnswer, whoReplied, numbersFrom, lowestReply, noReply, together, rackEntry}
+use Rattle.rack.specs.Step.{turnOf, turnsOf, leftBy, saidBy, RackAnswer, whoReplied, numbersFrom, lowestReply, noReply, together, rackEntry}
 use Rattle.rack.proofs.Fits.{AllFit, fit-of}
 use Rattle.rack.proofs.Kept.{call-says, call-leaves}
 use Rattle.rack_claims.proofs.WellFormed.{Formed, callRules, formed-judged}
@@ -72,7 +72,7 @@ module _ (c : RackCall) (all : toAll (c .handed .code) ≡ true) where
         → collides (rackEntry r c) ≡ ltb 1 (howMany test (devices r))
     unfolding together
     collides-is test is =
-        ap (λ (a : RackAnswer). ltb 1 (length (a .answered))) (call-says r c h)
+        ap (λ (a : RackAnswer). ltb 1 (length (a .report))) (call-says r c h)
         ∙ ap (ltb 1) (answered-is test is 0 0 (devices r) (fit-of r c h))
 
     pub counts-next : areBytes (c .handed .frame) ≡ true → (test after : Device → Bool) → ((d : Device) → Fits d → after (entry d (c .handed) .device) ≡ test d)

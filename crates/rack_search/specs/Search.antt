@@ -12,7 +12,7 @@ use Rattle.refusals.specs.declared.Refusal.{Refusal}
 use Rattle.refusals.specs.Call.{handedIn}
 use Rattle.refusals.specs.Refusals.{RefusalRule, replyRule, judgement, unlessRefused}
 use Rattle.rack.specs.Rack.{Rack, RackCall, rackCall}
-use Rattle.rack.specs.Rules.{rackMemoryRule, rackRangeRule, sizeRule, uidRule}
+use Rattle.rack.specs.Rules.{rackMemoryRule, rackRangeRule, sizeRule, uidsRule}
 use Rattle.rack.specs.Step.{RackResult, RackStep, rackEntry}
 use Rattle.rack_search.specs.declared.SearchAnswer.{SearchAnswer}
 use Rattle.rack_search.specs.declared.SearchAnswer.the-variants.{Refused, NoCollision, Collision}
@@ -49,7 +49,7 @@ searchResult answer rack o = record { answer = answer; rack = rack; buffer = o }
 -- ---- the search
 -- a slot's signal has reached every tag, and two or more answered it
 abbrev pub collides : RackResult → Bool
-collides result = ltb 1 (length (result .says .answered))
+collides result = ltb 1 (length (result .says .report))
 
 -- n slots from number k on, the first of them opened by the call
 unfoldable pub look : RackStep → ℕ → ℕ → Rack → RackCall → SearchResult
@@ -61,7 +61,7 @@ look go (suc n) k rack call =
 
 -- its refusals: 1, 2, 4, 5 and 7
 abbrev pub searchRules : Rack → List ℕ → List RefusalRule
-searchRules rack o = rackMemoryRule rack ∷ replyRule (handedIn o 8 0 []) ∷ rackRangeRule rack ∷ sizeRule rack ∷ uidRule rack ∷ []
+searchRules rack o = rackMemoryRule rack ∷ replyRule (handedIn o 8 0 []) ∷ rackRangeRule rack ∷ sizeRule rack ∷ uidsRule rack ∷ []
 
 unfoldable pub searchOf : RackStep → Rack → List ℕ → List ℕ → SearchResult
 searchOf go rack o f =

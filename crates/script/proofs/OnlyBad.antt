@@ -7,7 +7,7 @@ use Prim.Native.Nat.{ℕ, _+_, _-_, _/_, _%_, _<_}
 use native.Mathlib.Omega.{arith}
 use lib.Dec.{T, leb, ltb, eqb}
 use lib.Pow.{areBytes as areAll}
-use lib.ListN.{length, take, drop, getD, replicate}
+use lib.ListN.{length, drop, getD, replicate}
 use borrow.Author.Tests.{eq-eqb, eqb-true, le-leb, le-ltb, lt-ltb}
 use Rattle.parts.specs.Pick.{pick}
 use Rattle.parts.specs.Bytes.{areBytes}
@@ -15,19 +15,18 @@ use Rattle.parts.proofs.Bools.{and-left, and-right, and-both, or-cases}
 use Rattle.parts.proofs.Picks.{pick-case}
 use Rattle.crc.specs.Crc.{crcOf, crcBytes, closed}
 use Rattle.crc.proofs.Below.{crc-below}
-use Rattle.tag.specs.declared.Tag.{Tag}
 use Rattle.tag.specs.Layout.{replyBytes}
 use Rattle.tag.specs.Supply.{freshTag}
 use Rattle.model.specs.declared.Answer.the-variants.{Nothing}
 use Rattle.signal_table.specs.Table.{signalTable, signalFound, isFound, signalInRange}
 use Rattle.signal_table.proofs.Laws.{byte-known, frame-known}
 use Rattle.refusals.specs.declared.Judgement.the-variants.{NoRefusal}
-use Rattle.refusals.specs.Call.{Call, handedIn}
-use Rattle.model.specs.Step.{StepResult, FreshResult, freshResult, actOf, stepOf, freshOf, isRefused}
+use Rattle.refusals.specs.Call.{handedIn}
+use Rattle.model.specs.Step.{StepResult, FreshResult, freshResult, stepOf, freshOf, isRefused}
 use Rattle.refusals.specs.Refusals.{argumentRules, judgement, unlessRefused}
 use Rattle.keys.specs.declared.Uid.{Uid}
 use Rattle.rule_list.specs.RuleList.{firstSays}
-use Rattle.refusals.proofs.Laws.{judged-case, NoneApplies, no-refusal}
+use Rattle.refusals.proofs.Laws.{NoneApplies, no-refusal}
 use Rattle.model.proofs.Acts.{signalOfCall, fit-acts}
 use Rattle.model.proofs.Served.{act-served}
 use Rattle.model.proofs.Room.{step-room}

@@ -1,5 +1,5 @@
 -- Racks and calls for the wrong ones. Assumes nothing.
-use mathlib.Core.List.{List, [], _∷_}
+use mathlib.Core.List.{[], _∷_}
 use Prim.Native.Nat.{ℕ}
 use Rattle.refusals.specs.Call.{Call}
 use Rattle.calls.specs.Calls.{Device, device}

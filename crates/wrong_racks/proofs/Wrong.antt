@@ -1,7 +1,7 @@
 -- Each wrong rack told by one list of calls. Assumes nothing.
 use mathlib.Core.Path.{_≡_, refl, sym, ap}
-use mathlib.Core.Bool.{Bool, true, false, false≢true}
-use mathlib.Core.List.{List, [], _∷_, _++_}
+use mathlib.Core.Bool.{true, false, false≢true}
+use mathlib.Core.List.{List, [], _∷_}
 use Prim.Native.Nat.{ℕ}
 use native.Mathlib.Omega.{arith}
 use lib.ListN.{length, getD}
@@ -14,7 +14,7 @@ use Rattle.calls.specs.Examples.{vccTo, fieldTo, stop, endOfFrame, _but_, radio
 use Rattle.rack.specs.Rack.{Rack, racked, rackCall}
 use Rattle.rack.specs.Step.{RackAnswer, rackAnswer}
 use Rattle.wrong_racks.specs.Told.{byTags, byNumber, bySize, byAnswers, RackTold, AllRacksTold}
-use Rattle.wrong_racks.specs.Wrong.{turnsWhere, reaching, frameToFirst, endToFirst, countsWhenQuiet, quietCounts, fieldMisses, movesNext, refusedSteps, replying, highestReply, highestAnswers, replyLength, overlaid, seenPast, misreporting, reportsNone, byTwo, refusesByTwo, leaving, addsTag, addsByte, wrongRacks, WrongRacksTold}
+use Rattle.wrong_racks.specs.Wrong.{turnsWhere, reaching, frameToFirst, endToFirst, countsWhenQuiet, quietCounts, fieldMisses, movesNext, refusedSteps, replying, highestReply, highestAnswers, replyLength, overlaid, seenPast, misreporting, reportsNone, byTwo, refusesByTwo, leaving, addsTag, addsByte, WrongRacksTold}
 use Rattle.wrong_racks.proofs.Computes.{computes-rack}
 use Rattle.wrong_racks.proofs.Racks.{one, other, two, first, inventory, read, present}
 
@@ -103,7 +103,7 @@ seen-past-told h =
 reports-none-told : RackTold byAnswers reportsNone
 unfolding computes-rack misreporting
 reports-none-told h =
-    let f : _≡_ {A = ℕ} 0 2 = ap (λ (l : List RackAnswer). length (firstAnswer l .answered)) (h two (first read ∷ []) refl) in
+    let f : _≡_ {A = ℕ} 0 2 = ap (λ (l : List RackAnswer). length (firstAnswer l .report)) (h two (first read ∷ []) refl) in
     omega arith
 
 -- a Stop to a tag that the rack does not have

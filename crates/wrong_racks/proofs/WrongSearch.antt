@@ -1,17 +1,14 @@
 -- Each wrong search told by one rack. Assumes nothing.
-use mathlib.Core.Path.{_≡_, refl, sym, ap}
-use mathlib.Core.Bool.{Bool, true, false, false≢true}
+use mathlib.Core.Path.{_≡_, refl, ap}
 use mathlib.Core.List.{List, [], _∷_}
-use Prim.Native.Nat.{ℕ, suc, _<_, _≤_}
+use Prim.Native.Nat.{ℕ, _<_}
 use native.Mathlib.Omega.{arith}
 use lib.ListN.{getD}
 use Rattle.tag.specs.Layout.{replyBytes}
 use Rattle.calls.specs.Examples.{zeros, _but_, slotsAre}
 use Rattle.rack.specs.Rack.{Rack, racked, noTag}
 use Rattle.rack.specs.Step.{rackEntry}
-use Rattle.rack_search.specs.declared.SearchAnswer.{SearchAnswer}
-use Rattle.rack_search.specs.declared.SearchAnswer.the-variants.{Refused, NoCollision, Collision}
-use Rattle.rack_search.specs.Claims.{Search, Searches}
+use Rattle.rack_search.specs.Claims.{Searches}
 use Rattle.wrong_racks.specs.WrongSearch.{goesOn, leavesEarly, alwaysSixteen, wantsThree, AllSearchesTold, WrongSearchesTold}
 use Rattle.wrong_racks.proofs.Computes.{computes-search}
 use Rattle.wrong_racks.proofs.Racks.{one, other, three, inventory}

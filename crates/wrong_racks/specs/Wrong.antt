@@ -1,5 +1,5 @@
 -- Racks that are right but for one thing each.
-use mathlib.Core.Bool.{Bool, true, false, not, _&&_, _||_}
+use mathlib.Core.Bool.{Bool, not, _&&_, _||_}
 use mathlib.Core.List.{List, [], _∷_, _++_}
 use Prim.Native.Nat.{ℕ, suc, _+_}
 use lib.Dec.{eqb}
@@ -72,7 +72,7 @@ unfoldable pub replying : (RackCall → List CallAnswer → CallAnswer) → Rack
 replying says rack call =
     let result = rackEntry rack call in
     unlessRefused (judgement (rackRules rack call)) (λ (refusal : Refusal). result)
-    (rackResult (rackAnswer (pick (eqb (call .handed .code) 8) (says call (saidBy (turnsOf entry call 0 (devices rack)))) (result .says .says)) (result .says .answered)) (result .rack))
+    (rackResult (rackAnswer (pick (eqb (call .handed .code) 8) (says call (saidBy (turnsOf entry call 0 (devices rack)))) (result .says .says)) (result .says .report)) (result .rack))
 
 -- "the highest-numbered reply"
 unfoldable pub highestReply : CallAnswer → List CallAnswer → CallAnswer
@@ -121,7 +121,7 @@ byTwo Silence = Silence
 byTwo (Reply n) = Reply n
 
 abbrev pub refusesByTwo : RackStep
-refusesByTwo = misreporting (λ (answer : RackAnswer). rackAnswer (callAnswer (byTwo (answer .says .answer)) (answer .says .buffer)) (answer .answered))
+refusesByTwo = misreporting (λ (answer : RackAnswer). rackAnswer (callAnswer (byTwo (answer .says .answer)) (answer .says .buffer)) (answer .report))
 
 -- ---- more than the rack had
 unfoldable pub leaving : (Rack → Rack) → Rack → RackCall → RackResult

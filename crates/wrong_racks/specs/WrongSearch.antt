@@ -1,8 +1,7 @@
 -- Searches that are right but for one thing each.
-use mathlib.Core.Bool.{Bool, _&&_}
 use mathlib.Core.List.{List, [], _∷_}
 use Prim.Native.Nat.{ℕ, zero, suc}
-use lib.Dec.{leb, ltb, eqb}
+use lib.Dec.{leb, ltb}
 use lib.ListN.{length, getD}
 use Rattle.parts.specs.Pick.{pick}
 use Rattle.refusals.specs.declared.Refusal.{Refusal}
@@ -38,7 +37,7 @@ goesOn = searching (λ (rack : Rack) (o f : List ℕ). lookOn (slotCount f) 0 No
 -- ---- "one that leaves before the last tag got the slot": the signal of the slot that it finds reaches no tag after the second that answers
 abbrev pub upToSecond : RackResult → Rack → RackCall → Rack
 upToSecond result rack call =
-    racked (leftBy (turnsWhere (λ (call : RackCall) (i : ℕ). leb i (getD (result .says .answered) 1 0)) call 0 (devices rack)))
+    racked (leftBy (turnsWhere (λ (call : RackCall) (i : ℕ). leb i (getD (result .says .report) 1 0)) call 0 (devices rack)))
 
 unfoldable pub lookShort : ℕ → ℕ → Rack → RackCall → SearchResult
 lookShort zero k rack call = searchResult NoCollision rack (call .handed .buffer)
@@ -59,7 +58,7 @@ unfoldable pub lookForThree : ℕ → ℕ → Rack → RackCall → SearchResult
 lookForThree zero k rack call = searchResult NoCollision rack (call .handed .buffer)
 lookForThree (suc n) k rack call =
     let result = rackEntry rack call in
-    pick (ltb 2 (length (result .says .answered))) (searchResult (Collision k) (result .rack) (result .says .says .buffer))
+    pick (ltb 2 (length (result .says .report))) (searchResult (Collision k) (result .rack) (result .says .says .buffer))
     (lookForThree n (suc k) (result .rack) (sendsNext result))
 
 abbrev pub wantsThree : Search

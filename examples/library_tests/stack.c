@@ -9,7 +9,7 @@
 
 #include "st25dv.h"
 
-#define ENOUGH 2048u /* docs/LIBRARY.md, "Threads and stack" */
+#define ENOUGH 3072u /* docs/LIBRARY.md, "Threads and stack" */
 #define STACK 65536u
 #define PAINT 0xC7
 #define CALLS 300000

@@ -1,0 +1,11 @@
+use mathlib.Core.Path.{refl}
+use Rattle.rack_reading.specs.Line.{isDigit}
+use Rattle.rack_reading.proofs.is_digit.Statement.{statement}
+use Rattle.rack_reading.proofs.is_digit.Tie as tie
+
+returns : tie.Need-returns
+unfolding isDigit
+returns c = refl
+
+pub is-digit-spec : {M : Type 1} → statement M
+is-digit-spec = tie.close (tie.spec returns)

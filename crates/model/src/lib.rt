@@ -144,7 +144,7 @@ fn by_end_of_frame(t: Tag, m: &[u8], out: &mut [u8], frame: &[u8]) -> Outcome
     }
 }
 
-fn act(signal: Signal, t: Tag, m: &mut [u8], out: &mut [u8], frame: &[u8]) -> Outcome
+pub fn act(signal: Signal, t: Tag, m: &mut [u8], out: &mut [u8], frame: &[u8]) -> Outcome
     ensures { λ r. ⌜ stepResultOf r (now (m .exit)) (now (out .exit)) ≡ actOf signal t (now (m .entry)) (now (out .entry)) (now (frame .entry)) ⌝ }
 {
     match signal {

@@ -19,7 +19,7 @@ fn shown_bytes(n: usize) -> usize
 }
 
 // Stores the text of an answer at a place, and gives the place behind it.
-fn put_answer(answer: Answer, out: &[u8], text: &mut [u8], at: usize) -> usize
+pub fn put_answer(answer: Answer, out: &[u8], text: &mut [u8], at: usize) -> usize
     ensures { λ r. ⌜ stored r (now (text .exit)) ≡ textAt (now (text .entry)) at (answerText answer (now (out .entry))) ⌝ }
 {
     match answer {

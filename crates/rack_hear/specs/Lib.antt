@@ -1,0 +1,2 @@
+pub mod Hear
+pub mod Claims

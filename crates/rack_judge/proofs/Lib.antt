@@ -1,0 +1,3 @@
+pub mod Uids
+pub mod Read
+pub mod Claims

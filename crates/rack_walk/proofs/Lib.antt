@@ -1,0 +1,9 @@
+pub mod Span
+pub mod Gone
+pub mod Pieces
+pub mod Again
+pub mod Values
+pub mod Lent
+pub mod JudgeKept
+pub mod HearMore
+pub mod JudgeMore

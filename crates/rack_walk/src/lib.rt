@@ -1,0 +1,99 @@
+// A rack's tags in a lent slice: each is taken out, worked on by value and stored.
+ghost use mathlib.Core.Path.{_≡_};
+ghost use Prim.Native.Nat.{_<_};
+ghost use lib.ListN.{length};
+ghost use Rattle.rack_judge.specs.Judge.{judgedAll, judgeOneOf, judgeAllOf};
+ghost use Rattle.rack_hear.specs.Hear.{heardAll, hearOneOf, hearAllOf};
+use rack_hear::Heard;
+use rack_judge::Judged;
+use tag::Tag;
+
+// Tag i is read.
+fn judge_one(tags: &mut [Tag], memory: &mut [u8], i: usize, judged: Judged) -> Judged
+    requires { ⌜ i < length (now tags) ⌝ }
+    ensures { λ r. ⌜ judgedAll r (now (tags .exit)) (now (memory .exit)) ≡ judgeOneOf (now (tags .entry)) (now (memory .entry)) i judged ⌝ }
+{
+    rack_judge::judge_tag(tags[i], memory, i, judged)
+}
+
+// Every tag is, in the order of their numbers.
+pub fn judge_all(tags: &mut [Tag], memory: &mut [u8], judged: Judged) -> Judged
+    ensures { λ r. ⌜ judgedAll r (now (tags .exit)) (now (memory .exit)) ≡ judgeAllOf (length (now (tags .entry))) (now (tags .entry)) (now (memory .entry)) judged ⌝ }
+{
+    let mut b = judged;
+    let mut i = 0;
+    while i < tags.len() {
+        b = judge_one(tags, memory, i, b);
+        i += 1;
+    }
+    b
+}
+
+// Tag i hears the call.
+fn hear_one(
+    tags: &mut [Tag],
+    memory: &mut [u8],
+    out: &mut [u8],
+    frame: &[u8],
+    i: usize,
+    heard: Heard,
+) -> Heard
+    requires { ⌜ i < length (now tags) ⌝ }
+    ensures { λ r. ⌜ heardAll r (now (tags .exit)) (now (memory .exit)) (now (out .exit)) ≡ hearOneOf (now (tags .entry)) (now (memory .entry)) (now (out .entry)) (now (frame .entry)) i heard ⌝ }
+{
+    let o = rack_hear::hear_tag(tags[i], memory, out, frame, i, heard);
+    tags[i] = o.tag;
+    o.heard
+}
+
+// Every tag does, in the order of their numbers.
+pub fn hear_all(
+    tags: &mut [Tag],
+    memory: &mut [u8],
+    out: &mut [u8],
+    frame: &[u8],
+    heard: Heard,
+) -> Heard
+    ensures { λ r. ⌜ heardAll r (now (tags .exit)) (now (memory .exit)) (now (out .exit)) ≡ hearAllOf (length (now (tags .entry))) (now (tags .entry)) (now (memory .entry)) (now (out .entry)) (now (frame .entry)) heard ⌝ }
+{
+    let mut b = heard;
+    let mut i = 0;
+    while i < tags.len() {
+        b = hear_one(tags, memory, out, frame, i, b);
+        i += 1;
+    }
+    b
+}
+
+// ---- sixteen tags by value, for code that has no slice of them
+// What a call leaves of them.
+pub struct HeardRack {
+    pub heard: Heard,
+    pub tags: [Tag; 16],
+}
+
+// They are read.
+pub fn judge_sixteen(tags: [Tag; 16], memory: &mut [u8], judged: Judged) -> Judged
+    ensures { λ r. ⌜ judgedAll r tags (now (memory .exit)) ≡ judgeAllOf 16 tags (now (memory .entry)) judged ⌝ }
+{
+    let mut lent = tags;
+    judge_all(&mut lent, memory, judged)
+}
+
+// They hear the call.
+pub fn hear_sixteen(
+    tags: [Tag; 16],
+    memory: &mut [u8],
+    out: &mut [u8],
+    frame: &[u8],
+    heard: Heard,
+) -> HeardRack
+    ensures { λ r. ⌜ heardAll (r .heard) (r .tags) (now (memory .exit)) (now (out .exit)) ≡ hearAllOf 16 tags (now (memory .entry)) (now (out .entry)) (now (frame .entry)) heard ⌝ }
+{
+    let mut lent = tags;
+    let heard = hear_all(&mut lent, memory, out, frame, heard);
+    HeardRack {
+        heard: heard,
+        tags: lent,
+    }
+}

@@ -16,6 +16,8 @@ extern "C" {
 #define ST25DV_UID_BYTES 8u
 #define ST25DV_MEMORY_BYTES 1024u
 #define ST25DV_REPLY_BYTES 643u /* at least */
+/* A rack of n tags has n states end to end, n * ST25DV_STATE_BYTES, and n memories end to end; the tags are numbered from 0. */
+#define ST25DV_RACK_TAGS 16u /* at most */
 
 /* ---- parts of the memory */
 #define ST25DV_MEMORY_AT_USER 0u      /* 512 bytes: user memory */
@@ -38,7 +40,10 @@ extern "C" {
 #define ST25DV_REFUSED_REPLY_SHORT 2u    /* the reply buffer has fewer than ST25DV_REPLY_BYTES */
 #define ST25DV_REFUSED_SIGNAL_UNKNOWN 3u /* the code is unknown, or its value out of range */
 #define ST25DV_REFUSED_STATE_LENGTH 13u  /* the state has not ST25DV_STATE_BYTES */
-#define ST25DV_REFUSED_OUT_OF_RANGE 4u   /* the state's bytes are no state, or one that breaks a range */
+#define ST25DV_REFUSED_OUT_OF_RANGE 4u   /* the state's bytes are no state, or one that breaks a range; of a rack: one tag's */
+#define ST25DV_REFUSED_RACK_SIZE 5u      /* the rack has no tag, or more than ST25DV_RACK_TAGS */
+#define ST25DV_REFUSED_NO_SUCH_TAG 6u    /* the rack has no tag of this number, and the signal goes to one tag */
+#define ST25DV_REFUSED_EQUAL_UIDS 7u     /* two tags of the rack have the same UID */
 #define ST25DV_REFUSED_UID_LENGTH 14u    /* the UID has not ST25DV_UID_BYTES */
 
 /* ---- answers */
@@ -47,6 +52,7 @@ extern "C" {
 #define ST25DV_NOACK 0x102u
 #define ST25DV_SILENCE 0x103u /* no reply to a frame or an end-of-frame */
 #define ST25DV_BYTE 0x200u    /* + the byte fetched, 0 to 255 */
+#define ST25DV_SLOT 0x400u    /* of a search: + the first slot in which two tags answer, 0 to 15; ST25DV_NONE if there is none */
 #define ST25DV_REPLY 0x1000u  /* + the reply's length, its CRC included; it stands in the reply buffer from place 0 on */
 
 /* ---- rules: what st25dv_explain adds to ST25DV_NONE, each with its short name. A number stays when rules are added. */
@@ -199,6 +205,28 @@ uint32_t st25dv_explain(const uint8_t *state, size_t state_bytes,
                         const uint8_t *reply, size_t reply_bytes,
                         uint32_t code, uint32_t value,
                         const uint8_t *frame, size_t frame_bytes);
+
+/* What a rack answers: the number of its answer, and a bit for each tag that replied, bit i for tag i. */
+struct st25dv_rack_answer {
+    uint32_t answer;
+    uint32_t answered;
+};
+
+/* One signal to a rack of tags. ST25DV_FIELD, ST25DV_FRAME and ST25DV_END_OF_FRAME go to all of them, every other signal
+ * to the tag of number `to`, which is read with those alone. The reply is that of the lowest-numbered tag that has one. */
+struct st25dv_rack_answer st25dv_rack_step(uint8_t *states, size_t state_bytes,
+                                           uint8_t *memory, size_t memory_bytes,
+                                           uint8_t *reply, size_t reply_bytes,
+                                           uint32_t tags, uint32_t to, uint32_t code, uint32_t value,
+                                           const uint8_t *frame, size_t frame_bytes);
+
+/* The first slot in which two tags answer: gives all tags the frame and, if it is an inventory of sixteen slots, ends of
+ * frame, and stops at that slot. The tags really get them. Answers ST25DV_SLOT + the slot, ST25DV_NONE or a refusal. */
+uint32_t st25dv_rack_search(uint8_t *states, size_t state_bytes,
+                            uint8_t *memory, size_t memory_bytes,
+                            uint8_t *reply, size_t reply_bytes,
+                            uint32_t tags,
+                            const uint8_t *frame, size_t frame_bytes);
 
 /* The CRC of a list of bytes (ISO/IEC 13239). A frame ends in that of the bytes before it, low byte first. */
 uint16_t st25dv_crc(const uint8_t *bytes, size_t count);

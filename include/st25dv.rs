@@ -6,6 +6,7 @@ pub const STATE_BYTES: usize = 87;
 pub const UID_BYTES: usize = 8;
 pub const MEMORY_BYTES: usize = 1024;
 pub const REPLY_BYTES: usize = 643;
+pub const RACK_TAGS: u32 = 16;
 pub const MEMORY_AT_USER: usize = 0;
 pub const MEMORY_AT_MAILBOX: usize = 512;
 pub const MEMORY_AT_PAGE: usize = 768;
@@ -23,12 +24,16 @@ pub const REFUSED_REPLY_SHORT: u32 = 2;
 pub const REFUSED_SIGNAL_UNKNOWN: u32 = 3;
 pub const REFUSED_STATE_LENGTH: u32 = 13;
 pub const REFUSED_OUT_OF_RANGE: u32 = 4;
+pub const REFUSED_RACK_SIZE: u32 = 5;
+pub const REFUSED_NO_SUCH_TAG: u32 = 6;
+pub const REFUSED_EQUAL_UIDS: u32 = 7;
 pub const REFUSED_UID_LENGTH: u32 = 14;
 pub const NONE: u32 = 0x100;
 pub const ACK: u32 = 0x101;
 pub const NOACK: u32 = 0x102;
 pub const SILENCE: u32 = 0x103;
 pub const BYTE: u32 = 0x200;
+pub const SLOT: u32 = 0x400;
 pub const REPLY: u32 = 0x1000;
 pub const RULE_LEG_SPOILED: u32 = 1;
 pub const RULE_OUTSIDE_MAP: u32 = 2;
@@ -143,8 +148,16 @@ pub const BUS_DATA_LEG: u32 = 5;
 pub const SPACE_USER: u32 = 0;
 pub const SPACE_SYSTEM: u32 = 1;
 
+#[repr(C)]
+#[derive(Clone, Copy, Debug, PartialEq, Eq)]
+pub struct RackAnswer {
+    pub answer: u32,
+    pub answered: u32,
+}
+
 #[link(name = "capi", kind = "static")]
 #[link(name = "capi_explain", kind = "static")]
+#[link(name = "capi_rack", kind = "static")]
 extern "C" {
     pub fn st25dv_fresh(
         uid: *const u8,
@@ -175,6 +188,31 @@ extern "C" {
         reply_bytes: usize,
         code: u32,
         value: u32,
+        frame: *const u8,
+        frame_bytes: usize,
+    ) -> u32;
+    pub fn st25dv_rack_step(
+        states: *mut u8,
+        state_bytes: usize,
+        memory: *mut u8,
+        memory_bytes: usize,
+        reply: *mut u8,
+        reply_bytes: usize,
+        tags: u32,
+        to: u32,
+        code: u32,
+        value: u32,
+        frame: *const u8,
+        frame_bytes: usize,
+    ) -> RackAnswer;
+    pub fn st25dv_rack_search(
+        states: *mut u8,
+        state_bytes: usize,
+        memory: *mut u8,
+        memory_bytes: usize,
+        reply: *mut u8,
+        reply_bytes: usize,
+        tags: u32,
         frame: *const u8,
         frame_bytes: usize,
     ) -> u32;

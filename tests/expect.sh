@@ -93,6 +93,9 @@ gone() { # PID
     ! process "$1" || [ "$state" = Z ]
 }
 
+# The answers of `answers_at_once`, each behind its line's number.
+at_once='1 - 2 N 3 - 4 A'
+
 # Writes lines to a command, the second in two pieces, and asks for each answer before it goes on. Names of rules do not
 # count.
 answers_at_once() { # COMMAND..
@@ -109,7 +112,8 @@ answers_at_once() { # COMMAND..
     exec 8<&-
     wait "$!"
     status=$?
-    printf '%s\n' 1 - 2 N 3 - 4 A | paste - - > "$room/wanted"
+    # shellcheck disable=SC2086
+    printf '%s\n' $at_once | paste - - > "$room/wanted"
     printf '%s\n' "$one" "$two" "$last" | cut -f1,2 | cmp -s - "$room/wanted" || failed "the answers are $one, $two, $last"
     no_err
     status_is 0

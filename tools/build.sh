@@ -155,6 +155,7 @@ run_rt() { # LOG WORD..
 who_builds() { # CRATE
     case $1 in
     explain) echo ./bench --explain ;;
+    rack_bench) echo ./bench --rack ;;
     *) echo ./bench ;;
     esac
 }
@@ -191,13 +192,14 @@ build() { # CRATE FILE COMMAND
     done
 }
 
-# The bench program, or `explain`, which names rules.
+# The bench program, or `explain`, which names rules, or `rack_bench`, of several tags.
 build_program() { # [NAME]
     build "${1:-bench}" "target/bin/${1:-bench}" check
 }
 
-# Both archives: what steps a tag, and what explains a call.
+# The archives: what steps a tag, what explains a call, and a rack's calls.
 build_library() {
     build capi target/staticlib/libcapi.a staticlib &&
-        build capi_explain target/staticlib/libcapi_explain.a staticlib
+        build capi_explain target/staticlib/libcapi_explain.a staticlib &&
+        build capi_rack target/staticlib/libcapi_rack.a staticlib
 }

@@ -1,5 +1,5 @@
 /* Every number of st25dv.h against the library, by its name: signals, answers, refusals, rules, lengths, and places and
- * values of the state. The test keeps an image of what is lent, changes it by the header's names as document 01 says, and
+ * values of the state; the calls for racks too. The test keeps an image of what is lent, changes it by the header's names as document 01 says, and
  * compares all of it with what the library left after each call. st25dv_explain is asked before each st25dv_step. Prints
  * what failed; ends with 1 if anything did. */
 #include <stdio.h>
@@ -816,6 +816,148 @@ static void null_buffers(void)
     hand_in("empty frame", NULL, 0, ST25DV_SILENCE, ST25DV_RULE_FRAME_LENGTH);
 }
 
+/* ---- racks: the same of calls over several tags, one more than a rack has */
+#define MOST ((size_t)ST25DV_RACK_TAGS + 1)
+
+struct rack {
+    uint8_t states[MOST * ST25DV_STATE_BYTES + 1], memory[MOST * ST25DV_MEMORY_BYTES + 1], reply[ST25DV_REPLY_BYTES];
+};
+
+static struct rack held;   /* what the library has */
+static struct rack wanted; /* what it should have */
+
+/* Place `place` of tag i's state. */
+static uint8_t *at(size_t i, size_t place)
+{
+    static uint8_t nowhere;
+    if (place < ST25DV_STATE_BYTES)
+        return &wanted.states[i * ST25DV_STATE_BYTES + place];
+    outside(place, ST25DV_STATE_BYTES);
+    return &nowhere;
+}
+
+/* Fresh tags, the lowest byte of whose UID is their number. */
+static void fresh_rack(void)
+{
+    size_t i;
+    memset(&wanted, 0x33, sizeof wanted);
+    for (i = 0; i < MOST; i++) {
+        uint8_t own[ROOM];
+        memcpy(own, uid, sizeof own);
+        own[0] = (uint8_t)i;
+        agree("a fresh tag of a rack", st25dv_fresh(own, ST25DV_UID_BYTES, &wanted.memory[i * ST25DV_MEMORY_BYTES], ST25DV_MEMORY_BYTES, at(i, 0), ST25DV_STATE_BYTES), ST25DV_NONE);
+    }
+    held = wanted;
+}
+
+static void compare_rack(const char *what)
+{
+    if (memcmp(held.states, wanted.states, sizeof held.states) != 0)
+        fail(what, "states, rack", 0, 0, 0);
+    if (memcmp(held.memory, wanted.memory, sizeof held.memory) != 0)
+        fail(what, "memories, rack", 0, 0, 0);
+    if (memcmp(held.reply, wanted.reply, sizeof held.reply) != 0)
+        fail(what, "reply, rack", 0, 0, 0);
+    wanted = held;
+}
+
+/* A step of the first tags with no fault in its lengths. */
+static void rack_step(const char *what, uint32_t tags, uint32_t to, uint32_t code, uint32_t value, const uint8_t *frame, size_t n, uint32_t answer, uint32_t answered)
+{
+    struct st25dv_rack_answer is = st25dv_rack_step(held.states, tags * ST25DV_STATE_BYTES, held.memory, tags * ST25DV_MEMORY_BYTES, held.reply, ST25DV_REPLY_BYTES, tags, to, code, value, frame, n);
+    agree(what, is.answer, answer);
+    if (is.answered != answered)
+        fail(what, "tags that answered", 0, is.answered, answered);
+}
+
+/* A request to all tags, closed with its CRC. */
+static size_t closed(uint8_t *frame, const uint8_t *request, size_t n)
+{
+    uint16_t crc = st25dv_crc(request, n);
+    memcpy(frame, request, n);
+    frame[n] = (uint8_t)(crc & 0xFF);
+    frame[n + 1] = (uint8_t)(crc >> 8);
+    return n + 2;
+}
+
+/* A signal to one tag, one to all, and a frame that all answer. */
+static void rack_signals(void)
+{
+    static const uint8_t read_block[] = {0x02, 0x20, 0x00};
+    static const uint8_t block[] = {0x00, 0x00, 0x00, 0x00, 0x00, 0x77, 0xCF};
+    uint8_t frame[8];
+    size_t i, n = closed(frame, read_block, sizeof read_block);
+    fresh_rack();
+    *at(ST25DV_RACK_TAGS - 1, ST25DV_AT_VCC) = 1;
+    rack_step("VCC of the last tag", ST25DV_RACK_TAGS, ST25DV_RACK_TAGS - 1, ST25DV_VCC, 1, NULL, 0, ST25DV_NONE, 0);
+    compare_rack("VCC of the last tag");
+    for (i = 0; i < ST25DV_RACK_TAGS; i++)
+        *at(i, ST25DV_AT_FIELD) = 1;
+    rack_step("field of all tags", ST25DV_RACK_TAGS, ST25DV_RACK_TAGS, ST25DV_FIELD, 1, NULL, 0, ST25DV_NONE, 0);
+    compare_rack("field of all tags");
+    memcpy(wanted.reply, block, sizeof block);
+    rack_step("a frame to all tags", ST25DV_RACK_TAGS, 0, ST25DV_FRAME, 0, frame, n, ST25DV_REPLY + 7, 0xFFFF);
+    compare_rack("a frame to all tags");
+    rack_step("a signal to no tag", ST25DV_RACK_TAGS, ST25DV_RACK_TAGS, ST25DV_STOP, 0, NULL, 0, ST25DV_REFUSED_NO_SUCH_TAG, 0);
+    rack_step("a rack without tags", 0, 0, ST25DV_FIELD, 0, NULL, 0, ST25DV_REFUSED_RACK_SIZE, 0);
+    compare_rack("refused rack calls");
+}
+
+/* The first three tags answer in slots 0, 1 and 2, the fourth in slot 2 too. */
+static void rack_search(void)
+{
+    static const uint8_t sixteen[] = {0x06, 0x01, 0x00};
+    uint8_t frame[8];
+    size_t i, n = closed(frame, sixteen, sizeof sixteen);
+    fresh_rack();
+    for (i = 0; i < MOST; i++)
+        *at(i, ST25DV_AT_FIELD) = 1;
+    *at(3, ST25DV_AT_UID) = 0x12;
+    held = wanted;
+    agree("no slot of two", st25dv_rack_search(held.states, 3 * ST25DV_STATE_BYTES, held.memory, 3 * ST25DV_MEMORY_BYTES, held.reply, ST25DV_REPLY_BYTES, 3, frame, n), ST25DV_NONE);
+    agree("slot 2", st25dv_rack_search(held.states, 4 * ST25DV_STATE_BYTES, held.memory, 4 * ST25DV_MEMORY_BYTES, held.reply, ST25DV_REPLY_BYTES, 4, frame, n), ST25DV_SLOT + 2);
+    memcpy(wanted.reply, held.reply, 12); /* the reply of the last slot */
+    compare_rack("searches");
+}
+
+/* Every set of faults, bit k the k-th in the order in which they are judged; a search has no signal and no tag's number. */
+static void refused_racks(void)
+{
+    static const uint32_t order[] = {
+        ST25DV_REFUSED_MEMORY_LENGTH, ST25DV_REFUSED_REPLY_SHORT, ST25DV_REFUSED_SIGNAL_UNKNOWN, ST25DV_REFUSED_STATE_LENGTH, ST25DV_REFUSED_OUT_OF_RANGE,
+        ST25DV_REFUSED_RACK_SIZE, ST25DV_REFUSED_NO_SUCH_TAG, ST25DV_REFUSED_EQUAL_UIDS,
+    };
+    unsigned faults;
+    fresh_rack();
+    for (faults = 1; faults < 256; faults++) {
+        uint32_t tags = faults & 32 ? ST25DV_RACK_TAGS + 1 : 2;
+        size_t state = tags * ST25DV_STATE_BYTES + (faults >> 3 & 1), memory = tags * ST25DV_MEMORY_BYTES + (faults & 1), reply = ST25DV_REPLY_BYTES - (faults >> 1 & 1);
+        struct st25dv_rack_answer is;
+        *at(1, ST25DV_AT_BUS) = faults & 16 ? ST25DV_BUS_DATA_LEG + 1 : ST25DV_BUS_IDLE;
+        *at(1, ST25DV_AT_UID) = faults & 128 ? 0 : 1;
+        held = wanted;
+        is = st25dv_rack_step(held.states, state, held.memory, memory, held.reply, reply, tags, faults & 64 ? tags : 1, ST25DV_FETCH, faults & 4 ? 2 : 1, NULL, 0);
+        agree("rack step with faults", is.answer, first_fault(faults, order, COUNT(order)));
+        if (is.answered != 0)
+            fail("rack step with faults", "tags that answered", 0, is.answered, 0);
+        if (faults & ~0x44u)
+            agree("rack search with faults", st25dv_rack_search(held.states, state, held.memory, memory, held.reply, reply, tags, NULL, 0), first_fault(faults & ~0x44u, order, COUNT(order)));
+        compare_rack("rack calls with faults");
+    }
+}
+
+static void null_racks(void)
+{
+    fresh_rack();
+    agree("no memories", st25dv_rack_step(held.states, ST25DV_STATE_BYTES, NULL, 0, held.reply, ST25DV_REPLY_BYTES, 1, 0, ST25DV_STOP, 0, NULL, 0).answer, ST25DV_REFUSED_MEMORY_LENGTH);
+    agree("no reply of a rack", st25dv_rack_step(held.states, ST25DV_STATE_BYTES, held.memory, ST25DV_MEMORY_BYTES, NULL, 0, 1, 0, ST25DV_STOP, 0, NULL, 0).answer, ST25DV_REFUSED_REPLY_SHORT);
+    agree("no states", st25dv_rack_step(NULL, 0, held.memory, ST25DV_MEMORY_BYTES, held.reply, ST25DV_REPLY_BYTES, 1, 0, ST25DV_STOP, 0, NULL, 0).answer, ST25DV_REFUSED_STATE_LENGTH);
+    agree("no rack", st25dv_rack_search(NULL, 0, NULL, 0, held.reply, ST25DV_REPLY_BYTES, 0, NULL, 0), ST25DV_REFUSED_RACK_SIZE);
+    agree("no memories to search", st25dv_rack_search(held.states, ST25DV_STATE_BYTES, NULL, 0, held.reply, ST25DV_REPLY_BYTES, 1, NULL, 0), ST25DV_REFUSED_MEMORY_LENGTH);
+    agree("no reply of a search", st25dv_rack_search(held.states, ST25DV_STATE_BYTES, held.memory, ST25DV_MEMORY_BYTES, NULL, 0, 1, NULL, 0), ST25DV_REFUSED_REPLY_SHORT);
+    compare_rack("null buffers of a rack");
+}
+
 int main(void)
 {
     reads();
@@ -838,6 +980,10 @@ int main(void)
     refused_steps();
     refused_fresh();
     null_buffers();
+    rack_signals();
+    rack_search();
+    refused_racks();
+    null_racks();
     if (failures == 0)
         printf("header_test: every number of the header is the library's\n");
     else

@@ -1,6 +1,7 @@
 /* How much stack the library takes. Each function runs on a stack of its own that is painted before; the deepest byte
  * that lost its paint tells. The signals come from a fixed random source, which reaches every kind of leg and every
- * command, the longest frames and replies among them. Prints the bytes; ends with 1 if less than a fifth is left of what
+ * command, the longest frames and replies among them. A whole rack gets them too: its tag 0 all of them, and must end as
+ * the tag alone, the others those that go to all. Prints the bytes; ends with 1 if less than a fifth is left of what
  * docs/LIBRARY.md says is enough. */
 #define _XOPEN_SOURCE 700
 #include <stdio.h>
@@ -9,17 +10,20 @@
 
 #include "st25dv.h"
 
-#define ENOUGH 3072u /* docs/LIBRARY.md, "Threads and stack" */
+#define ENOUGH 3072u       /* docs/LIBRARY.md, "Threads and stack" */
+#define RACK_ENOUGH 16384u /* the same of a rack's calls */
 #define STACK 65536u
 #define PAINT 0xC7
 #define CALLS 300000
 #define PICK(a) (a)[below(sizeof(a))]
 
-enum function { FRESH, CRC, EXPLAIN, STEP, FUNCTIONS };
+enum function { FRESH, CRC, EXPLAIN, STEP, RACK_STEP, RACK_SEARCH, FUNCTIONS };
 
 static uint8_t stacks[FUNCTIONS][STACK], state[ST25DV_STATE_BYTES], memory[ST25DV_MEMORY_BYTES], reply[ST25DV_REPLY_BYTES];
-static uint8_t frame[600];
-static size_t frame_bytes;
+static uint8_t states[ST25DV_RACK_TAGS * ST25DV_STATE_BYTES], memories[ST25DV_RACK_TAGS * ST25DV_MEMORY_BYTES];
+static uint8_t searched_states[sizeof states], searched_memories[sizeof memories], frame[600];
+static const uint8_t *sought; /* the frame of a search */
+static size_t frame_bytes, sought_bytes;
 static uint32_t code, value, answer;
 static ucontext_t outside, inside;
 
@@ -131,9 +135,19 @@ static void crc(void)
     answer = st25dv_crc(frame, frame_bytes);
 }
 
+static void rack_step(void)
+{
+    answer = st25dv_rack_step(states, sizeof states, memories, sizeof memories, reply, sizeof reply, ST25DV_RACK_TAGS, 0, code, value, frame, frame_bytes).answer;
+}
+
+static void rack_search(void)
+{
+    answer = st25dv_rack_search(searched_states, sizeof states, searched_memories, sizeof memories, reply, sizeof reply, ST25DV_RACK_TAGS, sought, sought_bytes);
+}
+
 static void run_inside(enum function which)
 {
-    static void (*const functions[FUNCTIONS])(void) = {fresh, crc, explain, step};
+    static void (*const functions[FUNCTIONS])(void) = {fresh, crc, explain, step, rack_step, rack_search};
     getcontext(&inside);
     inside.uc_stack.ss_sp = stacks[which];
     inside.uc_stack.ss_size = STACK;
@@ -153,7 +167,7 @@ static unsigned depth(enum function which)
 
 static int fits(enum function which)
 {
-    return 5 * depth(which) <= 4 * ENOUGH;
+    return 5 * depth(which) <= 4 * (which >= RACK_STEP ? RACK_ENOUGH : ENOUGH);
 }
 
 static int refused(enum function which)
@@ -164,11 +178,48 @@ static int refused(enum function which)
     return answer < ST25DV_NONE;
 }
 
+/* Tag 0 is the tag alone, the others have other UIDs. */
+static void fresh_rack(void)
+{
+    uint8_t other[sizeof uid];
+    unsigned i;
+    memcpy(other, uid, sizeof uid);
+    for (i = 0; i < ST25DV_RACK_TAGS; i++, other[0]++)
+        st25dv_fresh(other, sizeof other, memories + i * sizeof memory, sizeof memory, states + i * sizeof state, sizeof state);
+}
+
+/* A search over a copy of the rack, since it sends what it is given: the frame, or an inventory of sixteen slots. */
+static int searches(void)
+{
+    static uint8_t inventory[] = {0x06, 0x01, 0x00, 0x00, 0x00};
+    uint16_t crc = st25dv_crc(inventory, 3);
+    int own = below(2);
+    inventory[3] = (uint8_t)(crc & 0xFF);
+    inventory[4] = (uint8_t)(crc >> 8);
+    sought = own ? frame : inventory;
+    sought_bytes = own ? frame_bytes : sizeof inventory;
+    memcpy(searched_states, states, sizeof states);
+    memcpy(searched_memories, memories, sizeof memories);
+    return !refused(RACK_SEARCH);
+}
+
+/* The rack gets the signal. False if it is refused, or its tag 0 is not the tag alone. */
+static int rack_agrees(void)
+{
+    if (refused(RACK_STEP))
+        return 0;
+    if (memcmp(states, state, sizeof state) == 0 && memcmp(memories, memory, sizeof memory) == 0)
+        return 1;
+    printf("stack: tag 0 of the rack is not the tag alone\n");
+    return 0;
+}
+
 int main(void)
 {
     unsigned i, longest = 0;
     memset(stacks, PAINT, sizeof stacks);
     run_inside(FRESH);
+    fresh_rack();
     make_frame();
     run_inside(CRC);
     for (i = 0; i < CALLS; i++) {
@@ -177,7 +228,9 @@ int main(void)
             return 1;
         if (answer > longest)
             longest = answer;
+        if (!rack_agrees() || (i % 50 == 0 && !searches()))
+            return 1;
     }
-    printf("stack: fresh %u, crc %u, explain %u, step %u bytes; longest reply %u\n", depth(FRESH), depth(CRC), depth(EXPLAIN), depth(STEP), longest - ST25DV_REPLY);
-    return !(fits(FRESH) && fits(CRC) && fits(EXPLAIN) && fits(STEP));
+    printf("stack: fresh %u, crc %u, explain %u, step %u, rack step %u, rack search %u bytes; longest reply %u\n", depth(FRESH), depth(CRC), depth(EXPLAIN), depth(STEP), depth(RACK_STEP), depth(RACK_SEARCH), longest - ST25DV_REPLY);
+    return !(fits(FRESH) && fits(CRC) && fits(EXPLAIN) && fits(STEP) && fits(RACK_STEP) && fits(RACK_SEARCH));
 }

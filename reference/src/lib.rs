@@ -24,5 +24,6 @@ pub mod radio;
 pub mod script;
 pub mod state;
 pub mod tag;
+pub mod timing;
 pub mod verdict;
 pub mod wire;

@@ -6,8 +6,9 @@ ghost use mathlib.Core.Bool.{false};
 ghost use Prim.Native.Nat.{_≤_};
 ghost use lib.ListN.{length, take};
 ghost use Rattle.script.specs.Lines.{benchState};
-ghost use Rattle.stream.specs.Step.{textRoom};
-ghost use Rattle.stream_claims.specs.Flow.{flowOf, Reaches};
+ghost use Rattle.line_stream.specs.Step.{textRoom};
+ghost use Rattle.line_stream.specs.Flow.{flowOf, Reaches};
+ghost use Rattle.stream.specs.Program.{benchProgram};
 use bench_start::Bench;
 
 // Where a run stands: the tag and the number of lines, how many bytes of an unfinished line are kept, and whether to
@@ -82,7 +83,7 @@ fn piece(
     out: &mut [u8],
 ) -> Progress
     requires { ⌜ textRoom ≤ length (now out) ⌝ }
-    ensures { λ q. ⌜ Reaches (q .more) (benchState (q .bench) (now (m .exit)) (now (reply .exit))) (take (q .have) (now (kept .exit))) (flowOf named (benchState (run .bench) (now (m .entry)) (now (reply .entry))) (take (run .have) (now (kept .entry))) (now (s .entry))) ⌝ }
+    ensures { λ q. ⌜ Reaches (q .more) (benchState (q .bench) (now (m .exit)) (now (reply .exit))) (take (q .have) (now (kept .exit))) (flowOf (benchProgram named) (benchState (run .bench) (now (m .entry)) (now (reply .entry))) (take (run .have) (now (kept .entry))) (now (s .entry))) ⌝ }
 {
     let mut bench = run.bench;
     let mut have = run.have;

@@ -22,7 +22,7 @@ use Rattle.next_state.specs.After.{stateAfter}
 use Rattle.capi.specs.Claims.{RefusedStepKeeps, RefusedFreshKeeps}
 
 -- a number below 0x100 is a refusal's
-number-refused : (a : Answer) → answerNumber a < 0x100 → isRefused a ≡ true
+pub number-refused : (a : Answer) → answerNumber a < 0x100 → isRefused a ≡ true
 unfolding answerNumber isRefused
 number-refused (Refused r) h = refl
 number-refused Nothing h = absurd (omega arith)

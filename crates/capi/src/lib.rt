@@ -1,6 +1,9 @@
 // The tag for programs in C and Rust: functions over numbers and lent bytes. What a number can tell is judged here; docs/LIBRARY.md says what a caller owes.
 ghost use mathlib.Core.Path.{_≡_};
-ghost use mathlib.Core.Bool.{true};
+ghost use Prim.Native.Nat.{_+_};
+ghost use lib.Dec.{leb};
+ghost use Rattle.parts.specs.Pick.{pick};
+ghost use Rattle.tag.specs.Layout.{replyBytes};
 ghost use Rattle.crc.specs.Crc.{crcOf};
 ghost use Rattle.refusals.specs.Call.{handedIn};
 ghost use Rattle.replies_fit.specs.Claims.{replyFits};
@@ -10,9 +13,19 @@ use model::Answer;
 use refusals::Judgement;
 
 // ---- the answers
-fn answer_number(answer: Answer) -> u32
-    requires { ⌜ replyFits answer ≡ true ⌝ }
-    ensures { λ r. ⌜ r ≡ answerNumber answer ⌝ }
+// Of a reply's length. No reply is longer than the shortest buffer for it.
+fn reply_number(n: usize) -> u32
+    ensures { λ r. ⌜ r ≡ pick (leb n replyBytes) (0x1000 + n) 0 ⌝ }
+{
+    if n <= tag::REPLY_BYTES {
+        return 0x1000 + n as u32;
+    }
+    0
+}
+
+// Of an answer.
+pub fn answer_number(answer: Answer) -> u32
+    ensures { λ r. ⌜ r ≡ pick (replyFits answer) (answerNumber answer) 0 ⌝ }
 {
     match answer {
         Answer::Refused(r) => r.number() as u32,
@@ -21,7 +34,7 @@ fn answer_number(answer: Answer) -> u32
         Answer::NoAck => 0x102,
         Answer::Byte(x) => 0x200 + x as u32,
         Answer::Silence => 0x103,
-        Answer::Reply(n) => 0x1000 + n as u32,
+        Answer::Reply(n) => reply_number(n),
     }
 }
 

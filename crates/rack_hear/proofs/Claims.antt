@@ -45,7 +45,7 @@ unfolding hearAllOf
 all-suc i ts m o f a = refl
 
 -- one that is not of the rack
-past : (i : ℕ) (f : List ℕ) (w : HeardAll) → w .answer .number ≤ i → hearOnward i f w ≡ w
+pub past : (i : ℕ) (f : List ℕ) (w : HeardAll) → w .answer .number ≤ i → hearOnward i f w ≡ w
 unfolding hearOneOf hearOf
 past i f w h =
     ap (λ (x : HeardResult). putBack (w .tags) i x)

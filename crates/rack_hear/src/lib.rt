@@ -61,7 +61,7 @@ fn no_reply(code: u32) -> Answer
 }
 
 // A call that is not refused, before the first tag.
-fn hear_start(number: usize, code: u32, value: u32, to: usize) -> Heard
+pub fn hear_start(number: usize, code: u32, value: u32, to: usize) -> Heard
     ensures { λ r. ⌜ r ≡ hearStart number code value to ⌝ }
 {
     Heard {

@@ -129,11 +129,11 @@ searched-as : (r : Rack) (o f : List ℕ) (j : Judgement) → judgement (searchR
 unfolding searchOf
 searched-as r o f j h = ap (λ (j : Judgement). unlessRefused j (λ (x : Refusal). searchResult (Refused x) r o) (look rackEntry (slotCount f) 0 r (sendsFrame o f))) h
 
-search-refused : (r : Rack) (o f : List ℕ) (x : Refusal) → judgement (searchRules r o) ≡ RefusedBy x → searchEntry r o f ≡ searchResult (Refused x) r o
+pub search-refused : (r : Rack) (o f : List ℕ) (x : Refusal) → judgement (searchRules r o) ≡ RefusedBy x → searchEntry r o f ≡ searchResult (Refused x) r o
 unfolding unlessRefused
 search-refused r o f x h = searched-as r o f (RefusedBy x) h
 
-search-looks : (r : Rack) (o f : List ℕ) → judgement (searchRules r o) ≡ NoRefusal → searchEntry r o f ≡ look rackEntry (slotCount f) 0 r (sendsFrame o f)
+pub search-looks : (r : Rack) (o f : List ℕ) → judgement (searchRules r o) ≡ NoRefusal → searchEntry r o f ≡ look rackEntry (slotCount f) 0 r (sendsFrame o f)
 unfolding unlessRefused
 search-looks r o f h = searched-as r o f NoRefusal h
 
@@ -159,7 +159,7 @@ answer-judged r o f = by (judgement (searchRules r o)) refl
     by (RefusedBy x) h = ap (λ (l : SearchResult). judgementIn (l .answer)) (search-refused r o f x h) ∙ sym h
 
 -- ---- what is found
-formed-of : (r : Rack) (o : List ℕ) → judgement (searchRules r o) ≡ NoRefusal → Formed r × (replyBytes ≤ length o)
+pub formed-of : (r : Rack) (o : List ℕ) → judgement (searchRules r o) ≡ NoRefusal → Formed r × (replyBytes ≤ length o)
 unfolding NoneApplies
 formed-of r o h =
     let p = none-applies (searchRules r o) h in (

@@ -1,9 +1,10 @@
 -- The machine values of a tag and of what is carried from tag to tag, kept shut: a walk hands them on and never looks into them. Assumes nothing.
 use mathlib.Core.Path.{_≡_, refl, _∙_, ap}
 use mathlib.Core.List.{List, [], _∷_, map}
-use Prim.Native.Nat.{suc}
+use Prim.Native.Nat.{suc, _<_, _^_}
 use lib.ListN.{length}
-use mir.Val.{Val, Vals, vstruct, vcons, vnil}
+use mir.Syntax.{w64}
+use mir.Val.{Val, Vals, vunit, vbool, vint, vfloat, vptr, vstruct, vcons, vnil}
 use denote.RattleType.{RattleType}
 use denote.Shadow.{shadow}
 use denote.Laws.{Is}
@@ -27,6 +28,22 @@ use Rattle.rack_walk.specs.declared.HeardRack.{HeardRack}
 use Rattle.rack_walk.proofs.HeardRack as B
 use Rattle.rack_walk.proofs.HeardRack.Laws as B′
 
+-- a struct's fields but the first
+abbrev fieldsOf : Val → Vals
+fieldsOf vunit = vnil
+fieldsOf (vbool b) = vnil
+fieldsOf (vint w n) = vnil
+fieldsOf (vfloat f x) = vnil
+fieldsOf (vptr b o) = vnil
+fieldsOf (vstruct vs) = vs
+
+abbrev tailOf : Vals → Vals
+tailOf vnil = vnil
+tailOf (vcons v vs) = vs
+
+abbrev restOf : Val → Vals
+restOf v = tailOf (fieldsOf v)
+
 -- ---- a tag
 unfoldable pub tagVal : Tag → Val
 tagVal t = LL.val T.the-type T′.the-laws t
@@ -49,6 +66,17 @@ pub heard-tells : (a : Heard) (vs : List Val) → Is R.the-row a vs → vs ≡ h
 unfolding heardVal
 heard-tells a vs is = LL.tells R.the-type R′.the-laws a vs is
 
+-- its first field is shown, the rest kept shut
+unfoldable pub heardRest : Heard → Vals
+heardRest a = restOf (LL.val R.the-type R′.the-laws a)
+
+pub heard-shown : (a : Heard) → heardVal a ≡ vstruct (vcons (vint w64 (a .number)) (heardRest a))
+unfolding heardVal heardRest
+heard-shown a = refl
+
+pub heard-number-fits : (a : Heard) → Is R.the-row a (heardVals a) → a .number < 2 ^ 64
+heard-number-fits a is = LL.owed R.the-type R′.the-laws a _ is .0 .1
+
 -- ---- what was read
 unfoldable pub judgedVal : Judged → Val
 judgedVal a = LL.val J.the-type J′.the-laws a
@@ -59,6 +87,16 @@ judgedVals a = judgedVal a ∷ []
 pub judged-tells : (a : Judged) (vs : List Val) → Is J.the-row a vs → vs ≡ judgedVals a
 unfolding judgedVal
 judged-tells a vs is = LL.tells J.the-type J′.the-laws a vs is
+
+unfoldable pub judgedRest : Judged → Vals
+judgedRest a = restOf (LL.val J.the-type J′.the-laws a)
+
+pub judged-shown : (a : Judged) → judgedVal a ≡ vstruct (vcons (vint w64 (a .number)) (judgedRest a))
+unfolding judgedVal judgedRest
+judged-shown a = refl
+
+pub judged-number-fits : (a : Judged) → Is J.the-row a (judgedVals a) → a .number < 2 ^ 64
+judged-number-fits a is = LL.owed J.the-type J′.the-laws a _ is .0 .1
 
 -- ---- both
 abbrev pub heardTagVals : HeardTag → Vals

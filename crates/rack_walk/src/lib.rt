@@ -20,9 +20,10 @@ fn judge_one(tags: &mut [Tag], memory: &mut [u8], i: usize, judged: Judged) -> J
 pub fn judge_all(tags: &mut [Tag], memory: &mut [u8], judged: Judged) -> Judged
     ensures { λ r. ⌜ judgedAll r (now (tags .exit)) (now (memory .exit)) ≡ judgeAllOf (length (now (tags .entry))) (now (tags .entry)) (now (memory .entry)) judged ⌝ }
 {
+    let n = judged.number;
     let mut b = judged;
     let mut i = 0;
-    while i < tags.len() {
+    while (i < tags.len()) & (i < n) {
         b = judge_one(tags, memory, i, b);
         i += 1;
     }
@@ -56,9 +57,10 @@ pub fn hear_all(
 ) -> Heard
     ensures { λ r. ⌜ heardAll r (now (tags .exit)) (now (memory .exit)) (now (out .exit)) ≡ hearAllOf (length (now (tags .entry))) (now (tags .entry)) (now (memory .entry)) (now (out .entry)) (now (frame .entry)) heard ⌝ }
 {
+    let n = heard.number;
     let mut b = heard;
     let mut i = 0;
-    while i < tags.len() {
+    while (i < tags.len()) & (i < n) {
         b = hear_one(tags, memory, out, frame, i, b);
         i += 1;
     }

@@ -1,3 +1,1 @@
-pub mod Steps
-pub mod Held
-pub mod Turn
+pub mod Program

@@ -8,7 +8,8 @@ ghost use Rattle.parts.specs.Pick.{pick};
 ghost use Rattle.script.specs.Bench.{lineBuffers, putLine};
 ghost use Rattle.script.specs.Lines.{benchState, lineFrom};
 ghost use Rattle.unfinished.specs.Kept.{keptMost};
-ghost use Rattle.stream.specs.Step.{textRoom, pieceBy, endOf, streamBuffers, puts};
+ghost use Rattle.line_stream.specs.Step.{textRoom, pieceBy, endOf, streamBuffers, puts};
+ghost use Rattle.stream.specs.Program.{benchProgram};
 use bench_start::Bench;
 use script::LineOutcome;
 
@@ -67,7 +68,7 @@ pub fn step(
     s: &[u8],
     out: &mut [u8],
 ) -> StreamOutcome
-    ensures { λ r. ⌜ streamBuffers (r .bench) (now (m .exit)) (now (reply .exit)) (take (r .have) (now (kept .exit))) (r .used) (r .wrote) (now (out .exit)) ≡ puts (pieceBy named (length (now (out .entry))) (benchState bench (now (m .entry)) (now (reply .entry))) (take have (now (kept .entry))) (now (s .entry))) (now (out .entry)) ⌝ }
+    ensures { λ r. ⌜ streamBuffers (benchState (r .bench) (now (m .exit)) (now (reply .exit))) (take (r .have) (now (kept .exit))) (r .used) (r .wrote) (now (out .exit)) ≡ puts (pieceBy (benchProgram named) (length (now (out .entry))) (benchState bench (now (m .entry)) (now (reply .entry))) (take have (now (kept .entry))) (now (s .entry))) (now (out .entry)) ⌝ }
     ensures { λ r. ⌜ (r .used ≤ length (now (s .entry))) × (r .wrote ≤ length (now (out .entry))) ⌝ }
 {
     let mut frame = [0u8; 602];
@@ -113,7 +114,7 @@ pub fn end(
     have: usize,
     out: &mut [u8],
 ) -> StreamOutcome
-    ensures { λ r. ⌜ streamBuffers (r .bench) (now (m .exit)) (now (reply .exit)) (take (r .have) (now (kept .exit))) (r .used) (r .wrote) (now (out .exit)) ≡ puts (endOf named (length (now (out .entry))) (benchState bench (now (m .entry)) (now (reply .entry))) (take have (now (kept .entry)))) (now (out .entry)) ⌝ }
+    ensures { λ r. ⌜ streamBuffers (benchState (r .bench) (now (m .exit)) (now (reply .exit))) (take (r .have) (now (kept .exit))) (r .used) (r .wrote) (now (out .exit)) ≡ puts (endOf (benchProgram named) (length (now (out .entry))) (benchState bench (now (m .entry)) (now (reply .entry))) (take have (now (kept .entry)))) (now (out .entry)) ⌝ }
     ensures { λ r. ⌜ r .wrote ≤ length (now (out .entry)) ⌝ }
 {
     let held = unfinished::kept_count(kept, have);

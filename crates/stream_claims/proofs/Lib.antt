@@ -1,4 +1,2 @@
-pub mod Flow
 pub mod Claim
 pub mod Names
-pub mod Examples

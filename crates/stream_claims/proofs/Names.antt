@@ -22,8 +22,10 @@ use Rattle.bench_start.specs.Start.{nextLine}
 use Rattle.reading.specs.Line.{ScriptLine, badLine, signalLine, frameLine, lineOf}
 use Rattle.script.specs.Bench.{ruleNamed, benchCall, lineResult, benchOf}
 use Rattle.script.specs.Lines.{BenchState, lineFrom, benchAfter}
-use Rattle.stream_claims.specs.Lines.{linesOf}
-use Rattle.stream_claims.specs.Output.{textsOf, freshStart}
+use Rattle.line_stream.specs.Lines.{linesOf}
+use Rattle.line_stream.specs.Output.{textsOf}
+use Rattle.stream.specs.Program.{benchProgram}
+use Rattle.stream_claims.specs.Output.{freshStart}
 use Rattle.stream_claims.specs.Names.{withoutFrom, withoutFields, FieldsAdded, WithoutNames}
 
 -- ---- bytes that are neither tab nor line feed
@@ -121,13 +123,13 @@ next-same : (c : BenchState) (l : List ℕ) → benchAfter (lineFrom true c l) �
 unfolding benchOf
 next-same c l = same-after (lineOf l) (c .bench) (c .memory) (c .reply)
 
-texts-without : (ls : List (List ℕ)) (c : BenchState) → withoutFields (textsOf true c ls) ≡ textsOf false c ls
+texts-without : (ls : List (List ℕ)) (c : BenchState) → withoutFields (textsOf (benchProgram true) c ls) ≡ textsOf (benchProgram false) c ls
 unfolding textsOf withoutFrom
 texts-without [] c = refl
 texts-without (l ∷ ls) c =
-    next-without c l (textsOf true (benchAfter (lineFrom true c l)) ls)
+    next-without c l (textsOf (benchProgram true) (benchAfter (lineFrom true c l)) ls)
     ∙ ap (λ (z : List ℕ). lineFrom false c l .text ++ z)
-    (texts-without ls (benchAfter (lineFrom true c l)) ∙ ap (λ (u : BenchState). textsOf false u ls) (next-same c l))
+    (texts-without ls (benchAfter (lineFrom true c l)) ∙ ap (λ (u : BenchState). textsOf (benchProgram false) u ls) (next-same c l))
 
 -- ---- the claims
 pub fields-added : FieldsAdded

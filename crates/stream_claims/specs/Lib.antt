@@ -1,5 +1,3 @@
-pub mod Lines
 pub mod Output
-pub mod Flow
 pub mod Claim
 pub mod Names

@@ -6,7 +6,9 @@ use Prim.Native.Nat.{ℕ, _+_}
 use lib.Dec.{eqb, ltb}
 use Rattle.parts.specs.Pick.{pick}
 use Rattle.script.specs.Lines.{BenchState}
-use Rattle.stream_claims.specs.Output.{outputOf, benchOutput, explainOutput}
+use Rattle.line_stream.specs.Output.{outputOf}
+use Rattle.stream.specs.Program.{benchProgram}
+use Rattle.stream_claims.specs.Output.{benchOutput, explainOutput}
 
 -- the bytes s, where their line had so many tabs (09h) before: from a line's second tab on all is left out, but its
 -- line feed (0Ah) stays
@@ -24,7 +26,7 @@ withoutFields s = withoutFrom 0 s
 
 -- whatever is carried, the output with names is the one without but for the added fields
 abbrev pub FieldsAdded : Type 0
-FieldsAdded = (state : BenchState) (s : List ℕ) → withoutFields (outputOf true state s) ≡ outputOf false state s
+FieldsAdded = (state : BenchState) (s : List ℕ) → withoutFields (outputOf (benchProgram true) state s) ≡ outputOf (benchProgram false) state s
 
 -- so of the two programs
 abbrev pub WithoutNames : Type 0

@@ -22,66 +22,10 @@ use reference::model::{self, Signal};
 use reference::script::{script, text, Line};
 use reference::state::{self, STATE_SIZE};
 use reference::tag::{Tag, MEMORY_SIZE, REPLY_SIZE};
+use reference::timing::{measure, print, Case};
 
-/// How long a routine runs in a round.
-const ROUND_NS: f64 = 1_000_000.0;
 const ROUNDS: usize = 100;
 const PROGRAM_ROUNDS: usize = 15;
-
-struct Case {
-    group: &'static str,
-    name: String,
-    length: usize,
-}
-
-fn least(times: &[f64]) -> f64 {
-    times.iter().copied().fold(f64::INFINITY, f64::min)
-}
-
-/// Prints ns and ratio of each routine from its times, round by round.
-fn print(case: &Case, names: &[&str], times: &[Vec<f64>]) {
-    let first = least(&times[0]);
-    for (name, own) in names.iter().zip(times) {
-        let (
-            Case {
-                group,
-                name: what,
-                length,
-            },
-            ns,
-        ) = (case, least(own));
-        println!(
-            "{group}\t{what}\t{length}\t{name}\t{ns:.1}\t{:.2}",
-            first / ns
-        );
-    }
-}
-
-fn time(routine: &mut dyn FnMut(), turns: u32) -> f64 {
-    let start = Instant::now();
-    for _ in 0..turns {
-        routine();
-    }
-    start.elapsed().as_nanos() as f64 / f64::from(turns)
-}
-
-/// Times routines in turns, `rounds` times each.
-fn measure(case: &Case, rounds: usize, routines: &mut [(&str, &mut dyn FnMut())]) {
-    let mut turns = Vec::new();
-    for (_, routine) in routines.iter_mut() {
-        time(*routine, 3); // caches and branches are warm from here on
-        let one = time(*routine, 20).max(1.0);
-        turns.push((ROUND_NS / one).max(1.0) as u32);
-    }
-    let mut times = vec![Vec::new(); routines.len()];
-    for _ in 0..rounds {
-        for (place, (_, routine)) in routines.iter_mut().enumerate() {
-            times[place].push(time(*routine, turns[place]));
-        }
-    }
-    let names: Vec<&str> = routines.iter().map(|(name, _)| *name).collect();
-    print(case, &names, &times);
-}
 
 // ---- the CRC
 
@@ -416,10 +360,10 @@ fn programs(bench: &str, explain: &str, reference: &str, folder: &Path) -> Resul
     for (name, lines) in all {
         let script = folder.join(format!("{}.tsv", name.replace(' ', "_")));
         fs::write(&script, text(&lines, true))?;
-        let mut times = [const { Vec::new() }; 4];
+        let mut times = [f64::INFINITY; 4];
         for _ in 0..PROGRAM_ROUNDS {
             for (own, program) in times.iter_mut().zip(programs) {
-                own.push(run(program, &script)? / lines.len() as f64);
+                *own = own.min(run(program, &script)? / lines.len() as f64);
             }
         }
         let case = Case {

@@ -5,14 +5,15 @@ use mathlib.Core.Bool.{true}
 use Prim.Native.Nat.{_-_}
 use lib.ListN.{length, take, drop, length-take}
 use Rattle.script.specs.Lines.{benchState}
-use Rattle.stream.specs.Step.{streamBuffers}
-use Rattle.bench_run.proofs.Going.{Going, never, used-some, goes, all-used}
+use Rattle.line_stream.specs.Step.{streamBuffers}
+use Rattle.stream.specs.Program.{benchProgram}
+use Rattle.line_stream.proofs.Going.{Going, never, used-some, goes, all-used}
 use Rattle.bench_run.proofs.piece.Statement.{statement}
 use Rattle.bench_run.proofs.piece.Tie as tie
 
 abbrev Inv-loop : tie.InvT-loop
 Inv-loop named m₀ reply₀ kept₀ s out₀ bench₀ have₀ at₀ m reply kept out bench have at =
-    Going named (benchState bench₀ m₀ reply₀) (take have₀ kept₀) s out₀ (benchState bench m reply) (take have kept) out at
+    Going (benchProgram named) (benchState bench₀ m₀ reply₀) (take have₀ kept₀) s out₀ (benchState bench m reply) (take have kept) out at
 
 abbrev μ-loop : tie.MeasureT-loop
 μ-loop named m₀ reply₀ kept₀ s out₀ bench₀ have₀ at₀ m reply kept out bench have at = length s - at
@@ -75,8 +76,8 @@ loop-less c =
     let t = c .before .before .before .before .before .before .before .before .step in
     omega (
       arith,
-      used-some (a .named) (benchState (a .run .bench) (a .m .now) (a .reply .now)) (take (a .run .have) (a .kept .now)) (a .s .now) (a .out .now) (benchState (l .bench) (l .m) (l .reply)) (take (l .have) (l .kept)) (l .out) (l .at) (l .inv)
-          (streamBuffers (t .result .bench) (t .last .1 .1 .0) (t .last .1 .1 .1 .0) (take (t .result .have) (t .last .1 .1 .1 .1 .0)) (t .result .used) (t .result .wrote) (t .last .1 .1 .1 .1 .1 .1 .1 .0))
+      used-some (benchProgram (a .named)) (benchState (a .run .bench) (a .m .now) (a .reply .now)) (take (a .run .have) (a .kept .now)) (a .s .now) (a .out .now) (benchState (l .bench) (l .m) (l .reply)) (take (l .have) (l .kept)) (l .out) (l .at) (l .inv)
+          (streamBuffers (benchState (t .result .bench) (t .last .1 .1 .0) (t .last .1 .1 .1 .0)) (take (t .result .have) (t .last .1 .1 .1 .1 .0)) (t .result .used) (t .result .wrote) (t .last .1 .1 .1 .1 .1 .1 .1 .0))
           (t .ensures .0) (omega (arith, l .inv .out-len, c .before .before .before .before .before .before .before .before .before .before .before .before .before .before .before .before .before .before .before .pre)) (c .before .before .before .before .before .before .before .before .before .before .before .before .before .before .loop-test .taken),
       c .before .before .before .before .before .before .before .before .before .before .before .before .before .before .loop-test .taken,
     )
@@ -86,8 +87,8 @@ loop-again c =
     let a = c .before .before .before .before .before .before .before .before .before .before .before .before .before .before .before .before .before .before .before .args in
     let l = c .before .before .before .before .before .before .before .before .before .before .before .before .before .before .before .loop in
     let t = c .before .before .before .before .before .before .before .before .step in
-    goes (a .named) (benchState (a .run .bench) (a .m .now) (a .reply .now)) (take (a .run .have) (a .kept .now)) (a .s .now) (a .out .now) (benchState (l .bench) (l .m) (l .reply)) (take (l .have) (l .kept)) (l .out) (l .at) (l .inv)
-    (streamBuffers (t .result .bench) (t .last .1 .1 .0) (t .last .1 .1 .1 .0) (take (t .result .have) (t .last .1 .1 .1 .1 .0)) (t .result .used) (t .result .wrote) (t .last .1 .1 .1 .1 .1 .1 .1 .0))
+    goes (benchProgram (a .named)) (benchState (a .run .bench) (a .m .now) (a .reply .now)) (take (a .run .have) (a .kept .now)) (a .s .now) (a .out .now) (benchState (l .bench) (l .m) (l .reply)) (take (l .have) (l .kept)) (l .out) (l .at) (l .inv)
+    (streamBuffers (benchState (t .result .bench) (t .last .1 .1 .0) (t .last .1 .1 .1 .0)) (take (t .result .have) (t .last .1 .1 .1 .1 .0)) (t .result .used) (t .result .wrote) (t .last .1 .1 .1 .1 .1 .1 .1 .0))
     (t .ensures .0) (t .ensures .1 .0) (t .last .1 .1 .1 .1 .1 .1 .1 .0) (t .kept .1 .1 .1 .1 .1 .1 .1 .0)
 
 same-length-2 : tie.Need-same-length-2 Inv-loop μ-loop
@@ -98,7 +99,7 @@ returns-2 c =
     let start : tie.Start Inv-loop μ-loop = search needs in
     let a = start .args in
     let l = c .before .loop in
-    all-used (a .named) (benchState (a .run .bench) (a .m .now) (a .reply .now)) (take (a .run .have) (a .kept .now)) (a .s .now) (a .out .now) (benchState (l .bench) (l .m) (l .reply)) (take (l .have) (l .kept)) (l .out) (l .at) (l .inv) (c .loop-test .left) true
+    all-used (benchProgram (a .named)) (benchState (a .run .bench) (a .m .now) (a .reply .now)) (take (a .run .have) (a .kept .now)) (a .s .now) (a .out .now) (benchState (l .bench) (l .m) (l .reply)) (take (l .have) (l .kept)) (l .out) (l .at) (l .inv) (c .loop-test .left) true
 
 pub piece-spec : {M : Type 1} → statement M
 piece-spec =

@@ -1,5 +1,5 @@
-use native.Mathlib.Omega.{arith}
-use Rattle.replies_fit.proofs.RepliesFit.{short}
+use Rattle.parts.specs.Pick.{pick}
+use Rattle.replies_fit.specs.Claims.{replyFits}
 use Rattle.capi.specs.Interface.{answerNumber}
 use borrow.Author.Needs.{needs}
 use Rattle.capi.proofs.answer_number.Statement.{statement}
@@ -38,39 +38,36 @@ enum-told-4 c = search needs
 enum-known-answer-3 : tie.Need-enum-known-answer-3
 enum-known-answer-3 c = search needs
 
-cast-result-3 : tie.Need-cast-result-3
-cast-result-3 c = omega (arith, short (c .before .before .before .args .answer) _ (c .before .answer3 .given .1) (c .before .before .before .pre))
-
-add-result-2 : tie.Need-add-result-2
-add-result-2 c = omega (arith, short (c .before .before .before .args .answer) _ (c .before .answer3 .given .1) (c .before .before .before .pre))
+reply-number-requires : tie.Need-reply-number-requires
+reply-number-requires c κs = search needs
 
 returns : tie.Need-returns
-unfolding answerNumber
+unfolding answerNumber replyFits pick
 returns c = rw (c .number .ensures, c .before .before .answer .given .1)
 
 returns-2 : tie.Need-returns-2
-unfolding answerNumber
+unfolding answerNumber replyFits pick
 returns-2 c = rw (c .enum-told .given .1)
 
 returns-3 : tie.Need-returns-3
-unfolding answerNumber
+unfolding answerNumber replyFits pick
 returns-3 c = rw (c .enum-told2 .given .1)
 
 returns-4 : tie.Need-returns-4
-unfolding answerNumber
+unfolding answerNumber replyFits pick
 returns-4 c = rw (c .enum-told3 .given .1)
 
 returns-5 : tie.Need-returns-5
-unfolding answerNumber
+unfolding answerNumber replyFits pick
 returns-5 c = rw (c .before .answer2 .given .1)
 
 returns-6 : tie.Need-returns-6
-unfolding answerNumber
+unfolding answerNumber replyFits pick
 returns-6 c = rw (c .enum-told4 .given .1)
 
 returns-7 : tie.Need-returns-7
-unfolding answerNumber
-returns-7 c = rw (c .before .answer3 .given .1)
+unfolding answerNumber replyFits pick
+returns-7 c = rw (c .reply-number .ensures, c .before .before .answer3 .given .1)
 
 pub answer-number-spec : {M : Type 1} → statement M
 answer-number-spec =
@@ -87,8 +84,7 @@ answer-number-spec =
     add-result
     enum-told-4
     enum-known-answer-3
-    cast-result-3
-    add-result-2
+    reply-number-requires
     returns
     returns-2
     returns-3

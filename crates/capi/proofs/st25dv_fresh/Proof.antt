@@ -4,7 +4,7 @@ use Rattle.model.specs.Step.{FreshResult, freshResult}
 use Rattle.replies_fit.specs.Claims.{replyFits}
 use Rattle.replies_fit.proofs.RepliesFit.{fresh-reply-fits}
 use Rattle.capi.specs.Interface.{freshCall}
-use Rattle.capi.proofs.Calls.{freshened}
+use Rattle.capi.proofs.Calls.{number-fits, freshened}
 use borrow.Author.Needs.{needs}
 use Rattle.capi.proofs.st25dv_fresh.Statement.{statement}
 use Rattle.capi.proofs.st25dv_fresh.Tie as tie
@@ -34,9 +34,7 @@ keep-requires : tie.Need-keep-requires
 keep-requires c κs = search needs
 
 answer-number-requires : tie.Need-answer-number-requires
-answer-number-requires c κs =
-    let after-fresh : tie.After-fresh = search needs in
-    ap (λ (e : FreshResult). replyFits (e .answer)) (after-fresh .fresh .ensures) ∙ fresh-reply-fits _ _
+answer-number-requires c κs = search needs
 
 same-length : tie.Need-same-length
 same-length c = search needs
@@ -67,7 +65,7 @@ returns-2 c =
     let o = after-fresh .fresh in
     freshened (a .uid .now) (a .m .now) (a .s .now) (freshResult (o .result .answer) (o .result .tag) (o .last .1 .0)) (c .answer-number .result) (c .before .before .before .keep .last .1 .0)
     (sym (after-fresh-call-refusal .fresh-call-refusal .ensures) ∙ after-enum-told .enum-told .given .1)
-    (o .ensures ∙ rw (after-at .at .ensures)) (c .answer-number .ensures) (c .before .before .before .keep .ensures)
+    (o .ensures ∙ rw (after-at .at .ensures)) (number-fits _ _ (ap (λ (e : FreshResult). replyFits (e .answer)) (o .ensures) ∙ fresh-reply-fits _ _) (c .answer-number .ensures)) (c .before .before .before .keep .ensures)
 
 pub st25dv-fresh-spec : {M : Type 1} → statement M
 st25dv-fresh-spec =

@@ -5,7 +5,7 @@ use Rattle.model.specs.Step.{StepResult, stepResultOf}
 use Rattle.replies_fit.specs.Claims.{replyFits}
 use Rattle.replies_fit.proofs.RepliesFit.{steps-fit}
 use Rattle.capi.specs.Interface.{stepCall}
-use Rattle.capi.proofs.Calls.{stepped}
+use Rattle.capi.proofs.Calls.{number-fits, stepped}
 use borrow.Author.Needs.{needs}
 use Rattle.capi.proofs.st25dv_step.Statement.{statement}
 use Rattle.capi.proofs.st25dv_step.Tie as tie
@@ -35,9 +35,7 @@ keep-requires : tie.Need-keep-requires
 keep-requires c κs = search needs
 
 answer-number-requires : tie.Need-answer-number-requires
-answer-number-requires c κs =
-    let after-step : tie.After-step = search needs in
-    ap (λ (e : StepResult). replyFits (e .answer)) (after-step .step .ensures) ∙ steps-fit _ _ _
+answer-number-requires c κs = search needs
 
 same-length : tie.Need-same-length
 same-length c = search needs
@@ -69,7 +67,7 @@ returns-2 c =
     let o = c .before .before .before .before .before .before .before .before .before .step in
     stepped (a .s .now) (a .m .now) (handedIn (a .out .now) (a .code) (a .value) (a .frame .now)) (stepResultOf (o .result) (o .last .1 .0) (o .last .1 .1 .0)) (c .answer-number .result) (c .before .before .before .keep .last .1 .0)
     (sym (c .before .before .before .before .before .before .before .before .before .before .before .before .before .before .before .before .step-refusal .ensures) ∙ c .before .before .before .before .before .before .before .before .before .before .before .before .before .before .enum-told .given .1)
-    (o .ensures ∙ rw (c .before .before .before .before .before .before .before .before .before .before .before .before .decode .ensures)) (c .answer-number .ensures) (c .before .before .before .keep .ensures)
+    (o .ensures ∙ rw (c .before .before .before .before .before .before .before .before .before .before .before .before .decode .ensures)) (number-fits _ _ (ap (λ (e : StepResult). replyFits (e .answer)) (o .ensures) ∙ steps-fit _ _ _) (c .answer-number .ensures)) (c .before .before .before .keep .ensures)
 
 pub st25dv-step-spec : {M : Type 1} → statement M
 st25dv-step-spec =

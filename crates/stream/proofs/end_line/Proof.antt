@@ -2,10 +2,14 @@ use borrow.Author.Needs.{needs}
 use mathlib.Core.Path.{ap, _∙_}
 use mathlib.Core.List.{List}
 use Prim.Native.Nat.{ℕ}
-use native.Mathlib.Omega.{arith}
-use Rattle.script.specs.Bench.{LineResult, putLine}
-use Rattle.script.specs.Lines.{benchState, lineFrom}
-use Rattle.stream.proofs.Held.{whole-line}
+use lib.ListN.{length}
+use lib.Seq.{sets}
+use Rattle.script.specs.Bench.{putLine, lineBuffers}
+use Rattle.script.specs.Lines.{BenchState, benchState, lineFrom}
+use Rattle.line_stream.specs.Step.{LineAnswer}
+use Rattle.line_stream.proofs.Held.{whole-line}
+use Rattle.stream.specs.Program.{benchProgram}
+use Rattle.stream.proofs.Program.{bench-tells}
 use Rattle.stream.proofs.end_line.Statement.{statement}
 use Rattle.stream.proofs.end_line.Tie as tie
 
@@ -30,7 +34,7 @@ returns c =
     let st = benchState (a .bench) (a .m .now) (a .reply .now) in (
       c .before .before .line .ensures .0
           ∙ ap (λ (l : List ℕ). putLine (lineFrom (a .named) st l) (a .text .now)) (after-line-from .line-from .ensures ∙ after-join .join .ensures .0)
-          ∙ ap (λ (r : LineResult). putLine r (a .text .now)) (whole-line (a .named) st (a .kept .now) (a .s .now) (a .have)),
+          ∙ ap (λ (r : LineAnswer BenchState). lineBuffers (r .carried .bench) (length (r .text)) (r .carried .memory) (r .carried .reply) (sets (a .text .now) 0 (r .text))) (whole-line (benchProgram (a .named)) (bench-tells (a .named)) st (a .kept .now) (a .s .now) (a .have)),
       c .before .before .line .ensures .1 .0,
     )
 

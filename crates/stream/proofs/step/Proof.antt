@@ -8,15 +8,18 @@ use lib.Dec.{ltb, leb}
 use lib.ListN.{length, take}
 use Rattle.parts.proofs.Bools.{and-left, and-right}
 use Rattle.script.specs.Lines.{benchState}
-use Rattle.stream.specs.Step.{pieceBy, puts}
+use Rattle.script.specs.Bench.{LineBuffers}
+use Rattle.line_stream.specs.Step.{lineStored, pieceBy, puts}
 use Rattle.unfinished.proofs.Held.{take-within}
-use Rattle.stream.proofs.Turn.{Goes, begins, turns, ends}
+use Rattle.line_stream.proofs.Turn.{Goes, begins, turns, ends}
+use Rattle.stream.specs.Program.{benchProgram}
+use Rattle.stream.proofs.Program.{bench-tells}
 use Rattle.stream.proofs.step.Statement.{statement}
 use Rattle.stream.proofs.step.Tie as tie
 
 abbrev Inv-loop : tie.InvT-loop
 Inv-loop named m₀ reply₀ kept₀ have s out₀ frame₀ bench₀ n₀ from₀ at₀ end₀ m reply kept out frame bench n from at end =
-    Goes named (benchState bench₀ m₀ reply₀) (take n₀ kept₀) s out₀ (benchState bench m reply) kept out n from at end
+    Goes (benchProgram named) (benchState bench₀ m₀ reply₀) (take n₀ kept₀) s out₀ (benchState bench m reply) kept out n from at end
 
 abbrev μ-loop : tie.MeasureT-loop
 μ-loop named m₀ reply₀ kept₀ have s out₀ frame₀ bench₀ n₀ from₀ at₀ end₀ m reply kept out frame bench n from at end =
@@ -34,7 +37,7 @@ loop-holds c =
     let a = start .args in
     let n = c .before .kept-count in
     let k : length (a .kept .now) ≡ 1201 = search needs in
-    begins (a .named) (benchState (a .bench) (a .m .now) (a .reply .now)) (a .kept .now) (a .s .now) (a .out .now) (n .result) (c .line-end .result) (omega (arith, k, n .ensures)) (c .line-end .ensures)
+    begins (benchProgram (a .named)) (benchState (a .bench) (a .m .now) (a .reply .now)) (a .kept .now) (a .s .now) (a .out .now) (n .result) (c .line-end .result) (omega (arith, k, n .ensures)) (c .line-end .ensures)
 
 -- a turn: a line feed is left, and room for a text
 less : (c : tie.In-loop Inv-loop μ-loop) → c .before .loop .end < length (c .before .before .before .before .before .before .before .before .args .s .now)
@@ -106,9 +109,9 @@ loop-again c =
     let n = c .before .before .before .before .before .before .before .before .before .before .before .before .before .before .before .kept-count in
     let l = c .before .before .before .before .before .before .before .before .before .before .before .before .before .loop in
     let o = c .before .before .before .before .before .end-line in
-    turns (a .named) (benchState (a .bench) (a .m .now) (a .reply .now)) (take (n .result) (a .kept .now)) (a .s .now) (a .out .now) (benchState (l .bench) (l .m) (l .reply)) (l .kept) (l .out) (l .n) (l .from) (l .at) (l .end) (l .inv)
-    (o .result .bench) (o .result .length) (o .last .1 .1 .0) (o .last .1 .1 .1 .0) (o .last .1 .1 .1 .1 .0) (o .last .1 .1 .1 .1 .1 .1 .1 .1 .0) (c .line-end2 .result)
-    (less (c .before .before .before .before .before .before .before .before .before .before .before .before)) (roomy (c .before .before .before .before .before .before .before .before .before .before .before .before)) (o .ensures .0) (o .ensures .1) (o .kept .1 .1 .1 .1 .1 .1 .1 .1 .0) (c .line-end2 .ensures)
+    turns (benchProgram (a .named)) (benchState (a .bench) (a .m .now) (a .reply .now)) (take (n .result) (a .kept .now)) (a .s .now) (a .out .now) (benchState (l .bench) (l .m) (l .reply)) (l .kept) (l .out) (l .n) (l .from) (l .at) (l .end) (l .inv)
+    (bench-tells (a .named)) (benchState (o .result .bench) (o .last .1 .1 .0) (o .last .1 .1 .1 .0)) (o .result .length) (o .last .1 .1 .1 .1 .0) (o .last .1 .1 .1 .1 .1 .1 .1 .1 .0) (c .line-end2 .result)
+    (less (c .before .before .before .before .before .before .before .before .before .before .before .before)) (roomy (c .before .before .before .before .before .before .before .before .before .before .before .before)) (ap (λ (x : LineBuffers). lineStored (benchState (x .bench) (x .memory) (x .reply)) (x .length) (x .buffer)) (o .ensures .0)) (o .ensures .1) (o .kept .1 .1 .1 .1 .1 .1 .1 .1 .0) (c .line-end2 .ensures)
 
 sub-hold : tie.Need-sub-hold Inv-loop μ-loop
 sub-hold c = omega (arith, c .before .before .loop .inv .next)
@@ -136,8 +139,8 @@ returns c =
     let l = at-loop .loop in
     let n = after-kept-count .kept-count in
     let st = benchState (a .bench) (a .m .now) (a .reply .now) in (
-      ends (a .named) st (take (n .result) (a .kept .now)) (a .s .now) (a .out .now) (benchState (l .bench) (l .m) (l .reply)) (l .kept) (l .out) (l .n) (l .from) (l .at) (l .end) (l .inv) (take (c .hold .result) (c .hold .last .0)) (c .before .before .before .loop-test .left) (c .hold .ensures .0)
-          ∙ ap (λ (h : List ℕ). puts (pieceBy (a .named) (length (a .out .now)) st h (a .s .now)) (a .out .now)) (take-within (a .kept .now) (a .have) (n .result) (n .ensures)),
+      ends (benchProgram (a .named)) st (take (n .result) (a .kept .now)) (a .s .now) (a .out .now) (benchState (l .bench) (l .m) (l .reply)) (l .kept) (l .out) (l .n) (l .from) (l .at) (l .end) (l .inv) (take (c .hold .result) (c .hold .last .0)) (c .before .before .before .loop-test .left) (c .hold .ensures .0)
+          ∙ ap (λ (h : List ℕ). puts (pieceBy (benchProgram (a .named)) (length (a .out .now)) st h (a .s .now)) (a .out .now)) (take-within (a .kept .now) (a .have) (n .result) (n .ensures)),
       (l .inv .within, l .inv .fits),
     )
 

@@ -1,0 +1,2 @@
+pub mod RackInterface
+pub mod RackClaims

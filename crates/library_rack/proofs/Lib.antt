@@ -1,0 +1,5 @@
+pub mod States
+pub mod Runs
+pub mod Claims
+pub mod Search
+pub mod Wrong

@@ -1,0 +1,1 @@
+// Definitions and claims alone: lists of the library's rack calls.

@@ -1,0 +1,4 @@
+pub mod States
+pub mod Decoding
+pub mod Stored
+pub mod Encoding

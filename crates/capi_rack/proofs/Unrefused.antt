@@ -33,13 +33,13 @@ use Rattle.capi_rack.specs.RackInterface.{rackCalled, rackStepCall, sear
 use Rattle.capi_rack.proofs.Racks.{Encoded, steps, searches, idle-between}
 
 -- ---- bytes that decode are the states of the tags that they decode to
-are-take : (n : ℕ) (s : List ℕ) → areBytes s ≡ true → areBytes (take n s) ≡ true
+pub are-take : (n : ℕ) (s : List ℕ) → areBytes s ≡ true → areBytes (take n s) ≡ true
 unfolding areBytes
 are-take zero s h = refl
 are-take (suc n) [] h = refl
 are-take (suc n) (x ∷ s) h = rw (and-left (ltb x 256) (areBytes s) h) (are-take n s (and-right (ltb x 256) (areBytes s) h))
 
-are-drop : (n : ℕ) (s : List ℕ) → areBytes s ≡ true → areBytes (drop n s) ≡ true
+pub are-drop : (n : ℕ) (s : List ℕ) → areBytes s ≡ true → areBytes (drop n s) ≡ true
 unfolding areBytes
 are-drop zero s h = h
 are-drop (suc n) [] h = refl

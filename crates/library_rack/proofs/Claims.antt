@@ -40,9 +40,10 @@ use Rattle.library_rack_refusals.specs.Rules.{rackAt, statesRule, allDecodeRule
 use Rattle.library_rack_refusals.proofs.Sizes.{sizes-at}
 use Rattle.capi_rack.specs.RackInterface.{maskOf, RackCallResult, rackCallResult, rackCalled, rackStepCall}
 use Rattle.capi_rack.proofs.Racks.{Encoded, encoded}
+use Rattle.capi_rack.proofs.Unrefused.{are-take, are-drop}
 use Rattle.library_rack.specs.Calls.{LibraryRackStep, exportedRack, LibraryRackRunResult, libraryRackRun}
 use Rattle.library_rack.specs.Claims.{inRackNumbers, RackStarts, LibraryRunsRack, looksAtStates, LibraryRackKeeps, LibraryKeepsRacks, OtherNumberRefused, LibraryNumberUnread, LibraryOnlyRadioReported, stateAt, memoryAt, callsTo, LibraryItsTags, LibraryIsItsTags, waitsAt, LibraryTagAgrees, LibraryRackDemand3, LibraryRackEndsAlike, LibraryAnswersAsWaiting}
-use Rattle.library_rack.proofs.States.{take-bytes, drop-bytes, all-fit, starts-back, states-bytes, state-at}
+use Rattle.library_rack.proofs.States.{all-fit, starts-back, states-bytes, state-at}
 use Rattle.library_rack.proofs.Runs.{GoodRack, step-is, run-good, run-numbers, good, library-runs-rack}
 
 -- ---- of every step whose lists are the rack's: from a start, a list of calls
@@ -122,7 +123,7 @@ module _ (step : LibraryRackStep) (runs : LibraryRunsRack step) (n : ℕ) (s m :
     unfolding deviceAt
     fits-at = record {
       fits = all-fit (before .tags) (good n s m t .fits) i in-before;
-      bytes = take-bytes (memorySize (getD (before .tags) i noTag)) _ (drop-bytes (memorySizes (take i (before .tags))) m (t .memory));
+      bytes = are-take (memorySize (getD (before .tags) i noTag)) _ (are-drop (memorySizes (take i (before .tags))) m (t .memory));
     }
 
     -- the library's calls of one tag

@@ -35,10 +35,11 @@ use Rattle.rack_states.specs.States.{statesOf, tagsAt}
 use Rattle.capi_rack.specs.RackInterface.{RackCallResult, rackCalled}
 use Rattle.capi_rack.proofs.Racks.{steps-the-rack}
 use Rattle.capi_rack.proofs.Says.{rack-served}
+use Rattle.capi_rack.proofs.Unrefused.{are-take, are-drop}
 use Rattle.library_rack.specs.Calls.{exportedRack, libraryRackAnswer, rackAnswerBy, LibraryRackRunResult, libraryRackRunResult, libraryRackRun}
 use Rattle.library_rack.specs.Claims.{inRackNumber, inRackNumbers, inRackBytes, RackStarts, LibraryRunsRack, stateRefusals, looksAtStates}
 use Rattle.rack_states.proofs.States.{tags-number}
-use Rattle.library_rack.proofs.States.{take-bytes, drop-bytes, EachFits, all-fit, tags-fit, starts-back}
+use Rattle.library_rack.proofs.States.{EachFits, all-fit, tags-fit, starts-back}
 
 -- ---- what goes from call to call: each tag's numbers fit their types, and the memory's bytes are bytes
 unfoldable AllGood : List Device → Type 0
@@ -53,8 +54,8 @@ good-apart : (ts : List Tag) (m : List ℕ) → EachFits ts → areBytes m ≡ t
 unfolding AllGood EachFits devicesOf
 good-apart [] m f b = tt
 good-apart (t ∷ ts) m f b = (
-  record { fits = f .0; bytes = take-bytes (memorySize t) m b },
-  good-apart ts (drop (memorySize t) m) (f .1) (drop-bytes (memorySize t) m b),
+  record { fits = f .0; bytes = are-take (memorySize t) m b },
+  good-apart ts (drop (memorySize t) m) (f .1) (are-drop (memorySize t) m b),
 )
 
 good-turns : (c : RackCall) (i : ℕ) (ds : List Device) → areBytes (c .handed .frame) ≡ true → AllGood ds → AllGood (leftBy (turnsOf entry c i ds))

@@ -4,13 +4,12 @@ use mathlib.Core.Bool.{true}
 use mathlib.Core.List.{List, [], _∷_, _++_}
 use Prim.Native.Nat.{ℕ, zero, suc, _+_, _*_, _<_}
 use native.Mathlib.Omega.{arith}
-use lib.Dec.{ltb}
 use lib.ListN.{length, getD, take, drop, length-append}
 use lib.Seq.{take-at, drop-at, drop-drop}
 use borrow.Author.Tests.{eqb-true}
 use Rattle.parts.specs.Bytes.{areBytes}
 use Rattle.parts.proofs.Below.{are-append}
-use Rattle.parts.proofs.Bools.{and-left, and-right, and-both}
+use Rattle.parts.proofs.Bools.{and-both}
 use Rattle.tag.specs.declared.Tag.{Tag}
 use Rattle.state.specs.Layout.{stateBytes, bytesOf, decodes}
 use Rattle.state.specs.Claims.{Fits}
@@ -22,22 +21,8 @@ use Rattle.rack.specs.Rack.{noTag}
 use Rattle.rack_states.specs.States.{statesOf, tagsAt, allDecode}
 use Rattle.capi_rack.specs.RackClaims.{AllTagsFit}
 use Rattle.capi_rack.proofs.Racks.{state-long}
-use Rattle.capi_rack.proofs.Unrefused.{states-back}
+use Rattle.capi_rack.proofs.Unrefused.{are-take, are-drop, states-back}
 use Rattle.library_rack.specs.Claims.{RackStarts, StartsGrow, stateAt}
-
--- ---- bytes of a part
-pub take-bytes : (n : ℕ) (s : List ℕ) → areBytes s ≡ true → areBytes (take n s) ≡ true
-unfolding areBytes
-take-bytes zero s h = refl
-take-bytes (suc n) [] h = refl
-take-bytes (suc n) (x ∷ s) h =
-    and-both (ltb x 256) (areBytes (take n s)) (and-left (ltb x 256) (areBytes s) h) (take-bytes n s (and-right (ltb x 256) (areBytes s) h))
-
-pub drop-bytes : (n : ℕ) (s : List ℕ) → areBytes s ≡ true → areBytes (drop n s) ≡ true
-unfolding areBytes
-drop-bytes zero s h = h
-drop-bytes (suc n) [] h = refl
-drop-bytes (suc n) (x ∷ s) h = drop-bytes n s (and-right (ltb x 256) (areBytes s) h)
 
 -- ---- the tags of states
 -- each number of each of them fits its type
@@ -54,7 +39,7 @@ all-fit (t ∷ ts) f (suc i) h = all-fit ts (f .1) i (omega arith)
 pub tags-fit : (n : ℕ) (s : List ℕ) → areBytes s ≡ true → EachFits (tagsAt n s)
 unfolding EachFits tagsAt
 tags-fit zero s h = tt
-tags-fit (suc n) s h = (decoded-fits (take stateBytes s) (take-bytes stateBytes s h), tags-fit n (drop stateBytes s) (drop-bytes stateBytes s h))
+tags-fit (suc n) s h = (decoded-fits (take stateBytes s) (are-take stateBytes s h), tags-fit n (drop stateBytes s) (are-drop stateBytes s h))
 
 -- states that decode are those of their tags
 pub starts-back : (n : ℕ) (s m : List ℕ) → RackStarts n s m → statesOf (tagsAt n s) ≡ s

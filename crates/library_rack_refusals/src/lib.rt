@@ -44,7 +44,9 @@ fn all_in_range(s: &[u8], m: &[u8], n: usize) -> bool
     while i < n {
         let end = at + state::STATE_BYTES;
         let to = from + tag::MEMORY_BYTES;
-        let t = rack_states::decode_state(&s[at..end]);
+        // By the function that a rack's tags are taken by: it stays in one place.
+        let tags = rack_states::decode_tags(&s[at..end]);
+        let t = tags[0];
         let one = refusals::in_range(t, &m[from..to]);
         all = all & one;
         at = end;

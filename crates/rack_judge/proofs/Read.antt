@@ -18,7 +18,7 @@ use Rattle.calls.specs.Calls.{Device, device}
 use Rattle.rack.specs.Rack.{memorySize, memorySizes, noTag, devicesOf}
 use Rattle.rack.specs.Rules.{allInRange, equalUids}
 use Rattle.rack_judge.specs.declared.Judged.{Judged}
-use Rattle.rack_judge.specs.Judge.{zeroUid, judgeStart, metBy, rangedBy, JudgedTag, judgeOf, JudgedAll, judgedAll, judgeAllOf, judgeOneOf, uidAmong}
+use Rattle.rack_judge.specs.Judge.{blankUid, judgeStart, metBy, rangedBy, JudgedTag, judgeOf, JudgedAll, judgedAll, judgeAllOf, judgeOneOf, uidAmong}
 use Rattle.rack_judge.proofs.Uids.{uidsOf, uids-number, uids-more, equal-more}
 
 -- ---- one tag more
@@ -116,7 +116,7 @@ module _ (m : List ℕ) (n : ℕ) (all : List Tag) where
   pub record Reads (judged : Judged) (ts : List Tag) : Type 0 where
     pub number : judged .number ≡ n
     pub found : judged .found ≡ length ts
-    pub uids : length ts ≤ 16 → judged .uids ≡ uidsOf ts ++ replicate (16 - length ts) zeroUid
+    pub uids : length ts ≤ 16 → judged .uids ≡ uidsOf ts ++ replicate (16 - length ts) blankUid
     pub alike : length ts ≤ 16 → judged .alike ≡ equalUids ts
     pub at : length m ≡ memorySizes all → judged .at ≡ memorySizes ts
     pub broken : length m ≡ memorySizes all → judged .broken ≡ not (allInRange (devicesOf ts m))
@@ -141,18 +141,18 @@ module _ (m : List ℕ) (n : ℕ) (all : List Tag) where
     abbrev met : Judged
     met = metBy judged i (i + 1) (t .uid)
 
-    next-uids : i ≤ 15 → met .uids ≡ uidsOf (ts ++ t ∷ []) ++ replicate (16 - length (ts ++ t ∷ [])) zeroUid
+    next-uids : i ≤ 15 → met .uids ≡ uidsOf (ts ++ t ∷ []) ++ replicate (16 - length (ts ++ t ∷ [])) blankUid
     next-uids s =
         let e : 16 - i ≡ suc (16 - length (ts ++ t ∷ [])) = omega (arith, more) in
-        let rest = replicate (16 - length (ts ++ t ∷ [])) zeroUid in
+        let rest = replicate (16 - length (ts ++ t ∷ [])) blankUid in
         met-uids m t i judged s
-        ∙ ap (λ (us : List Uid). set us i (t .uid)) (h .uids (omega (arith, s)) ∙ ap (λ (x : ℕ). uidsOf ts ++ replicate x zeroUid) e)
-        ∙ set-at (uidsOf ts) zeroUid rest (t .uid) i (uids-number ts)
+        ∙ ap (λ (us : List Uid). set us i (t .uid)) (h .uids (omega (arith, s)) ∙ ap (λ (x : ℕ). uidsOf ts ++ replicate x blankUid) e)
+        ∙ set-at (uidsOf ts) blankUid rest (t .uid) i (uids-number ts)
         ∙ sym (ap (λ (us : List Uid). us ++ rest) (uids-more ts t) ∙ append-assoc (uidsOf ts) (t .uid ∷ []) rest)
 
     next-alike : i ≤ 15 → met .alike ≡ equalUids (ts ++ t ∷ [])
     next-alike s =
-        let rest = replicate (16 - i) zeroUid in
+        let rest = replicate (16 - i) blankUid in
         met-alike m t i judged s
         ∙ ap (λ (b : Bool). b || uidAmong (judged .uids) i (t .uid)) (h .alike (omega (arith, s)))
         ∙ ap (λ (us : List Uid). equalUids ts || uidAmong us i (t .uid)) (h .uids (omega (arith, s)))
@@ -188,7 +188,7 @@ module _ (m : List ℕ) (n : ℕ) (all : List Tag) where
         record {
           number = within m t i judged (λ (j : Judged). j .number ≡ n) below (met-number m t i judged ∙ h .number) (λ _ _. met-number m t i judged ∙ h .number);
           found = within m t i judged (λ (j : Judged). j .found ≡ length (ts ++ t ∷ [])) below (met-found m t i judged ∙ sym more) (λ _ _. met-found m t i judged ∙ sym more);
-          uids = λ s. within m t i judged (λ (j : Judged). j .uids ≡ uidsOf (ts ++ t ∷ []) ++ replicate (16 - length (ts ++ t ∷ [])) zeroUid) below (next-uids (few s)) (λ _ _. next-uids (few s));
+          uids = λ s. within m t i judged (λ (j : Judged). j .uids ≡ uidsOf (ts ++ t ∷ []) ++ replicate (16 - length (ts ++ t ∷ [])) blankUid) below (next-uids (few s)) (λ _ _. next-uids (few s));
           alike = λ s. within m t i judged (λ (j : Judged). j .alike ≡ equalUids (ts ++ t ∷ [])) below (next-alike (few s)) (λ _ _. next-alike (few s));
           at = next-at;
           broken = next-broken;

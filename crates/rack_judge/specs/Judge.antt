@@ -16,11 +16,11 @@ use Rattle.rack.specs.Rack.{noTag, toAll}
 use Rattle.rack_judge.specs.declared.Judged.{Judged}
 
 -- ---- nothing read yet, of a rack that is to have n tags
-abbrev pub zeroUid : Uid
-zeroUid = record { bytes = replicate 8 0 }
+abbrev pub blankUid : Uid
+blankUid = record { bytes = replicate 8 0 }
 
 abbrev pub judgeStart : ℕ → Judged
-judgeStart n = record { number = n; found = 0; at = 0; broken = false; alike = false; uids = replicate 16 zeroUid }
+judgeStart n = record { number = n; found = 0; at = 0; broken = false; alike = false; uids = replicate 16 blankUid }
 
 -- ---- one tag
 -- read past the last

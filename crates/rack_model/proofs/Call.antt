@@ -1,9 +1,8 @@
 -- One call of a rack, from what judging and hearing come to. Assumes nothing.
 use mathlib.Core.Path.{_≡_, refl, sym, ap, subst, _∙_}
-use mathlib.Core.Bool.{false}
-use mathlib.Core.List.{List, []}
+use mathlib.Core.List.{List}
 use Prim.Native.Nat.{ℕ}
-use lib.ListN.{length, take, drop, replicate}
+use lib.ListN.{length, take, drop}
 use Rattle.tag.specs.declared.Tag.{Tag}
 use Rattle.refusals.specs.declared.Refusal.{Refusal}
 use Rattle.refusals.specs.declared.Judgement.{Judgement}
@@ -20,7 +19,7 @@ use Rattle.rack_judge.specs.Judge.{judgeStart, JudgedAll, judgedAll, judgeAllOf
 use Rattle.rack_judge.specs.Claims.{tagsRead}
 use Rattle.rack_judge.proofs.Claims.{judges-racks}
 use Rattle.rack_hear.specs.declared.Heard.{Heard}
-use Rattle.rack_hear.specs.Hear.{hearStart, hearRefused, hearingOf, HeardAll, heardAll, hearAllOf}
+use Rattle.rack_hear.specs.Hear.{hearStart, hearRefused, hearingOf, HeardAll, hearAllOf}
 use Rattle.rack_hear.proofs.Claims.{refused-unheard, hears-racks}
 
 -- what is left of a call is what a rack's call gives

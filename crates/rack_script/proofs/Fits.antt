@@ -1,5 +1,5 @@
 -- No text is longer than 1,342 bytes, and of a line that is too long 1,201 characters tell. Assumes nothing.
-use mathlib.Core.Path.{_≡_, refl, sym, ap, subst, _∙_}
+use mathlib.Core.Path.{_≡_, refl, ap, subst}
 use mathlib.Core.Bool.{Bool, true, false, _||_}
 use mathlib.Core.List.{List, [], _∷_, _++_}
 use Prim.Native.Nat.{ℕ, zero, suc, _-_, _≤_, _<_}
@@ -9,14 +9,10 @@ use borrow.Author.Tests.{leb-true, ltb-false}
 use lib.ListN.{length, take, getD, replicate, length-append, length-take, length-replicate}
 use Rattle.parts.specs.Pick.{pick}
 use Rattle.parts.proofs.Picks.{pick-case}
-use Rattle.crc.specs.Crc.{closed}
 use Rattle.hex.specs.Hex.{hexText}
 use Rattle.hex.proofs.HexLaws.{length-hex-text}
 use Rattle.text.proofs.DecimalLaws.{digits-most}
-use Rattle.keys.specs.declared.Uid.{Uid}
-use Rattle.refusals.specs.declared.Refusal.{Refusal}
 use Rattle.refusals.specs.Refusals.{number}
-use Rattle.refusals.specs.Call.{handedIn}
 use Rattle.refusals.proofs.Laws.{judged-case}
 use Rattle.model.specs.declared.Answer.{Answer}
 use Rattle.model.specs.declared.Answer.the-variants.{Refused, Nothing, Ack, NoAck, Byte, Silence, Reply}
@@ -25,14 +21,14 @@ use Rattle.replies_fit.specs.Claims.{replyFits}
 use Rattle.replies_fit.proofs.RepliesFit.{steps-fit}
 use Rattle.calls.specs.Calls.{CallAnswer, Device, DeviceResult, entry}
 use Rattle.reading.specs.Line.{badLine, signalLine, frameLine, longest}
-use Rattle.printing.specs.Text.{badText, answerText, lineText}
+use Rattle.printing.specs.Text.{answerText, lineText}
 use Rattle.printing.proofs.TextLaws.{length-line}
-use Rattle.rack.specs.Rack.{Rack, RackCall, rackCall, devices, toAll, goesTo}
+use Rattle.rack.specs.Rack.{Rack, RackCall, devices, toAll, goesTo}
 use Rattle.rack.specs.Rules.{mostTags}
 use Rattle.rack.specs.Step.{unreached, turnOf, turnsOf, saidBy, RackAnswer, whoReplied, numbersFrom, lowestReply, noReply, together, RackResult, rackActs, rackStep, rackEntry}
 use Rattle.rack.proofs.Fits.{number-of}
 use Rattle.rack.proofs.Parts.{number-apart}
-use Rattle.rack_search.specs.Search.{searchEntry}
+use Rattle.rack_search.specs.declared.SearchAnswer.{SearchAnswer}
 use Rattle.unfinished.specs.Kept.{keptMost}
 use Rattle.line_stream.specs.Step.{LineAnswer, textRoom}
 use Rattle.line_stream.specs.Claim.{TextsFit, TellsByKept}
@@ -40,8 +36,7 @@ use Rattle.rack_reading.specs.Line.{RackLine, benchLine, addLine, nameLine, sea
 use Rattle.rack_reading.proofs.LineLaws.{rack-line-cut}
 use Rattle.rack_printing.specs.Text.{refusedText, saidText, numbersText, reportText, rackText, searchText}
 use Rattle.rack_printing.proofs.TextLaws.{report-most, search-most}
-use Rattle.rack_start.specs.Start.{takesTag}
-use Rattle.rack_script.specs.Script.{RackState, rackIn, noneText, callAnswered, searchAnswered, addAnswered, nameAnswered, rackLineAnswer, rackProgram}
+use Rattle.rack_script.specs.Script.{RackState, callAnswered, searchAnswered, addAnswered, nameAnswered, rackLineAnswer, rackProgram}
 
 -- ---- a line
 line-fits : (n : ℕ) (t : List ℕ) → length t ≤ 1320 → length (lineText n t) ≤ textRoom
@@ -142,15 +137,19 @@ entry-fits r c =
     let few = ltb-false mostTags (length (r .tags)) (neither (eqb (length (r .tags)) 0) (ltb mostTags (length (r .tags))) (number-of r c h)) in
     together-fits c (devices r) (omega (arith, few, number-apart (r .tags) (r .memory))))
 
+-- ---- a search's
+found-fits : (x : SearchAnswer) → length (searchText x) ≤ 1320
+found-fits x = omega (arith, search-most x)
+
 -- ---- a line of a script
 answer-fits : (x : RackLine) (st : RackState) → length (rackLineAnswer x st .text) ≤ textRoom
 unfolding rackLineAnswer callAnswered searchAnswered addAnswered nameAnswered
-answer-fits (benchLine badLine) st = line-fits _ badText (omega arith)
-answer-fits (benchLine (signalLine code value)) st = line-fits _ _ (entry-fits (rackIn st) (rackCall (handedIn (st .reply) code value []) (st .bench .to)))
-answer-fits (benchLine (frameLine f)) st = line-fits _ _ (entry-fits (rackIn st) (rackCall (handedIn (st .reply) 8 0 (closed f)) (st .bench .to)))
-answer-fits (addLine u) st = pick-case (λ (a : LineAnswer RackState). length (a .text) ≤ textRoom) (takesTag (st .bench)) _ _ (λ _. line-fits _ noneText (omega arith)) (λ _. line-fits _ badText (omega arith))
-answer-fits (nameLine n) st = line-fits _ noneText (omega arith)
-answer-fits (searchLine f) st = line-fits _ _ (omega (arith, search-most (searchEntry (rackIn st) (st .reply) (closed f) .answer)))
+answer-fits (benchLine badLine) st = line-fits _ _ (omega arith)
+answer-fits (benchLine (signalLine code value)) st = line-fits _ _ (entry-fits _ _)
+answer-fits (benchLine (frameLine f)) st = line-fits _ _ (entry-fits _ _)
+answer-fits (addLine u) st = pick-case (λ (a : LineAnswer RackState). length (a .text) ≤ textRoom) _ _ _ (λ _. line-fits _ _ (omega arith)) (λ _. line-fits _ _ (omega arith))
+answer-fits (nameLine n) st = line-fits _ _ (omega arith)
+answer-fits (searchLine f) st = line-fits _ _ (found-fits _)
 
 pub rack-texts-fit : TextsFit rackProgram
 unfolding rackProgram

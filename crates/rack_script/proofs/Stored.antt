@@ -1,6 +1,6 @@
 -- What a line leaves, from what its call left. Assumes nothing.
-use mathlib.Core.Path.{_≡_, refl, sym, ap, _∙_}
-use mathlib.Core.Bool.{Bool, true}
+use mathlib.Core.Path.{_≡_, sym, ap, _∙_}
+use mathlib.Core.Bool.{Bool}
 use mathlib.Core.List.{List, _++_}
 use Prim.Native.Nat.{ℕ}
 use lib.ListN.{length, take, drop, take-append-drop}
@@ -9,7 +9,7 @@ use Rattle.tag.specs.declared.Tag.{Tag}
 use Rattle.refusals.specs.Call.{handedIn}
 use Rattle.model.specs.declared.Answer.{Answer}
 use Rattle.calls.specs.Calls.{callAnswer}
-use Rattle.rack.specs.Rack.{Rack, rackOf, rackCall, memorySizes}
+use Rattle.rack.specs.Rack.{rackOf, rackCall, memorySizes}
 use Rattle.rack.specs.Step.{RackResult, numbersFrom, rackAnswer, rackResult, rackEntry}
 use Rattle.rack_search.specs.declared.SearchAnswer.{SearchAnswer}
 use Rattle.rack_search.specs.Search.{SearchResult, searchResult, searchEntry}
@@ -17,7 +17,7 @@ use Rattle.printing.specs.Text.{lineText}
 use Rattle.line_stream.specs.Step.{lineStored, storesLine}
 use Rattle.rack_printing.specs.Text.{rackText, searchText}
 use Rattle.rack_start.specs.declared.RackBench.{RackBench}
-use Rattle.rack_script.specs.Script.{rackState, tagsAdded, rackIn, begins, withRack, nextRackLine, withLines, numbered, callAnswered, searchAnswered}
+use Rattle.rack_script.specs.Script.{rackState, tagsAdded, begins, withRack, nextRackLine, withLines, numbered, callAnswered, searchAnswered}
 
 -- ---- a text, numbered
 pub numbered-stored : (b : RackBench) (m o t buf out : List ℕ) (n len : ℕ) → n ≡ nextRackLine b → len ≡ length (lineText n t) → out ≡ sets buf 0 (lineText n t)

@@ -1,6 +1,6 @@
 -- What goes from line to line of a rack's script beside the memory: its start, and a tag added.
 use mathlib.Core.Bool.{Bool, false, not, _&&_}
-use mathlib.Core.List.{List, [], _∷_}
+use mathlib.Core.List.{List}
 use Prim.Native.Nat.{ℕ, _+_}
 use lib.Dec.{ltb}
 use lib.ListN.{replicate, set}

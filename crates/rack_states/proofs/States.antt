@@ -5,8 +5,8 @@ use Prim.Native.Nat.{ℕ, zero, suc, _+_, _*_, _-_, _/_, _<_, _≤_}
 use native.Mathlib.Omega.{arith}
 use borrow.Author.Tests.{eq-eqb}
 use lib.Dec.{eqb}
-use lib.ListN.{length, take, drop, set, replicate, length-replicate, replicate-append-replicate, length-drop}
-use lib.Seq.{drop-drop, take-at, set-at, take-take, take-append-add, take-append-le, length-take-le}
+use lib.ListN.{length, getD, take, drop, set, replicate, length-replicate, replicate-append-replicate, length-drop}
+use lib.Seq.{drop-drop, take-at, set-at, take-take, take-append-add, take-append-le, length-take-le, getD-take, take-all}
 use Rattle.parts.specs.Pick.{pick}
 use Rattle.parts.proofs.Picks.{pick-true}
 use Rattle.tag.specs.declared.Tag.{Tag}
@@ -16,7 +16,7 @@ use Rattle.rack_states.specs.States.{tagsAt, spareTag, sixteenAt}
 pub tags-number : (n : ℕ) (s : List ℕ) → length (tagsAt n s) ≡ n
 unfolding tagsAt
 tags-number zero s = refl
-tags-number (suc n) s = ap suc (tags-number n (drop stateBytes s))
+tags-number (suc n) s = ap suc (tags-number n _)
 
 -- some, and those after them
 pub tags-apart : (i k : ℕ) (s : List ℕ) → tagsAt (i + k) s ≡ tagsAt i s ++ tagsAt k (drop (stateBytes * i) s)
@@ -83,3 +83,14 @@ pub whole-state : (s : List ℕ) (at n : ℕ) (x : Tag) → n ≡ stateBytes →
     → x ≡ pick (eqb (length (take n (drop at s))) stateBytes) (tagOf (take n (drop at s))) spareTag → x ≡ tagOf (take n (drop at s))
 whole-state s at n x e h f =
     f ∙ sym (pick-true _ _ _ _ (eq-eqb _ _ (length-take-le n (drop at s) (omega (arith, length-drop at s)) ∙ e)) refl)
+
+-- ---- the tag of one state, as the first of sixteen
+pub first-tag : (s : List ℕ) (at n : ℕ) (z x : Tag) → n ≡ stateBytes → at + stateBytes ≤ length s → x ≡ getD (sixteenAt (take n (drop at s))) 0 z → x ≡ tagOf (take n (drop at s))
+unfolding tagsAt
+first-tag s at n z x e h f =
+    let p = take n (drop at s) in
+    let long : length p ≡ 1 * stateBytes = length-take-le n (drop at s) (omega (arith, length-drop at s)) ∙ e in
+    f
+    ∙ sym (getD-take 1 (sixteenAt p) 0 z (omega arith))
+    ∙ ap (λ (l : List Tag). getD l 0 z) (sixteen-first 1 p (omega arith) long)
+    ∙ ap tagOf (take-all stateBytes p (omega (arith, long)))

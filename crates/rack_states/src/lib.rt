@@ -19,7 +19,7 @@ fn spare_tag() -> Tag
 }
 
 // The tag of a state.
-pub fn decode_state(s: &[u8]) -> Tag
+fn decode_state(s: &[u8]) -> Tag
     ensures { λ r. ⌜ r ≡ pick (eqb (length (now (s .entry))) stateBytes) (tagOf (now (s .entry))) spareTag ⌝ }
 {
     // Known from here on, the length is not tested again at each byte.

@@ -1,15 +1,17 @@
 use mathlib.Core.Path.{_≡_, refl, ap}
 use mathlib.Core.Bool.{_&&_}
+use mathlib.Core.List.{List}
 use Prim.Native.Nat.{ℕ, _+_, _*_, _-_, _≤_}
 use native.Mathlib.Omega.{arith}
 use native.Mathlib.Nat.{sub-zero}
-use lib.ListN.{drop}
+use lib.ListN.{getD, drop}
+use Rattle.tag.specs.declared.Tag.{Tag}
 use Rattle.tag.specs.Layout.{memoryBytes}
 use Rattle.state.specs.Layout.{stateBytes}
 use Rattle.rack.specs.Rack.{devicesOf}
 use Rattle.rack.specs.Rules.{allInRange}
 use Rattle.rack_states.specs.States.{tagsAt}
-use Rattle.rack_states.proofs.States.{whole-state}
+use Rattle.rack_states.proofs.States.{first-tag}
 use Rattle.library_rack_refusals.proofs.Loops.{ranges-more, all-ranged}
 use borrow.Author.Needs.{needs}
 use Rattle.library_rack_refusals.proofs.all_in_range.Statement.{statement}
@@ -33,43 +35,48 @@ add-end c = omega (arith, c .before .before .before .before .pre .0, c .before .
 add-to : tie.Need-add-to Inv-loop μ-loop
 add-to c = omega (arith, c .before .before .before .before .pre .0, c .before .before .before .before .pre .1)
 
-sub-decode-state : tie.Need-sub-decode-state Inv-loop μ-loop
-sub-decode-state c = omega (arith, c .before .before .before .before .pre .0, c .before .before .before .before .pre .1)
+sub-decode-tags : tie.Need-sub-decode-tags Inv-loop μ-loop
+sub-decode-tags c = omega (arith, c .before .before .before .before .pre .0, c .before .before .before .before .pre .1)
 
-part-decode-state-start : tie.Need-part-decode-state-start Inv-loop μ-loop
-part-decode-state-start c = omega (arith, c .before .before .before .before .pre .0, c .before .before .before .before .pre .1)
+part-decode-tags-start : tie.Need-part-decode-tags-start Inv-loop μ-loop
+part-decode-tags-start c = omega (arith, c .before .before .before .before .pre .0, c .before .before .before .before .pre .1)
 
-part-decode-state-end : tie.Need-part-decode-state-end Inv-loop μ-loop
-part-decode-state-end c = omega (arith, c .before .before .before .before .pre .0, c .before .before .before .before .pre .1)
+part-decode-tags-end : tie.Need-part-decode-tags-end Inv-loop μ-loop
+part-decode-tags-end c = omega (arith, c .before .before .before .before .pre .0, c .before .before .before .before .pre .1)
 
-decode-state-requires : tie.Need-decode-state-requires Inv-loop μ-loop
-decode-state-requires c κs = search needs
+decode-tags-requires : tie.Need-decode-tags-requires Inv-loop μ-loop
+decode-tags-requires c κs = search needs
+
+array-copy-out-t : tie.Need-array-copy-out-t Inv-loop μ-loop
+array-copy-out-t c = omega arith
 
 sub-in-range : tie.Need-sub-in-range Inv-loop μ-loop
-sub-in-range c = omega (arith, c .before .before .before .before .before .before .pre .0, c .before .before .before .before .before .before .pre .1)
+sub-in-range c = omega (arith, c .before .before .before .before .before .before .before .pre .0, c .before .before .before .before .before .before .before .pre .1)
 
 part-in-range-start : tie.Need-part-in-range-start Inv-loop μ-loop
-part-in-range-start c = omega (arith, c .before .before .before .before .before .before .pre .0, c .before .before .before .before .before .before .pre .1)
+part-in-range-start c = omega (arith, c .before .before .before .before .before .before .before .pre .0, c .before .before .before .before .before .before .before .pre .1)
 
 part-in-range-end : tie.Need-part-in-range-end Inv-loop μ-loop
-part-in-range-end c = omega (arith, c .before .before .before .before .before .before .pre .0, c .before .before .before .before .before .before .pre .1)
+part-in-range-end c = omega (arith, c .before .before .before .before .before .before .before .pre .0, c .before .before .before .before .before .before .before .pre .1)
 
 in-range-requires : tie.Need-in-range-requires Inv-loop μ-loop
 in-range-requires c κs = search needs
 
 add-i : tie.Need-add-i Inv-loop μ-loop
-add-i c = omega (arith, c .before .before .before .before .before .before .before .before .pre .0, c .before .before .before .before .before .before .before .before .pre .1)
+add-i c = omega (arith, c .before .before .before .before .before .before .before .before .before .pre .0, c .before .before .before .before .before .before .before .before .before .pre .1)
 
 loop-less : tie.Need-loop-less Inv-loop μ-loop
-loop-less c = omega (arith, c .before .before .before .before .before .before .before .before .pre .0, c .before .before .before .before .before .before .before .before .pre .1)
+loop-less c = omega (arith, c .before .before .before .before .before .before .before .before .before .pre .0, c .before .before .before .before .before .before .before .before .before .pre .1)
 
 loop-again : tie.Need-loop-again Inv-loop μ-loop
 loop-again c =
-    let d = c .before .before in
+    let d = c .before .before .before in
     let l = d .before .before .before .loop in
-    let a = d .before .before .before .before .before .before .args in (
-      ranges-more (a .s .now) (a .m .now) (l .all) (c .in-range .result) (l .i) (a .n) (l .at) (l .from) (l .at + 87 - l .at) (l .from + 1024 - l .from) (d .decode-state .result)
-          (omega arith) (omega arith) (omega arith) (whole-state (a .s .now) (l .at) (l .at + 87 - l .at) (d .decode-state .result) (omega arith) (omega (arith, d .before .before .before .before .before .before .pre .0)) (d .decode-state .ensures)) (c .in-range .ensures) (l .inv .0),
+    let start = d .before .before .before .before .before .before in
+    let a = start .args in
+    let first = first-tag (a .s .now) (l .at) (l .at + 87 - l .at) _ _ (omega arith) (omega (arith, start .pre .0)) (ap (λ (tags : List Tag). getD tags 0 _) (d .decode-tags .ensures)) in (
+      ranges-more (a .s .now) (a .m .now) (l .all) (c .in-range .result) (l .i) (a .n) (l .at) (l .from) (l .at + 87 - l .at) (l .from + 1024 - l .from) _
+          (omega arith) (omega arith) (omega arith) first (c .in-range .ensures) (l .inv .0),
       omega (arith, l .inv .1),
       omega (arith, l .inv .2),
       omega arith,
@@ -90,10 +97,11 @@ all-in-range-spec =
     loop-holds
     add-end
     add-to
-    sub-decode-state
-    part-decode-state-start
-    part-decode-state-end
-    decode-state-requires
+    sub-decode-tags
+    part-decode-tags-start
+    part-decode-tags-end
+    decode-tags-requires
+    array-copy-out-t
     sub-in-range
     part-in-range-start
     part-in-range-end

@@ -5,8 +5,6 @@ fn main() {
     if std::env::var_os("CARGO_FEATURE_LIBRARY").is_some() {
         println!("cargo:rerun-if-changed=../target/staticlib/libcapi.a");
         println!("cargo:rerun-if-changed=../target/staticlib/libcapi_explain.a");
-    }
-    if std::env::var_os("CARGO_FEATURE_RACK").is_some() {
         println!("cargo:rerun-if-changed=../target/staticlib/libcapi_rack.a");
     }
 }

@@ -1,7 +1,7 @@
 //! The proved library, over slices.
 
 #[path = "../../include/st25dv.rs"]
-mod linked;
+pub(crate) mod linked;
 
 // In each call the slices are there for the call, never null, and do not overlap.
 

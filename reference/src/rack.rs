@@ -3,7 +3,7 @@
 pub mod bench;
 pub mod calls;
 pub mod faults;
-#[cfg(feature = "rack")]
+#[cfg(feature = "library")]
 pub mod library;
 pub mod met;
 pub mod script;

@@ -1,42 +1,7 @@
 //! The proved library's rack, over slices.
 
 use super::calls::Lent;
-
-/// The answer, and a bit for each tag that answered.
-#[repr(C)]
-struct RackAnswer {
-    answer: u32,
-    answered: u32,
-}
-
-#[link(name = "capi_rack", kind = "static")]
-extern "C" {
-    fn st25dv_rack_step(
-        states: *mut u8,
-        state_bytes: usize,
-        memory: *mut u8,
-        memory_bytes: usize,
-        reply: *mut u8,
-        reply_bytes: usize,
-        tags: u32,
-        to: u32,
-        code: u32,
-        value: u32,
-        frame: *const u8,
-        frame_bytes: usize,
-    ) -> RackAnswer;
-    fn st25dv_rack_search(
-        states: *mut u8,
-        state_bytes: usize,
-        memory: *mut u8,
-        memory_bytes: usize,
-        reply: *mut u8,
-        reply_bytes: usize,
-        tags: u32,
-        frame: *const u8,
-        frame_bytes: usize,
-    ) -> u32;
-}
+use crate::library::linked::{st25dv_rack_search, st25dv_rack_step};
 
 // In each call the slices are there for the call, never null, and do not overlap.
 

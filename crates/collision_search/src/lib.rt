@@ -106,13 +106,13 @@ pub fn search(
     ensures { λ r. ⌜ searchResult (r .answer) (rackOf (take number (r .tags)) (now (memory .exit))) (now (out .exit)) ≡ searchEntry (rackOf (take number tags) (now (memory .entry))) (now (out .entry)) (now (frame .entry)) ⌝ }
     ensures { λ r. ⌜ drop number (r .tags) ≡ drop number tags ⌝ }
 {
-    let found = rack_walk::judge_sixteen(tags, memory, rack_judge::judge_start(number));
-    let judged = rack_judge::rack_refusal(found, memory.len(), out.len(), 8, 0, 0);
+    let judged = rack_judge::rack_refusal(tags, number, memory, out, 8, 0, 0);
+    let n = rack_judge::tag_count(number);
     match judged {
         Judgement::RefusedBy(why) => SearchOutcome {
             answer: SearchAnswer::Refused(why),
             tags,
         },
-        Judgement::NoRefusal => look_into(tags, found.found, memory, out, frame, slot_count(frame)),
+        Judgement::NoRefusal => look_into(tags, n, memory, out, frame, slot_count(frame)),
     }
 }

@@ -9,13 +9,12 @@ use Rattle.tag.specs.declared.Tag.{Tag}
 use Rattle.tag.specs.Layout.{memoryBytes, replyBytes}
 use Rattle.signal_table.specs.Table.{signalBy}
 use Rattle.refusals.specs.declared.Refusal.{Refusal}
+use Rattle.refusals.specs.declared.Judgement.{Judgement}
 use Rattle.model.specs.declared.Answer.{Answer}
 use Rattle.model.specs.declared.Answer.the-variants.{Refused, Nothing, Silence}
 use Rattle.model.specs.Step.{StepResult, isReply, actOf}
-use Rattle.refusals.specs.Refusals.{judgement, unlessRefused}
+use Rattle.refusals.specs.Refusals.{unlessRefused}
 use Rattle.rack.specs.Rack.{noTag, toAll}
-use Rattle.rack_judge.specs.declared.Judged.{Judged}
-use Rattle.rack_judge.specs.Judge.{foundRules}
 use Rattle.rack_hear.specs.declared.Heard.{Heard}
 use Rattle.rack_hear.specs.declared.HeardTag.{HeardTag}
 
@@ -32,11 +31,9 @@ abbrev pub hearRefused : Refusal → ℕ → ℕ → ℕ → Heard
 hearRefused refusal code value to =
     record { number = 0; at = 0; code = code; value = value; to = to; replied = false; answered = replicate 16 false; answer = Refused refusal }
 
--- what the tags hear of a call, from what judging found
-unfoldable pub hearingOf : Judged → ℕ → ℕ → ℕ → ℕ → ℕ → Heard
-hearingOf found memory reply code value to =
-    unlessRefused (judgement (foundRules found memory reply code value to)) (λ (refusal : Refusal). hearRefused refusal code value to)
-    (hearStart (found .found) code value to)
+-- what the tags of a rack hear of a call that was judged
+unfoldable pub hearingOf : Judgement → ℕ → ℕ → ℕ → ℕ → Heard
+hearingOf judged n code value to = unlessRefused judged (λ (refusal : Refusal). hearRefused refusal code value to) (hearStart n code value to)
 
 -- a tag that the signal does not go to
 abbrev pub passedBy : Heard → ℕ → Heard

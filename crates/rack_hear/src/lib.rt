@@ -7,7 +7,6 @@ ghost use Rattle.parts.specs.Pick.{pick};
 ghost use Rattle.tag.specs.Layout.{memoryBytes};
 ghost use Rattle.rack_hear.specs.Hear.{noReplyAnswer, hearStart, hearRefused, hearingOf, passedBy, notedBy, heardTag, actAt, hearOf};
 use model::Answer;
-use rack_judge::Judged;
 use refusals::Judgement;
 use refusals::Refusal;
 use tag::Tag;
@@ -92,14 +91,13 @@ fn hear_refused(why: Refusal, code: u32, value: u32, to: usize) -> Heard
     }
 }
 
-// What the tags hear of a call, from what judging found: the lengths are those of the memory and of the reply buffer.
-pub fn hearing(found: Judged, memory: usize, out: usize, code: u32, value: u32, to: usize) -> Heard
-    ensures { λ r. ⌜ r ≡ hearingOf found memory out code value to ⌝ }
+// What the tags of a rack hear of a call that was judged.
+pub fn hearing(judged: Judgement, number: usize, code: u32, value: u32, to: usize) -> Heard
+    ensures { λ r. ⌜ r ≡ hearingOf judged number code value to ⌝ }
 {
-    let judged = rack_judge::rack_refusal(found, memory, out, code, value, to);
     match judged {
         Judgement::RefusedBy(why) => hear_refused(why, code, value, to),
-        Judgement::NoRefusal => hear_start(found.found, code, value, to),
+        Judgement::NoRefusal => hear_start(number, code, value, to),
     }
 }
 

@@ -1,3 +1,4 @@
 pub mod Uids
-pub mod Read
-pub mod Claims
+pub mod Ranges
+pub mod Count
+pub mod Rules

@@ -29,8 +29,9 @@ pub fn step(
     ensures { λ r. ⌜ rackResult (rackAnswer (callAnswer (r .answer) (now (out .exit))) (numbersFrom 0 (r .answered))) (rackOf (take number (r .tags)) (now (memory .exit))) ≡ rackEntry (rackOf (take number tags) (now (memory .entry))) (rackCall (handedIn (now (out .entry)) code value (now (frame .entry))) to) ⌝ }
     ensures { λ r. ⌜ drop number (r .tags) ≡ drop number tags ⌝ }
 {
-    let found = rack_walk::judge_sixteen(tags, memory, rack_judge::judge_start(number));
-    let start = rack_hear::hearing(found, memory.len(), out.len(), code, value, to);
+    let judged = rack_judge::rack_refusal(tags, number, memory, out, code, value, to);
+    let n = rack_judge::tag_count(number);
+    let start = rack_hear::hearing(judged, n, code, value, to);
     let o = rack_walk::hear_sixteen(tags, memory, out, frame, start);
     let heard = o.heard;
     let answer = heard.answer;

@@ -4,9 +4,6 @@ pub mod Pieces
 pub mod Again
 pub mod Values
 pub mod Lent
-pub mod JudgeKept
 pub mod Bound
 pub mod HearEnds
-pub mod JudgeEnds
 pub mod HearMore
-pub mod JudgeMore

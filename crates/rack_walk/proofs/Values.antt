@@ -15,9 +15,6 @@ use denote.Struct.Declared.{field}
 use Rattle.tag.specs.declared.Tag.{Tag}
 use Rattle.tag.proofs.Tag as T
 use Rattle.tag.proofs.Tag.Laws as T′
-use Rattle.rack_judge.specs.declared.Judged.{Judged}
-use Rattle.rack_judge.proofs.Judged as J
-use Rattle.rack_judge.proofs.Judged.Laws as J′
 use Rattle.rack_hear.specs.declared.Heard.{Heard}
 use Rattle.rack_hear.specs.declared.HeardTag.{HeardTag}
 use Rattle.rack_hear.proofs.Heard as R
@@ -76,27 +73,6 @@ heard-shown a = refl
 
 pub heard-number-fits : (a : Heard) → Is R.the-row a (heardVals a) → a .number < 2 ^ 64
 heard-number-fits a is = LL.owed R.the-type R′.the-laws a _ is .0 .1
-
--- ---- what was read
-unfoldable pub judgedVal : Judged → Val
-judgedVal a = LL.val J.the-type J′.the-laws a
-
-abbrev pub judgedVals : Judged → List Val
-judgedVals a = judgedVal a ∷ []
-
-pub judged-tells : (a : Judged) (vs : List Val) → Is J.the-row a vs → vs ≡ judgedVals a
-unfolding judgedVal
-judged-tells a vs is = LL.tells J.the-type J′.the-laws a vs is
-
-unfoldable pub judgedRest : Judged → Vals
-judgedRest a = restOf (LL.val J.the-type J′.the-laws a)
-
-pub judged-shown : (a : Judged) → judgedVal a ≡ vstruct (vcons (vint w64 (a .number)) (judgedRest a))
-unfolding judgedVal judgedRest
-judged-shown a = refl
-
-pub judged-number-fits : (a : Judged) → Is J.the-row a (judgedVals a) → a .number < 2 ^ 64
-judged-number-fits a is = LL.owed J.the-type J′.the-laws a _ is .0 .1
 
 -- ---- both
 abbrev pub heardTagVals : HeardTag → Vals

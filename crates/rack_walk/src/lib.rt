@@ -2,33 +2,9 @@
 ghost use mathlib.Core.Path.{_≡_};
 ghost use Prim.Native.Nat.{_<_};
 ghost use lib.ListN.{length};
-ghost use Rattle.rack_judge.specs.Judge.{judgedAll, judgeOneOf, judgeAllOf};
 ghost use Rattle.rack_hear.specs.Hear.{heardAll, hearOneOf, hearAllOf};
 use rack_hear::Heard;
-use rack_judge::Judged;
 use tag::Tag;
-
-// Tag i is read.
-fn judge_one(tags: &mut [Tag], memory: &mut [u8], i: usize, judged: Judged) -> Judged
-    requires { ⌜ i < length (now tags) ⌝ }
-    ensures { λ r. ⌜ judgedAll r (now (tags .exit)) (now (memory .exit)) ≡ judgeOneOf (now (tags .entry)) (now (memory .entry)) i judged ⌝ }
-{
-    rack_judge::judge_tag(tags[i], memory, i, judged)
-}
-
-// Every tag is, in the order of their numbers.
-pub fn judge_all(tags: &mut [Tag], memory: &mut [u8], judged: Judged) -> Judged
-    ensures { λ r. ⌜ judgedAll r (now (tags .exit)) (now (memory .exit)) ≡ judgeAllOf (length (now (tags .entry))) (now (tags .entry)) (now (memory .entry)) judged ⌝ }
-{
-    let n = judged.number;
-    let mut b = judged;
-    let mut i = 0;
-    while (i < tags.len()) & (i < n) {
-        b = judge_one(tags, memory, i, b);
-        i += 1;
-    }
-    b
-}
 
 // Tag i hears the call.
 fn hear_one(
@@ -72,14 +48,6 @@ pub fn hear_all(
 pub struct HeardRack {
     pub heard: Heard,
     pub tags: [Tag; 16],
-}
-
-// They are read.
-pub fn judge_sixteen(tags: [Tag; 16], memory: &mut [u8], judged: Judged) -> Judged
-    ensures { λ r. ⌜ judgedAll r tags (now (memory .exit)) ≡ judgeAllOf 16 tags (now (memory .entry)) judged ⌝ }
-{
-    let mut lent = tags;
-    judge_all(&mut lent, memory, judged)
 }
 
 // They hear the call.

@@ -2,12 +2,13 @@
 ghost use mathlib.Core.Path.{_≡_};
 ghost use mathlib.Core.List.{[]};
 ghost use Prim.Native.Nat.{_*_, _≤_, min};
-ghost use lib.ListN.{length, take, drop};
+ghost use lib.ListN.{length, take};
 ghost use Rattle.tag.specs.Layout.{memoryBytes};
 ghost use Rattle.refusals.specs.Call.{handedIn};
 ghost use Rattle.refusals.specs.Refusals.{judgement};
 ghost use Rattle.rack.specs.Rack.{rackOf, rackCall, devicesOf, toAll};
-ghost use Rattle.rack.specs.Rules.{mostTags, allInRange, hasUid, equalUids, rackRules};
+ghost use Rattle.rack.specs.Rules.{mostTags, allInRange, equalUids, rackRules};
+ghost use Rattle.rack_judge.specs.Judge.{uidAmong};
 use keys::Uid;
 use refusals::Judgement;
 use refusals::Refusal;
@@ -50,34 +51,37 @@ fn all_in_range(tags: [Tag; 16], n: usize, memory: &[u8]) -> bool
     all
 }
 
-// Whether one of the first n tags has a UID, those before a number left out.
-fn has_uid(tags: [Tag; 16], n: usize, from: usize, u: Uid) -> bool
+// Whether one of the first n UIDs is u.
+fn uid_among(uids: [Uid; 16], n: usize, u: Uid) -> bool
     requires { ⌜ n ≤ 16 ⌝ }
-    ensures { λ r. ⌜ r ≡ hasUid u (drop from (take n tags)) ⌝ }
+    ensures { λ r. ⌜ r ≡ uidAmong uids n u ⌝ }
 {
     let mut found = false;
-    let mut i = from;
+    let mut i = 0;
     while i < n {
-        let t = tags[i];
-        let one = u.equals(t.uid);
-        found = found | one;
+        let other = uids[i];
+        found = found | other.equals(u);
         i += 1;
     }
     found
 }
 
-// Whether two of the first n tags have the same UID.
+// Whether two of the first n tags have the same UID. The UIDs are gathered, so that what is handed on is short.
 fn equal_uids(tags: [Tag; 16], n: usize) -> bool
     requires { ⌜ n ≤ 16 ⌝ }
     ensures { λ r. ⌜ r ≡ equalUids (take n tags) ⌝ }
 {
+    let none = Uid { bytes: [0; 8] };
+    let mut uids = [none; 16];
     let mut found = false;
     let mut i = 0;
     while i < n {
         let t = tags[i];
-        i += 1;
-        let one = has_uid(tags, n, i, t.uid);
+        let u = t.uid;
+        let one = uid_among(uids, i, u);
         found = found | one;
+        uids[i] = u;
+        i += 1;
     }
     found
 }

@@ -40,14 +40,14 @@ rackIn state =
     rackOf tags (take (memorySizes tags) (state .memory))
 
 -- a good line that adds no tag begins the script proper: no more are added
-abbrev pub begins : List Tag → ℕ → RackBench → RackBench
-begins tags to bench = record { tags = tags; count = bench .count; to = to; begun = true; number = bench .number }
+abbrev pub scriptBegun : List Tag → ℕ → RackBench → RackBench
+scriptBegun tags to bench = record { tags = tags; count = bench .count; to = to; begun = true; number = bench .number }
 
 -- after a call that left that rack, and the reply buffer o: what stands past its tags and their memories stays
 abbrev pub withRack : Rack → List ℕ → RackState → RackState
 withRack rack o state =
     let bench = state .bench in
-    rackState (begins (rack .tags ++ drop (bench .count) (bench .tags)) (bench .to) bench) (rack .memory ++ drop (memorySizes (tagsAdded bench)) (state .memory)) o
+    rackState (scriptBegun (rack .tags ++ drop (bench .count) (bench .tags)) (bench .to) bench) (rack .memory ++ drop (memorySizes (tagsAdded bench)) (state .memory)) o
 
 -- ---- line numbers from 1
 abbrev pub nextRackLine : RackBench → ℕ
@@ -91,7 +91,7 @@ addAnswered uid state =
 
 -- "names the tag for later V, S, B, G, P, D lines .., answer `-`"
 unfoldable pub nameAnswered : ℕ → RackState → LineAnswer RackState
-nameAnswered n state = numbered (rackState (begins (state .bench .tags) n (state .bench)) (state .memory) (state .reply)) noneText
+nameAnswered n state = numbered (rackState (scriptBegun (state .bench .tags) n (state .bench)) (state .memory) (state .reply)) noneText
 
 -- the program adds a frame's CRC
 unfoldable pub rackLineAnswer : RackLine → RackState → LineAnswer RackState

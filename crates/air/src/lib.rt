@@ -1,9 +1,11 @@
 // The radio state and the field.
+#![tactic(auto)]
+
 ghost use Rattle.std.specs.Prelude.{◌≡◌};
 ghost use Rattle.air.specs.Radio.{is_quiet, is_selected, selected, deselected, quieted, reset, field_off, field_on, field_at};
 ghost use Rattle.air.specs.Parts.{out_of_field, with_state, with_radio_session, with_slots};
 
-#[derive(Drop)]
+#[derive(Clone, Copy)]
 pub enum RadioState {
     Ready,
     Quiet,
@@ -12,7 +14,7 @@ pub enum RadioState {
 
 // All that a field change touches. The session is 0 for none, 1 to 4 for passwords 0 to 3; slots is how many
 // ends-of-frame are left to the tag's slot of an inventory, 0 to 15.
-#[derive(Drop)]
+#[derive(Clone, Copy)]
 pub struct Air {
     pub field: bool,
     pub radio: RadioState,

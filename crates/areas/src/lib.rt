@@ -1,4 +1,6 @@
 // Areas and their ends.
+#![tactic(auto)]
+
 ghost use Rattle.std.specs.Prelude.{◌≡◌};
 ghost use Rattle.areas.specs.Ends.{area_of_block, area_of_byte, ends_in_range, later_largest, exceeds_before, end_accepted, end_allows};
 

@@ -1,6 +1,8 @@
 // The run of both programs, `bench` and, with the names of rules, `explain`: each line of standard input answered on
 // standard output. It only moves bytes: what a line is and what answers it is the crate stream's. All that is to be
 // written is written before more is read.
+#![tactic(auto)]
+
 ghost use Rattle.std.specs.Prelude.{◌≡◌, false, ◌≤◌, length, take};
 ghost use Rattle.script.specs.Lines.{bench_state};
 ghost use Rattle.line_stream.specs.Step.{text_room};
@@ -11,7 +13,7 @@ use bench_start::Bench;
 
 // Where a run stands: the tag and the number of lines, how many bytes of an unfinished line are kept, and whether to
 // go on.
-#[derive(Drop)]
+#[derive(Clone, Copy)]
 struct Progress {
     bench: Bench,
     have: usize,

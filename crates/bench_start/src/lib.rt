@@ -1,4 +1,6 @@
 // What goes from line to line beside the memory: its start, and the line number.
+#![tactic(auto)]
+
 ghost use Rattle.std.specs.Prelude.{◌≡◌};
 ghost use Rattle.bench_start.specs.Start.{bench_start, bench_start_of, next_line};
 
@@ -6,7 +8,7 @@ use keys::Uid;
 use tag::Tag;
 
 // What goes from line to line beside the memory.
-#[derive(Drop)]
+#[derive(Clone, Copy)]
 pub struct Bench {
     pub tag: Tag,
     // Lines before the next one.

@@ -1,4 +1,6 @@
 // Commands that write and lock blocks of user memory.
+#![tactic(auto)]
+
 ghost use Rattle.std.specs.Prelude.{◌≡◌, ◌+◌};
 ghost use Rattle.reply.specs.Outcome.{radio_result, finish};
 ghost use Rattle.block_writes.specs.Writes.{write_of, lock_of};

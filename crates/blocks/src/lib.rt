@@ -1,4 +1,6 @@
 // Commands that read blocks of user memory.
+#![tactic(auto)]
+
 ghost use Rattle.std.specs.Prelude.{◌≡◌, ◌+◌, ◌≤◌, length};
 ghost use Rattle.std.proofs.lemmas.List.Edits.{sets};
 ghost use Rattle.reply.specs.Outcome.{radio_result, finish};

@@ -1,30 +1,32 @@
 // What the bus says of a transfer, and the address counter.
+#![tactic(auto)]
+
 ghost use Rattle.std.specs.Prelude.{◌≡◌};
 ghost use Rattle.bus.specs.Bus.{is_open_transfer, counted_dynamic, kept_of, transfer_at, is_open, is_active, page_bytes, next_address};
 
 use register_types::RfMngt;
 
 // The address space that a select names.
-#[derive(Drop)]
+#[derive(Clone, Copy)]
 pub enum Space {
     User,
     System,
 }
 
 // What is kept of an open transfer.
-#[derive(Drop)]
+#[derive(Clone, Copy)]
 pub struct OpenTransfer {
     // RF_MNGT_Dyn at the transfer's start.
     pub dynamic: RfMngt,
 }
 
-#[derive(Drop)]
+#[derive(Clone, Copy)]
 pub enum Transfer {
     Closed,
     Open(OpenTransfer),
 }
 
-#[derive(Drop)]
+#[derive(Clone, Copy)]
 pub enum Bus {
     Idle,
     // After a Start.

@@ -1,4 +1,6 @@
 // The tag for programs in C and Rust: functions over numbers and lent bytes. What a number can tell is judged here; docs/LIBRARY.md says what a caller owes.
+#![tactic(auto)]
+
 ghost use Rattle.std.specs.Prelude.{◌≡◌, ◌+◌, leb};
 ghost use Rattle.parts.specs.Pick.{pick};
 ghost use Rattle.tag.specs.Layout.{reply_bytes};

@@ -1,5 +1,7 @@
 // The explanation of a call for programs in C and Rust. It is a library of its own: with a second caller of the decoding
 // of a state and of the refusals the compiler would keep these apart from `st25dv_step`, which took twice the time then.
+#![tactic(auto)]
+
 ghost use Rattle.std.specs.Prelude.{◌≡◌};
 ghost use Rattle.refusals.specs.Call.{handed_in};
 ghost use Rattle.capi_explain.specs.Explain.{explain_of, explain_call};

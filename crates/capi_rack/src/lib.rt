@@ -1,4 +1,6 @@
 // Racks of tags for programs in C and Rust: functions over numbers and lent bytes. docs/LIBRARY.md says what a caller owes.
+#![tactic(auto)]
+
 ghost use Rattle.std.specs.Prelude.{◌≡◌};
 ghost use Rattle.parts.specs.Pick.{pick};
 ghost use Rattle.refusals.specs.Call.{handed_in};
@@ -12,7 +14,7 @@ use refusals::Judgement;
 
 // What a step gives.
 #[repr(C)]
-#[derive(Drop)]
+#[derive(Clone, Copy)]
 pub struct RackNumbers {
     pub answer: u32,
     // A bit for each tag that answered, bit i for tag i.

@@ -1,4 +1,6 @@
 // The installer's search: the first slot in which two tags of a rack answer, by what its tags really do.
+#![tactic(auto)]
+
 ghost use Rattle.std.specs.Prelude.{◌≡◌, ◌≤◌, take, drop};
 ghost use Rattle.refusals.specs.declared.Judgement.TheVariants.{NoRefusal};
 ghost use Rattle.refusals.specs.Refusals.{judgement};
@@ -14,7 +16,7 @@ use refusals::Judgement;
 use tag::Tag;
 
 // What is found, and the tags as it leaves them.
-#[derive(Drop)]
+#[derive(Clone, Copy)]
 pub struct SearchOutcome {
     pub answer: SearchAnswer,
     pub tags: [Tag; 16],

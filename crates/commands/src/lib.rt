@@ -1,4 +1,6 @@
 // The commands of the radio side: the code of each, whether it takes the option, its bytes of parameters.
+#![tactic(auto)]
+
 ghost use Rattle.std.specs.Prelude.{◌≡◌, ◌≤◌};
 ghost use Rattle.commands.specs.Table.{command_of, is_known, takes_option, size_of, param_bytes};
 ghost use Rattle.commands.specs.declared.CommandCode.TheVariants.{Known};
@@ -8,7 +10,7 @@ pub const STAY_QUIET: u8 = 0x02;
 
 pub const SELECT: u8 = 0x25;
 
-#[derive(Drop)]
+#[derive(Clone, Copy)]
 pub enum Command {
     StayQuiet,
     Select,
@@ -31,7 +33,7 @@ pub enum Command {
 }
 
 // How many bytes of parameters a command takes.
-#[derive(Drop)]
+#[derive(Clone, Copy)]
 pub enum ParamSize {
     Bytes(u8),
     // First block, count-1, four bytes a block.
@@ -40,7 +42,7 @@ pub enum ParamSize {
     MessageData,
 }
 
-#[derive(Drop)]
+#[derive(Clone, Copy)]
 pub struct CommandRow {
     pub command: Command,
     pub option: bool,
@@ -48,7 +50,7 @@ pub struct CommandRow {
 }
 
 // What a command code stands for.
-#[derive(Drop)]
+#[derive(Clone, Copy)]
 pub enum CommandCode {
     Unknown,
     Known(CommandRow),

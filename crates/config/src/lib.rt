@@ -1,4 +1,6 @@
 // Commands on the system registers.
+#![tactic(auto)]
+
 ghost use Rattle.std.specs.Prelude.{◌≡◌};
 ghost use Rattle.reply.specs.Outcome.{radio_result, finish};
 ghost use Rattle.config.specs.Config.{read_config_of, mailbox_after_write, written_core, write_config_of};

@@ -1,6 +1,8 @@
 // What the programs' loops do with standard input and output: one read, and a write of all. A call that a signal
 // interrupts is made again. Which bytes a call moves no contract can say, nor why it fails. The number of calls only
 // shows that a loop ends.
+#![tactic(auto)]
+
 ghost use Rattle.std.specs.Prelude.{◌≡◌, true, length};
 ghost use Rattle.libc.specs.Io.{Moved};
 

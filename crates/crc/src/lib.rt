@@ -1,4 +1,6 @@
 // The CRC of a frame (ISO/IEC 13239), four bits at a time.
+#![tactic(auto)]
+
 ghost use Rattle.std.specs.Prelude.{◌≡◌};
 ghost use Rattle.crc.specs.Crc.{remainders, crc_of, byte, good_frame, closed_at};
 

@@ -1,4 +1,6 @@
 // A data byte of a write leg: Acked and taken into the page, or not.
+#![tactic(auto)]
+
 ghost use Rattle.std.specs.Prelude.{◌≡◌};
 ghost use Rattle.select.specs.Select.{first_of};
 ghost use Rattle.write_reasons.specs.declared.WriteAsked.TheVariants.{DataByte};

@@ -1,4 +1,6 @@
 // Whether the registers hold defined bits only.
+#![tactic(auto)]
+
 ghost use Rattle.std.specs.Prelude.{◌≡◌};
 ghost use Rattle.defined_bits.specs.Defined.{defined_only};
 

@@ -1,1 +1,2 @@
 // Demand 2, whole: definitions and their proofs.
+#![tactic(auto)]

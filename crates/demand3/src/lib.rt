@@ -1,1 +1,2 @@
 // Demand 3: the claim and its proof.
+#![tactic(auto)]

@@ -1,4 +1,6 @@
 // The dynamic registers: their addresses in user space, which of them the host writes, and the radio's pointer.
+#![tactic(auto)]
+
 ghost use Rattle.std.specs.Prelude.{◌≡◌};
 ghost use Rattle.dynamic.specs.Dynamic.{host_writes};
 

@@ -1,4 +1,6 @@
 // Commands on the dynamic registers.
+#![tactic(auto)]
+
 ghost use Rattle.std.specs.Prelude.{◌≡◌};
 ghost use Rattle.reply.specs.Outcome.{radio_result, finish};
 ghost use Rattle.dynamic_config.specs.DynamicConfig.{read_dynamic_of, write_dynamic_of};

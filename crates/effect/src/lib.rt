@@ -1,4 +1,6 @@
 // A write leg's effect on the wire side: programming started, and the core it leaves.
+#![tactic(auto)]
+
 ghost use Rattle.std.specs.Prelude.{◌≡◌};
 ghost use Rattle.tag.specs.Parts.{with_wire_core};
 ghost use Rattle.effect.specs.Effect.{programming};

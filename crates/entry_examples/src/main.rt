@@ -3,11 +3,13 @@
 // C: a call, its code, its value (two bytes) and the frame; J, O: the length of the memory and of the reply buffer that calls hand in;
 // M, T: memory and state from a place on (two bytes, then bytes);
 // and, alone, N: the fresh tag; Z: the state; E: the CRC of all memory bytes and that of all reply bytes.
+#![tactic(auto)]
+
 use model::Answer;
 use refusals::Refusal;
 use tag::Tag;
 
-#[derive(Drop)]
+#[derive(Clone, Copy)]
 struct EntryRun {
     tag: Tag,
     // How much of each buffer a call hands in.
@@ -28,7 +30,7 @@ const REPLY: usize = 700;
 const LINE: usize = 1102;
 
 // What a line prints: that it is none of these, a call's answer, the state, or the two CRCs.
-#[derive(Drop)]
+#[derive(Clone, Copy)]
 enum EntryPrint {
     Bad,
     Answer(Answer),
@@ -37,7 +39,7 @@ enum EntryPrint {
 }
 
 // What a line leaves.
-#[derive(Drop)]
+#[derive(Clone, Copy)]
 struct EntryLineOutcome {
     run: EntryRun,
     said: EntryPrint,

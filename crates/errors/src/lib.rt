@@ -1,9 +1,11 @@
 // The errors that a frame may be answered with.
+#![tactic(auto)]
+
 ghost use Rattle.std.specs.Prelude.{◌≡◌};
 ghost use Rattle.errors.specs.Errors.{error_code, error_number};
 
 // A case for each error rule of document 01, in its order.
-#[derive(Drop)]
+#[derive(Clone, Copy)]
 pub enum RadioError {
     ShutOut,
     UnknownCommand,

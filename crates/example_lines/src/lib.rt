@@ -1,4 +1,6 @@
 // For the example program: a script from standard input, its lines, and the lines that answer them.
+#![tactic(auto)]
+
 ghost use Rattle.std.specs.Prelude.{◌≡◌, set};
 ghost use Rattle.io.specs.Counts.{IsPrefixLen};
 ghost use Rattle.text.specs.Place.{stored, text_at};

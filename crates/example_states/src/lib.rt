@@ -1,4 +1,6 @@
 // What the example program does with a tag's bytes: the memory, and the state.
+#![tactic(auto)]
+
 ghost use Rattle.std.specs.Prelude.{◌≡◌};
 ghost use Rattle.text.specs.Place.{stored, text_at};
 ghost use Rattle.hex.specs.Hex.{hex_text};
@@ -34,7 +36,7 @@ pub fn store(m: &mut [u8], s: &[u8]) -> bool
 }
 
 // A tag after a line set bytes of its state, and whether they are a state's; else it is as it was.
-#[derive(Drop)]
+#[derive(Clone, Copy)]
 pub struct PatchOutcome {
     pub fits: bool,
     pub tag: Tag,

@@ -1,4 +1,6 @@
 // Which rule explains a NoAck, an error or a silence, by its number. It is asked before the signal acts, and only reads.
+#![tactic(auto)]
+
 ghost use Rattle.std.specs.Prelude.{◌≡◌, Bool, true, false, not, ◌&&◌, List, ℕ};
 ghost use Rattle.parts.specs.Pick.{pick};
 ghost use Rattle.frame.specs.Fields.{inventory_flag};

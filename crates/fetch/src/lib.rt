@@ -1,4 +1,6 @@
 // The bytes that fetches give, and whether one is the last of an RF message.
+#![tactic(auto)]
+
 ghost use Rattle.std.specs.Prelude.{◌≡◌, ◌-◌};
 ghost use Rattle.dynamic.specs.Dynamic.{mailbox_first};
 ghost use Rattle.fetch.specs.Fetch.{memory_byte, mailbox_byte, user_byte, system_byte, fetched, is_last};

@@ -1,4 +1,6 @@
 // A frame's fields: flags, command, UID, parameters and the CRC's place.
+#![tactic(auto)]
+
 ghost use Rattle.std.specs.Prelude.{◌≡◌, ◌≤◌};
 ghost use Rattle.frame.specs.Fields.{command, option_flag, uid_place, param_place, crc_place, own_uid, param};
 

@@ -1,4 +1,6 @@
 // Inventory of ISO/IEC 15693: which frames are well_formed, which tags they ask, and in which slot a tag answers.
+#![tactic(auto)]
+
 ghost use Rattle.std.specs.Prelude.{◌≡◌, ◌≤◌};
 ghost use Rattle.inventory.specs.Inventory.{mask_length_place, mask_bits, is_malformed, bit_at, same_bits, afi_asks, is_matched, slot_number, own_slot, slots_after, answers_now, takes_part, inventory_silent};
 

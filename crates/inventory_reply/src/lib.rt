@@ -1,4 +1,6 @@
 // What an inventory frame and an end-of-frame do.
+#![tactic(auto)]
+
 ghost use Rattle.std.specs.Prelude.{◌≡◌, ◌-◌};
 ghost use Rattle.reply.specs.Reply.{reply_result, put_reply};
 ghost use Rattle.reply.specs.Outcome.{radio_result, finish};

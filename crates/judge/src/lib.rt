@@ -1,4 +1,6 @@
 // A frame judged: silence, an error, or a request to serve.
+#![tactic(auto)]
+
 ghost use Rattle.std.specs.Prelude.{◌≡◌};
 ghost use Rattle.judge.specs.Judge.{is_mute, error_of, shut_out, bad_flags, wrong_length, first_error, judge};
 
@@ -7,7 +9,7 @@ use errors::RadioError;
 use keys::Uid;
 use register_types::RfMngt;
 
-#[derive(Drop)]
+#[derive(Clone, Copy)]
 pub enum Verdict {
     Silence,
     Error(RadioError),

@@ -1,15 +1,17 @@
 // The passwords and the UID.
+#![tactic(auto)]
+
 ghost use Rattle.std.specs.Prelude.{◌≡◌};
 ghost use Rattle.keys.specs.Keys.{password_at, uid_at, same_password, same_uid, uid_byte, radio_password, with_radio_password, with_i2c_password, fresh_passwords};
 
 // Eight bytes, in the order in which they arrive.
-#[derive(Drop)]
+#[derive(Clone, Copy)]
 pub struct Password {
     pub bytes: [u8; 8],
 }
 
 // Radio passwords 0 to 3 and the I2C password.
-#[derive(Drop)]
+#[derive(Clone, Copy)]
 pub struct Passwords {
     pub rf0: Password,
     pub rf1: Password,
@@ -19,7 +21,7 @@ pub struct Passwords {
 }
 
 // The UID, lowest byte first.
-#[derive(Drop)]
+#[derive(Clone, Copy)]
 pub struct Uid {
     pub bytes: [u8; 8],
 }

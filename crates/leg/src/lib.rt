@@ -1,4 +1,6 @@
 // What a write leg's bytes do at its end, and what the fetch of a message's last byte does.
+#![tactic(auto)]
+
 ghost use Rattle.std.specs.Prelude.{◌≡◌};
 ghost use Rattle.tag.specs.Layout.{page};
 ghost use Rattle.effect.specs.Effect.{leg_result};

@@ -1,4 +1,6 @@
 // The refusals of the library's rack calls, over numbers and lent bytes.
+#![tactic(auto)]
+
 ghost use Rattle.std.specs.Prelude.{◌≡◌, [], ◌*◌, ◌≤◌, length};
 ghost use Rattle.tag.specs.Layout.{memory_bytes};
 ghost use Rattle.state.specs.Layout.{state_bytes};

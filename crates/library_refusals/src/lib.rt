@@ -1,4 +1,6 @@
 // The refusals of the library's calls, over numbers and lent bytes.
+#![tactic(auto)]
+
 ghost use Rattle.std.specs.Prelude.{◌≡◌};
 ghost use Rattle.refusals.specs.Call.{handed_in};
 ghost use Rattle.refusals.specs.Refusals.{judgement};

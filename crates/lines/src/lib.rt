@@ -1,4 +1,6 @@
 // A line of a script: a letter alone, or a letter, a tab, and 0, 1 or bytes in hex.
+#![tactic(auto)]
+
 ghost use Rattle.std.specs.Prelude.{◌≡◌, ◌+◌, length, drop};
 ghost use Rattle.std.proofs.lemmas.List.Edits.{sets};
 ghost use Rattle.hex.specs.Hex.{hex_bytes};

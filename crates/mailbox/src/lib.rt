@@ -1,17 +1,19 @@
 // The mailbox but for its bytes: MB_CTRL_Dyn and MB_LEN_Dyn, and what changes them.
+#![tactic(auto)]
+
 ghost use Rattle.std.specs.Prelude.{◌≡◌, ◌≤◌};
 ghost use Rattle.mailbox.specs.Mailbox.{control_byte, length_byte, empty_mailbox, disabled, enabled, controlled, host_put, radio_put, host_read, radio_read, weight};
 
 use register_types::MbMode;
 
 // One side's bits of MB_CTRL_Dyn: a message not yet read, and that the message is this side's.
-#[derive(Drop)]
+#[derive(Clone, Copy)]
 pub struct Message {
     pub put: bool,
     pub current: bool,
 }
 
-#[derive(Drop)]
+#[derive(Clone, Copy)]
 pub struct Mailbox {
     // MB_EN.
     pub enabled: bool,

@@ -1,4 +1,6 @@
 // Commands that read the mailbox: the length of its message, and its bytes.
+#![tactic(auto)]
+
 ghost use Rattle.std.specs.Prelude.{◌≡◌};
 ghost use Rattle.reply.specs.Outcome.{radio_result, finish};
 ghost use Rattle.message.specs.Message.{length_of, asked, mailbox_after_read, read_message_of};

@@ -1,4 +1,6 @@
 // The command that writes a message.
+#![tactic(auto)]
+
 ghost use Rattle.std.specs.Prelude.{◌≡◌};
 ghost use Rattle.reply.specs.Outcome.{radio_result, finish};
 ghost use Rattle.message_writes.specs.WriteMessage.{takes_message, write_message_of};

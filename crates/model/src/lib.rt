@@ -1,4 +1,6 @@
 // The tag's two entry points: the fresh tag, and one call. Nothing here relies on a check by the caller.
+#![tactic(auto)]
+
 ghost use Rattle.std.specs.Prelude.{◌≡◌};
 ghost use Rattle.air.specs.Radio.{field_at};
 ghost use Rattle.signal_table.specs.declared.Signal.TheVariants.{Frame, EndOfFrame};
@@ -14,7 +16,7 @@ use reply::RadioSide;
 use signal_table::{Signal, WireSignal};
 use tag::{Tag, WireSide};
 
-#[derive(Drop)]
+#[derive(Clone, Copy)]
 pub enum Answer {
     Refused(Refusal),
     Nothing,
@@ -26,7 +28,7 @@ pub enum Answer {
     Reply(usize),
 }
 
-#[derive(Drop)]
+#[derive(Clone, Copy)]
 pub struct Outcome {
     pub answer: Answer,
     pub tag: Tag,

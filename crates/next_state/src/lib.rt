@@ -1,4 +1,6 @@
 // The state's bytes after a call.
+#![tactic(auto)]
+
 ghost use Rattle.std.specs.Prelude.{◌≡◌};
 ghost use Rattle.model.specs.Step.{is_refused};
 ghost use Rattle.next_state.specs.After.{kept_state};

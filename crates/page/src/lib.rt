@@ -1,4 +1,6 @@
 // The range on page bytes: each would be Acked at its place.
+#![tactic(auto)]
+
 ghost use Rattle.std.specs.Prelude.{◌≡◌, leb, ltb, eqb};
 ghost use Rattle.bus.specs.declared.Space.TheVariants.{User, System};
 ghost use Rattle.parts.specs.Pick.{pick};

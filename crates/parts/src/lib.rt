@@ -1,4 +1,6 @@
 // Total access to lent bytes: a byte past the end reads 0, and a store past the end changes nothing.
+#![tactic(auto)]
+
 ghost use Rattle.std.specs.Prelude.{◌≡◌, ◌+◌, ◌≤◌, leb, length, get_or, set};
 ghost use Rattle.std.proofs.lemmas.List.Edits.{sets};
 ghost use Rattle.parts.specs.Bytes.{bytes_at, copied, agree};

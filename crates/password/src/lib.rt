@@ -1,4 +1,6 @@
 // Commands on passwords.
+#![tactic(auto)]
+
 ghost use Rattle.std.specs.Prelude.{◌≡◌};
 ghost use Rattle.reply.specs.Outcome.{radio_result, finish};
 ghost use Rattle.password.specs.Password.{present_of, write_password_of};

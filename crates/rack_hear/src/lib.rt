@@ -1,4 +1,6 @@
 // A rack's call at one tag: whether the signal goes to it, what it does there, and what the rack answers so far.
+#![tactic(auto)]
+
 ghost use Rattle.std.specs.Prelude.{◌≡◌, ◌+◌, ◌<◌, ◌≤◌, length};
 ghost use Rattle.model.specs.Step.{is_reply};
 ghost use Rattle.parts.specs.Pick.{pick};
@@ -10,7 +12,7 @@ use refusals::{Judgement, Refusal};
 use tag::Tag;
 
 // The call, and the rack's answer so far.
-#[derive(Drop)]
+#[derive(Clone, Copy)]
 pub struct Heard {
     // How many tags the rack has; 0 where the call is refused, so that no tag hears it.
     pub number: usize,
@@ -28,7 +30,7 @@ pub struct Heard {
 }
 
 // What a tag leaves of it, and the tag.
-#[derive(Drop)]
+#[derive(Clone, Copy)]
 pub struct HeardTag {
     pub heard: Heard,
     pub tag: Tag,

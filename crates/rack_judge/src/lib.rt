@@ -1,4 +1,6 @@
 // Judging a rack's call: sixteen tags by value, of which the first ones are the rack, their memories end to end in a lent buffer.
+#![tactic(auto)]
+
 ghost use Rattle.std.specs.Prelude.{◌≡◌, [], ◌*◌, ◌≤◌, min, length, take};
 ghost use Rattle.tag.specs.Layout.{memory_bytes};
 ghost use Rattle.refusals.specs.Call.{handed_in};

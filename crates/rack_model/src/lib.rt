@@ -1,4 +1,6 @@
 // One call of a rack: sixteen tags by value, of which the first ones are the rack, their memories end to end in a lent buffer.
+#![tactic(auto)]
+
 ghost use Rattle.std.specs.Prelude.{◌≡◌, take, drop};
 ghost use Rattle.refusals.specs.Call.{handed_in};
 ghost use Rattle.calls.specs.Calls.{call_answer};
@@ -9,7 +11,7 @@ use model::Answer;
 use tag::Tag;
 
 // The answer, which tags replied, and the tags.
-#[derive(Drop)]
+#[derive(Clone, Copy)]
 pub struct RackOutcome {
     pub answer: Answer,
     pub answered: [bool; 16],

@@ -1,11 +1,13 @@
 // What a line of a rack's script says.
+#![tactic(auto)]
+
 ghost use Rattle.std.specs.Prelude.{◌≡◌, drop};
 ghost use Rattle.rack_reading.specs.Line.{uid_of, add_sent, is_digit, number_sent, name_sent, search_sent, own_line, rack_line_of, rack_line_by};
 
 use keys::Uid;
 use reading::Reading;
 
-#[derive(Drop)]
+#[derive(Clone, Copy)]
 pub enum RackReading {
     Bad,
     // The signal's code, and its value.

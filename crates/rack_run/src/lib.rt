@@ -1,5 +1,7 @@
 // The run of the program `rack_bench`: each line of standard input answered on standard output. It only moves bytes: what
 // a line is and what answers it is the crate rack_stream's. All that is to be written is written before more is read.
+#![tactic(auto)]
+
 ghost use Rattle.std.specs.Prelude.{◌≡◌, false, ◌≤◌, length, take};
 ghost use Rattle.line_stream.specs.Step.{text_room};
 ghost use Rattle.line_stream.specs.Flow.{flow_of, Reaches};
@@ -9,7 +11,7 @@ use rack_start::RackBench;
 
 // Where a run stands: the tags and what else is on the bench, how many bytes of an unfinished line are kept, and whether to
 // go on.
-#[derive(Drop)]
+#[derive(Clone, Copy)]
 struct Progress {
     bench: RackBench,
     have: usize,

@@ -1,4 +1,6 @@
 // A rack's script: a line to a call, a search, a tag or a bad line, an answer to its text, and the step from line to line.
+#![tactic(auto)]
+
 ghost use Rattle.std.specs.Prelude.{◌≡◌, ℕ, ◌≤◌, List, length, take};
 ghost use Rattle.std.proofs.lemmas.List.Edits.{sets};
 ghost use Rattle.crc.specs.Crc.{closed};
@@ -12,7 +14,7 @@ use rack_reading::RackReading;
 use rack_start::RackBench;
 
 // What a line leaves beside both lent buffers: its text has this length.
-#[derive(Drop)]
+#[derive(Clone, Copy)]
 pub struct RackLineOutcome {
     pub bench: RackBench,
     pub length: usize,

@@ -1,8 +1,10 @@
 // The installer's search over a rack: what it sends, and what it finds.
+#![tactic(auto)]
+
 use refusals::Refusal;
 
 // What a search is answered with.
-#[derive(Drop)]
+#[derive(Clone, Copy)]
 pub enum SearchAnswer {
     Refused(Refusal),
     // In no slot two tags answered.

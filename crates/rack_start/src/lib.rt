@@ -1,4 +1,6 @@
 // What goes from line to line of a rack's script beside the memory: its start, and a tag added.
+#![tactic(auto)]
+
 ghost use Rattle.std.specs.Prelude.{◌≡◌, ◌≤◌, take};
 ghost use Rattle.rack.specs.Rack.{memory_sizes};
 ghost use Rattle.rack_start.specs.Start.{rack_start, takes_tag, rack_added, added_tag};
@@ -7,7 +9,7 @@ use keys::Uid;
 use tag::Tag;
 
 // What goes from line to line beside the memory.
-#[derive(Drop)]
+#[derive(Clone, Copy)]
 pub struct RackBench {
     // The rack is the first `count` of them.
     pub tags: [Tag; 16],

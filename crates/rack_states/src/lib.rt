@@ -1,4 +1,6 @@
 // The tags of a rack and their states, end to end.
+#![tactic(auto)]
+
 ghost use Rattle.std.specs.Prelude.{◌≡◌, eqb, length};
 ghost use Rattle.parts.specs.Pick.{pick};
 ghost use Rattle.state.specs.Layout.{state_bytes, tag_of};

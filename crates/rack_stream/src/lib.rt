@@ -1,4 +1,6 @@
 // A rack's lines out of pieces of any length: a step with a piece of the input, and the end of the input.
+#![tactic(auto)]
+
 ghost use Rattle.std.specs.Prelude.{◌≡◌, ◌++◌, ◌≤◌, eqb, length, take};
 ghost use Rattle.parts.specs.Pick.{pick};
 ghost use Rattle.unfinished.specs.Kept.{kept_most};
@@ -9,7 +11,7 @@ use rack_script::RackLineOutcome;
 use rack_start::RackBench;
 
 // What a step leaves beside the lent buffers: the unfinished line has `have` bytes.
-#[derive(Drop)]
+#[derive(Clone, Copy)]
 pub struct RackStreamOutcome {
     pub bench: RackBench,
     pub have: usize,

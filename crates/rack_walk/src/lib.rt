@@ -1,4 +1,6 @@
 // A rack's tags in a lent slice: each is taken out, worked on by value and stored.
+#![tactic(auto)]
+
 ghost use Rattle.std.specs.Prelude.{◌≡◌, ◌<◌, length};
 ghost use Rattle.rack_hear.specs.Hear.{heard_all, hear_one_of, hear_all_of};
 
@@ -44,7 +46,7 @@ pub fn hear_all(
 
 // ---- sixteen tags by value, for code that has no slice of them
 // What a call leaves of them.
-#[derive(Drop)]
+#[derive(Clone, Copy)]
 pub struct HeardRack {
     pub heard: Heard,
     pub tags: [Tag; 16],

@@ -1,4 +1,6 @@
 // The radio side: a frame or an end-of-frame in, its answer and what it changes out. A layer and no entry point: it refuses nothing.
+#![tactic(auto)]
+
 ghost use Rattle.std.specs.Prelude.{◌≡◌};
 ghost use Rattle.reply.specs.Outcome.{radio_result, finish};
 ghost use Rattle.radio.specs.Radio.{verdict_result, verdict_of, radio_of, next_slot_of};

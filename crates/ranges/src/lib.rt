@@ -1,4 +1,6 @@
 // The ranges of a tag's state, decided for every state that can be handed in.
+#![tactic(auto)]
+
 ghost use Rattle.std.specs.Prelude.{◌≡◌, Bool};
 ghost use Rattle.ranges.specs.Ranges.{registers_in_range, air_in_range, mailbox_in_range, supplied_in_range, transfer_in_range, host_in_range, core_in_range, wire_in_range, in_range};
 

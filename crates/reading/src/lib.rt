@@ -1,8 +1,10 @@
 // What a line says.
+#![tactic(auto)]
+
 ghost use Rattle.std.specs.Prelude.{◌≡◌, get_or, drop};
 ghost use Rattle.reading.specs.Line.{line_by, alone, level, byte_sent, frame_sent, tabbed, line_of};
 
-#[derive(Drop)]
+#[derive(Clone, Copy)]
 pub enum Reading {
     Bad,
     // The signal's code, and its value.

@@ -1,4 +1,6 @@
 // Which refusal, if any, a call gets.
+#![tactic(auto)]
+
 ghost use Rattle.std.specs.Prelude.{◌≡◌};
 ghost use Rattle.refusals.specs.Call.{handed_in};
 ghost use Rattle.refusals.specs.Refusals.{number, tag_in_range, fresh_rules, call_rules, later_rules, entry_rules, judgement};
@@ -6,7 +8,7 @@ ghost use Rattle.refusals.specs.Refusals.{number, tag_in_range, fresh_rules, cal
 use tag::Tag;
 
 // Document 01's table of refusals, three of a rack, and two of the library for C.
-#[derive(Drop)]
+#[derive(Clone, Copy)]
 pub enum Refusal {
     MemoryLength,
     ReplyShort,
@@ -44,7 +46,7 @@ impl Refusal {
 }
 
 // What judging a call finds.
-#[derive(Drop)]
+#[derive(Clone, Copy)]
 pub enum Judgement {
     NoRefusal,
     RefusedBy(Refusal),

@@ -1,5 +1,7 @@
 // The system registers as one table: the row of an address says where the register's byte stands among those of all
 // registers, and who may do what with it.
+#![tactic(auto)]
+
 ghost use Rattle.std.specs.Prelude.{◌≡◌, get_or};
 ghost use Rattle.parts.specs.Bits.{keep_bits};
 ghost use Rattle.register_table.specs.Table.{place_bits, row_of};
@@ -47,7 +49,7 @@ pub fn keep_defined(place: u8, byte: u8) -> u8
 }
 
 // What a write of a register asks or does beside storing the byte.
-#[derive(Drop)]
+#[derive(Clone, Copy)]
 pub enum WriteRule {
     Plain,
     // ENDAi: the rule of the ends.
@@ -57,7 +59,7 @@ pub enum WriteRule {
 }
 
 // What is known of the register at an address.
-#[derive(Drop)]
+#[derive(Clone, Copy)]
 pub struct RegisterRow {
     pub place: u8,
     pub rule: WriteRule,

@@ -1,10 +1,12 @@
 // The registers one by one: each a type of its own, with its defined bits.
+#![tactic(auto)]
+
 ghost use Rattle.std.specs.Prelude.{◌≡◌};
 ghost use Rattle.parts.specs.Bits.{keep_bits};
 ghost use Rattle.register_types.specs.Types.{rf_mngt_bits, rfa_ss_bits, end_abits, i2c_ss_bits, lock_cc_file_bits, mb_mode_bits, lock_cfg_bits, dsfid_bits, afi_bits, rf_mngt, rfa_ss, end_a, i2c_ss, lock_cc_file, mb_mode, lock_cfg, dsfid, afi};
 
 // RF_MNGT and RF_MNGT_Dyn: b0 radio disabled, b1 radio asleep.
-#[derive(Drop)]
+#[derive(Clone, Copy)]
 pub struct RfMngt {
     pub bits: u8,
 }
@@ -28,7 +30,7 @@ impl RfMngt {
 }
 
 // RFAiSS: b1-0 the password, b3-2 the setting.
-#[derive(Drop)]
+#[derive(Clone, Copy)]
 pub struct RfaSs {
     pub bits: u8,
 }
@@ -52,7 +54,7 @@ impl RfaSs {
 }
 
 // ENDAi: area i ends with block 8 * ENDAi + 7.
-#[derive(Drop)]
+#[derive(Clone, Copy)]
 pub struct EndA {
     pub bits: u8,
 }
@@ -76,7 +78,7 @@ impl EndA {
 }
 
 // I2CSS: two bits an area, area 1 lowest.
-#[derive(Drop)]
+#[derive(Clone, Copy)]
 pub struct I2cSs {
     pub bits: u8,
 }
@@ -100,7 +102,7 @@ impl I2cSs {
 }
 
 // LOCK_CCFILE: b0 locks block 0, b1 block 1.
-#[derive(Drop)]
+#[derive(Clone, Copy)]
 pub struct LockCcFile {
     pub bits: u8,
 }
@@ -124,7 +126,7 @@ impl LockCcFile {
 }
 
 // MB_MODE: b0 lets the mailbox be enabled.
-#[derive(Drop)]
+#[derive(Clone, Copy)]
 pub struct MbMode {
     pub bits: u8,
 }
@@ -148,7 +150,7 @@ impl MbMode {
 }
 
 // LOCK_CFG: b0 locks the configuration against the radio.
-#[derive(Drop)]
+#[derive(Clone, Copy)]
 pub struct LockCfg {
     pub bits: u8,
 }
@@ -172,7 +174,7 @@ impl LockCfg {
 }
 
 // DSFID: the data storage format identifier, which the tag tells in its reply to an inventory.
-#[derive(Drop)]
+#[derive(Clone, Copy)]
 pub struct Dsfid {
     pub bits: u8,
 }
@@ -196,7 +198,7 @@ impl Dsfid {
 }
 
 // AFI: the application family identifier, by which an inventory may ask.
-#[derive(Drop)]
+#[derive(Clone, Copy)]
 pub struct Afi {
     pub bits: u8,
 }

@@ -1,4 +1,6 @@
 // The tag's registers, all of them together: as bytes, each at its place, and read and written by their addresses.
+#![tactic(auto)]
+
 ghost use Rattle.std.specs.Prelude.{◌≡◌};
 ghost use Rattle.register_types.specs.Types.{rf_mngt};
 ghost use Rattle.registers.specs.Fresh.{fresh_registers};
@@ -8,7 +10,7 @@ use register_table::REGISTER_BYTES;
 use register_types::{Afi, Dsfid, EndA, I2cSs, LockCcFile, LockCfg, MbMode, RfMngt, RfaSs};
 
 // RFA1SS to RFA4SS.
-#[derive(Drop)]
+#[derive(Clone, Copy)]
 pub struct Security {
     pub area1: RfaSs,
     pub area2: RfaSs,
@@ -17,14 +19,14 @@ pub struct Security {
 }
 
 // ENDA1 to ENDA3.
-#[derive(Drop)]
+#[derive(Clone, Copy)]
 pub struct Ends {
     pub end1: EndA,
     pub end2: EndA,
     pub end3: EndA,
 }
 
-#[derive(Drop)]
+#[derive(Clone, Copy)]
 pub struct Registers {
     // RF_MNGT.
     pub mngt: RfMngt,

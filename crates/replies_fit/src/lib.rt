@@ -1,1 +1,2 @@
 // Every reply fits its 643 bytes. No code.
+#![tactic(auto)]

@@ -1,4 +1,6 @@
 // Replies to frames, written into the lent reply buffer.
+#![tactic(auto)]
+
 ghost use Rattle.std.specs.Prelude.{◌≡◌, [], ◌∷◌, ◌+◌};
 ghost use Rattle.crc.specs.Crc.{closed_at};
 ghost use Rattle.reply.specs.Reply.{good, fault, reply_result, put_reply};
@@ -12,7 +14,7 @@ use mailbox::Mailbox;
 use registers::Registers;
 use tag::Core;
 
-#[derive(Drop)]
+#[derive(Clone, Copy)]
 pub enum RadioAnswer {
     Silence,
     // The reply's length, CRC included.
@@ -20,7 +22,7 @@ pub enum RadioAnswer {
 }
 
 // What a request may change.
-#[derive(Drop)]
+#[derive(Clone, Copy)]
 pub struct RadioSide {
     pub air: Air,
     pub core: Core,
@@ -66,7 +68,7 @@ impl RadioSide {
     }
 }
 
-#[derive(Drop)]
+#[derive(Clone, Copy)]
 pub struct RadioOutcome {
     pub answer: RadioAnswer,
     pub side: RadioSide,

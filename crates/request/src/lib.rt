@@ -1,4 +1,6 @@
 // A request's fields, as the commands take them.
+#![tactic(auto)]
+
 ghost use Rattle.std.specs.Prelude.{◌≡◌};
 ghost use Rattle.request.specs.Request.{request_of};
 
@@ -6,7 +8,7 @@ use commands::CommandCode;
 use keys::Uid;
 
 // A frame's fields.
-#[derive(Drop)]
+#[derive(Clone, Copy)]
 pub struct RequestFields {
     pub command: CommandCode,
     // The first two bytes of its parameters.

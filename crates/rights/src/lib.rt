@@ -1,4 +1,6 @@
 // The rights and locks of both sides.
+#![tactic(auto)]
+
 ghost use Rattle.std.specs.Prelude.{◌≡◌};
 ghost use Rattle.rights.specs.Rights.{security_of, session_opens, radio_reads, wire_bits, wire_guards, wire_reads, is_locked, read_right, may_read};
 
@@ -79,7 +81,7 @@ pub fn is_locked(lock: LockCcFile, block: u16) -> bool
 }
 
 // The side that asks, with its open session: on the wire whether, on the radio which.
-#[derive(Drop)]
+#[derive(Clone, Copy)]
 pub enum Side {
     Wire(bool),
     Radio(u8),

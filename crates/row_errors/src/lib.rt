@@ -1,4 +1,6 @@
 // The first error of a command's row of document 01's table that applies. It serves nothing: the tag and its memory are only read.
+#![tactic(auto)]
+
 ghost use Rattle.std.specs.Prelude.{◌≡◌, Bool, [], ◌∷◌};
 ghost use Rattle.register_types.specs.declared.RfMngt.{RfMngt};
 ghost use Rattle.errors.specs.declared.RadioError.TheVariants.{NoSuchBlock, NotLockable, AlreadyLocked, NoSuchRegister, ConfigurationClosed, EndRefused, NoSuchDynamicRegister, MailboxUnavailable, MailboxDisabled, PastMessage, NoSuchPassword, WrongPassword, PasswordSessionClosed};

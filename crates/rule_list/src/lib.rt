@@ -1,1 +1,2 @@
 // Rules in their order: definitions and laws only.
+#![tactic(auto)]

@@ -1,4 +1,6 @@
 // The name of a rule, and the text of a verdict on a write.
+#![tactic(auto)]
+
 mod names;
 
 ghost use Rattle.std.specs.Prelude.{◌≡◌};

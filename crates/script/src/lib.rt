@@ -1,4 +1,6 @@
 // Bench scripts: a line to a call or a bad line, an answer to its text, and the step from line to line.
+#![tactic(auto)]
+
 ghost use Rattle.std.specs.Prelude.{◌≡◌, Bool, List, ℕ, ◌≤◌, length, take};
 ghost use Rattle.std.proofs.lemmas.List.Edits.{sets};
 ghost use Rattle.parts.specs.Pick.{pick};
@@ -15,7 +17,7 @@ use refusals::Refusal;
 use tag::Tag;
 
 // What a line leaves beside both lent buffers: its text has this length.
-#[derive(Drop)]
+#[derive(Clone, Copy)]
 pub struct LineOutcome {
     pub bench: Bench,
     pub length: usize,
@@ -71,7 +73,7 @@ fn put_frame(s: &[u8], frame: &mut [u8; 602]) -> usize
 }
 
 // What a line's call hands over: its frame has this length. A bad line is no call.
-#[derive(Drop)]
+#[derive(Clone, Copy)]
 struct Arguments {
     bad: bool,
     code: u8,

@@ -1,11 +1,13 @@
 // Select bytes and addresses of the wire.
+#![tactic(auto)]
+
 ghost use Rattle.std.specs.Prelude.{◌≡◌};
 ghost use Rattle.select.specs.Select.{select_of, choose, address, first_of};
 
 use bus::Space;
 
 // What a select byte comes to.
-#[derive(Drop)]
+#[derive(Clone, Copy)]
 pub enum Choice {
     NotAcked,
     Reading(Space),

@@ -1,4 +1,6 @@
 // A byte sent on the bus: the select, the address, and by `data_byte` the data bytes.
+#![tactic(auto)]
+
 ghost use Rattle.std.specs.Prelude.{◌≡◌, false};
 ghost use Rattle.bus.specs.declared.Bus.TheVariants.{DataLeg};
 ghost use Rattle.select.specs.Select.{choose, address};

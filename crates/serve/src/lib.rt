@@ -1,4 +1,6 @@
 // A request served: each command by its code.
+#![tactic(auto)]
+
 ghost use Rattle.std.specs.Prelude.{◌≡◌};
 ghost use Rattle.reply.specs.Outcome.{radio_result, finish};
 ghost use Rattle.serve.specs.Commands.{serve_command, serve_of};

@@ -1,4 +1,6 @@
 // A wire signal's answer, and the end of a leg: a Start and a Stop.
+#![tactic(auto)]
+
 ghost use Rattle.std.specs.Prelude.{◌≡◌};
 ghost use Rattle.parts.specs.Pick.{pick};
 ghost use Rattle.bus.specs.declared.Bus.TheVariants.{Started};
@@ -11,7 +13,7 @@ ghost use Rattle.signal.specs.Signal.{wire_result, side_bus, side_line, write_du
 use bus::{Bus, Space};
 use tag::WireSide;
 
-#[derive(Drop)]
+#[derive(Clone, Copy)]
 pub enum WireAnswer {
     Nothing,
     Ack,
@@ -19,7 +21,7 @@ pub enum WireAnswer {
     Byte(u8),
 }
 
-#[derive(Drop)]
+#[derive(Clone, Copy)]
 pub struct WireOutcome {
     pub answer: WireAnswer,
     pub side: WireSide,

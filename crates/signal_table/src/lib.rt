@@ -1,8 +1,10 @@
 // The signals: the code of each, its highest value, and what they stand for.
+#![tactic(auto)]
+
 ghost use Rattle.std.specs.Prelude.{◌≡◌};
 ghost use Rattle.signal_table.specs.Table.{signal_found, signal_in_range, signal_by};
 
-#[derive(Drop)]
+#[derive(Clone, Copy)]
 pub enum WireSignal {
     Start,
     // A byte sent.
@@ -16,7 +18,7 @@ pub enum WireSignal {
 }
 
 // What the signal of a call is.
-#[derive(Drop)]
+#[derive(Clone, Copy)]
 pub enum Signal {
     Wire(WireSignal),
     // The field at a level.
@@ -27,7 +29,7 @@ pub enum Signal {
 }
 
 // What a code and a value stand for.
-#[derive(Drop)]
+#[derive(Clone, Copy)]
 pub enum SignalFound {
     NoSignal,
     Found(Signal),

@@ -1,4 +1,6 @@
 // The silence list: whether a frame gets no answer and changes nothing.
+#![tactic(auto)]
+
 ghost use Rattle.std.specs.Prelude.{◌≡◌};
 ghost use Rattle.rule_list.specs.RuleList.{first_says};
 ghost use Rattle.silence_rules.specs.Silence.{maker_differs, uid_differs, silence_holds, silence_number, reception_silences, address_silences, first_silence, is_silent};

@@ -1,1 +1,2 @@
 // No code: the silence list as definitions, and its order.
+#![tactic(auto)]

@@ -1,4 +1,6 @@
 // The tag's state as bytes: how long each part is and where it stands. Which bytes they are, the definitions say.
+#![tactic(auto)]
+
 pub const AIR_PART_LENGTH: usize = 4;
 // In the host's part: the bytes before the bus, and the bus.
 pub const BUS_OFFSET: usize = 5;

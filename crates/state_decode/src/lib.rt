@@ -1,4 +1,6 @@
 // The tag's state of bytes. A byte past the end reads 0.
+#![tactic(auto)]
+
 ghost use Rattle.std.specs.Prelude.{◌≡◌, ◌+◌, ◌≤◌, get_or};
 ghost use Rattle.state.specs.Layout.{state_bytes, flag_of, word_of, radio_state_of, space_of, air_at, bus_of, bus_at, host_at, registers_at, mailbox_at, passwords_at, tag_of};
 

@@ -1,4 +1,6 @@
 // The tag's state stored as bytes. A byte stored past the end is dropped.
+#![tactic(auto)]
+
 ghost use Rattle.std.specs.Prelude.{◌≡◌, ◌≤◌, length};
 ghost use Rattle.std.proofs.lemmas.List.Edits.{sets};
 ghost use Rattle.registers.specs.Map.{register_bytes};

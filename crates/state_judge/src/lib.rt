@@ -1,4 +1,6 @@
 // Whether bytes are those of a tag's state. A byte past the end reads 0.
+#![tactic(auto)]
+
 ghost use Rattle.std.specs.Prelude.{◌≡◌, ◌+◌, ◌≤◌, get_or};
 ghost use Rattle.state.specs.Layout.{state_bytes, is_flag, used_or0, air_decodes, is_bus, bus_decodes, host_decodes, mailbox_decodes, decodes};
 

@@ -1,4 +1,6 @@
 // Lines out of pieces of any length: a step with a piece of the input, and the end of the input.
+#![tactic(auto)]
+
 ghost use Rattle.std.specs.Prelude.{◌≡◌, ◌++◌, ◌≤◌, eqb, length, take};
 ghost use Rattle.parts.specs.Pick.{pick};
 ghost use Rattle.script.specs.Bench.{line_buffers, put_line};
@@ -11,7 +13,7 @@ use bench_start::Bench;
 use script::LineOutcome;
 
 // What a step leaves beside the lent buffers: the unfinished line has `have` bytes.
-#[derive(Drop)]
+#[derive(Clone, Copy)]
 pub struct StreamOutcome {
     pub bench: Bench,
     pub have: usize,

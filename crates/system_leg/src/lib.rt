@@ -1,4 +1,6 @@
 // A write leg in system space, at its Stop: the password leg, or registers.
+#![tactic(auto)]
+
 ghost use Rattle.std.specs.Prelude.{◌≡◌};
 ghost use Rattle.tag.specs.Layout.{page};
 ghost use Rattle.effect.specs.Effect.{leg_result};

@@ -1,4 +1,6 @@
 // The tag's state by value: what a field change touches, what is the wire's alone, and what both sides share.
+#![tactic(auto)]
+
 mod supply;
 
 use air::Air;
@@ -21,7 +23,7 @@ pub const MEMORY_BYTES: usize = 1024;
 pub const REPLY_BYTES: usize = 643;
 
 // All that is the wire's alone.
-#[derive(Drop)]
+#[derive(Clone, Copy)]
 pub struct Host {
     pub vcc: bool,
     pub session: bool,
@@ -31,7 +33,7 @@ pub struct Host {
 }
 
 // What both sides read and write.
-#[derive(Drop)]
+#[derive(Clone, Copy)]
 pub struct Core {
     pub registers: Registers,
     pub mailbox: Mailbox,
@@ -39,13 +41,13 @@ pub struct Core {
 }
 
 // What a transfer may touch.
-#[derive(Drop)]
+#[derive(Clone, Copy)]
 pub struct WireSide {
     pub host: Host,
     pub core: Core,
 }
 
-#[derive(Drop)]
+#[derive(Clone, Copy)]
 pub struct Tag {
     pub air: Air,
     pub host: Host,

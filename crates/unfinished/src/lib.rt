@@ -1,4 +1,6 @@
 // The unfinished line: what is kept of it, and bytes added to it. A number past the end of what is kept is the end.
+#![tactic(auto)]
+
 ghost use Rattle.std.specs.Prelude.{◌≡◌, ◌++◌, ◌≤◌, min, eqb, length, take};
 ghost use Rattle.parts.specs.Pick.{pick};
 ghost use Rattle.unfinished.specs.Kept.{kept_most, keep, kept_count, kept_buffer};

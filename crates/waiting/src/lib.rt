@@ -1,1 +1,2 @@
 // The waiting tag, and that it follows the entry point call by call: definitions and their proofs.
+#![tactic(auto)]

@@ -1,4 +1,6 @@
 // The wire side: one signal in, its answer and what it changes out. A layer and no entry point: it refuses nothing.
+#![tactic(auto)]
+
 ghost use Rattle.std.specs.Prelude.{◌≡◌};
 ghost use Rattle.bus.specs.declared.Bus.TheVariants.{ReadLeg};
 ghost use Rattle.signal.specs.declared.WireAnswer.TheVariants.{Nothing, Byte};

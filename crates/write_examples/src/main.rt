@@ -4,11 +4,13 @@
 // W: data byte of a write leg: spoiled (00, 01), space (00 user, 01 system), first address, place in the leg (two bytes each), the byte;
 // by radio, B: a block (two bytes); C: pointer and byte of command A1; P: password number of command B1.
 // A line that begins with # says what is asked, and is printed as it is.
+#![tactic(auto)]
+
 use bus::Space;
 use tag::{Core, Tag};
 use write_reasons::{WriteAsked, WriteVerdict};
 
-#[derive(Drop)]
+#[derive(Clone, Copy)]
 struct WriteRun {
     tag: Tag,
     // Lines before this one.
@@ -21,7 +23,7 @@ struct WriteRun {
 const LINE: usize = 2 + tag::MEMORY_BYTES;
 
 // What a line prints: that it is none of these, that it was done, itself, or a verdict.
-#[derive(Drop)]
+#[derive(Clone, Copy)]
 enum WritePrint {
     Bad,
     Done,
@@ -30,14 +32,14 @@ enum WritePrint {
 }
 
 // The write that a line asks about, if it asks about one.
-#[derive(Drop)]
+#[derive(Clone, Copy)]
 enum LineAsked {
     Nothing,
     Write(WriteAsked),
 }
 
 // What a line leaves.
-#[derive(Drop)]
+#[derive(Clone, Copy)]
 struct WriteLineOutcome {
     tag: Tag,
     said: WritePrint,

@@ -1,11 +1,13 @@
 // What is asked about a write, and the answer: allowed, or the rule that forbids it.
+#![tactic(auto)]
+
 ghost use Rattle.std.specs.Prelude.{◌≡◌};
 ghost use Rattle.write_reasons.specs.Reasons.{reason_number, is_allowed};
 
 use bus::Space;
 
 // The write that is asked about.
-#[derive(Drop)]
+#[derive(Clone, Copy)]
 pub enum WriteAsked {
     // By the wire, the I2C session open or not: data byte k of a write leg, from its first address on.
     DataByte {
@@ -33,7 +35,7 @@ pub enum WriteAsked {
 }
 
 // What stands where the write goes.
-#[derive(Drop)]
+#[derive(Clone, Copy)]
 pub enum WritePlace {
     Unmapped,
     UserMemory,
@@ -44,14 +46,14 @@ pub enum WritePlace {
 }
 
 // The password whose session is needed, if it has a number.
-#[derive(Drop)]
+#[derive(Clone, Copy)]
 pub enum SessionKey {
     Unnumbered,
     Numbered(u8),
 }
 
 // The rules that forbid a write, in the order in which they are asked.
-#[derive(Drop)]
+#[derive(Clone, Copy)]
 pub enum WriteReason {
     LegSpoiled,
     OutsideMap,
@@ -95,7 +97,7 @@ impl WriteReason {
     }
 }
 
-#[derive(Drop)]
+#[derive(Clone, Copy)]
 pub enum WriteVerdict {
     Allowed,
     Forbidden(WriteReason),

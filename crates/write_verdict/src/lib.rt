@@ -1,4 +1,6 @@
 // Whether a write is allowed, by either side: the one place that decides it.
+#![tactic(auto)]
+
 ghost use Rattle.std.specs.Prelude.{◌≡◌, Bool, false, List, ℕ};
 ghost use Rattle.tag.specs.declared.Core.{Core};
 ghost use Rattle.tag.specs.Layout.{page};

@@ -1,4 +1,6 @@
 // The registers that a leg writes.
+#![tactic(auto)]
+
 ghost use Rattle.std.specs.Prelude.{◌≡◌, ◌+◌};
 ghost use Rattle.registers.specs.Map.{written};
 ghost use Rattle.tag.specs.Layout.{page};

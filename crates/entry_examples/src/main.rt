@@ -209,15 +209,15 @@ fn put_answer(text: &mut [u8], at: usize, answer: Answer, out: &[u8]) -> usize {
         Answer::Nothing => text::put_mark(text, at, b'-'),
         Answer::Ack => text::put_mark(text, at, b'A'),
         Answer::NoAck => text::put_mark(text, at, b'N'),
-        Answer::Byte(x) => hex::put_byte(text, at, x),
+        Answer::Byte(x) => hexadecimal::put_byte(text, at, x),
         Answer::Silence => text::put_mark(text, at, b'.'),
-        Answer::Reply(n) => hex::put_hex(text, at, out, n),
+        Answer::Reply(n) => hexadecimal::put_hex(text, at, out, n),
     }
 }
 
 fn put_crcs(text: &mut [u8], at: usize, m: &[u8], out: &[u8]) -> usize {
-    let second = hex::put_word(text, at, crc::crc(m));
-    hex::put_word(text, second, crc::crc(out))
+    let second = hexadecimal::put_word(text, at, crc::crc(m));
+    hexadecimal::put_word(text, second, crc::crc(out))
 }
 
 fn put_said(text: &mut [u8], at: usize, said: EntryPrint, t: Tag, m: &[u8], out: &[u8]) -> usize {

@@ -3,7 +3,7 @@
 
 ghost use Rattle.std.specs.Prelude.{◌≡◌};
 ghost use Rattle.text.specs.Place.{stored, text_at};
-ghost use Rattle.hex.specs.Hex.{hex_text};
+ghost use Rattle.hexadecimal.specs.Hex.{hex_text};
 ghost use Rattle.state.specs.Layout.{bytes_of};
 ghost use Rattle.example_states.specs.Store.{word_at, store_result, store_of};
 ghost use Rattle.example_states.specs.States.{patch_of};
@@ -70,5 +70,5 @@ pub fn put_state(text: &mut [u8], at: usize, t: Tag) -> usize
 {
     let mut s = [0u8; state::STATE_BYTES];
     state_encode::encode(t, &mut s);
-    hex::put_hex(text, at, &s, state::STATE_BYTES)
+    hexadecimal::put_hex(text, at, &s, state::STATE_BYTES)
 }

@@ -1,7 +1,7 @@
 -- A line of a script: a letter alone, or a letter, a tab, and 0, 1 or bytes in hex.
 use Rattle.std.specs.Prelude.{Bool, ◌&&◌, ◌||◌, List, [], ◌∷◌, ℕ, suc, ◌%◌, eqb, leb, get_or, length, drop}
 use Rattle.parts.specs.Pick.{pick}
-use Rattle.hex.specs.Hex.{all_hex}
+use Rattle.hexadecimal.specs.Hex.{all_hex}
 
 -- the bytes before the first line feed, counted
 unfoldable pub line_length : List ℕ → ℕ

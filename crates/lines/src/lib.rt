@@ -3,7 +3,7 @@
 
 ghost use Rattle.std.specs.Prelude.{◌≡◌, ◌+◌, length, drop};
 ghost use Rattle.std.proofs.lemmas.List.Edits.{sets};
-ghost use Rattle.hex.specs.Hex.{hex_bytes};
+ghost use Rattle.hexadecimal.specs.Hex.{hex_bytes};
 ghost use Rattle.lines.specs.Line.{line_length, is_level, has_bytes};
 
 // The place of the next line feed, or the end.
@@ -35,7 +35,7 @@ pub fn has_bytes(s: &[u8]) -> bool
     if s.len() < 4 {
         return false;
     }
-    (s.len() % 2 == 0) & (s[1] == b'\t') & hex::all_hex(&s[2..])
+    (s.len() % 2 == 0) & (s[1] == b'\t') & hexadecimal::all_hex(&s[2..])
 }
 
 // Stores the bytes that a line's digits behind its tab are, from place 0 on, and gives their number.
@@ -46,5 +46,5 @@ pub fn line_bytes(s: &[u8], out: &mut [u8]) -> usize
     if s.len() < 2 {
         return 0;
     }
-    hex::decode(&s[2..], out)
+    hexadecimal::decode(&s[2..], out)
 }

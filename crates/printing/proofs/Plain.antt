@@ -10,7 +10,7 @@ use lib.ListN.{take}
 use Rattle.parts.proofs.Bools.{and_left, and_right, and_both}
 use Rattle.parts.proofs.Picks.{pick_case}
 use Rattle.text.specs.Decimal.{digits_of}
-use Rattle.hex.specs.Hex.{hex_digit, hex_text}
+use Rattle.hexadecimal.specs.Hex.{hex_digit, hex_text}
 use Rattle.rule_names.proofs.Laws.{plain}
 use Rattle.model.specs.declared.Answer.{Answer}
 use Rattle.model.specs.declared.Answer.TheVariants.{Refused, Nothing, Ack, NoAck, Byte, Silence, Reply}

@@ -7,9 +7,9 @@ use lib.Dec.{eqb}
 use lib.ListN.{length, take, length-append, length-take}
 use lib.Seq.{append_snoc}
 use Rattle.parts.proofs.Picks.{pick_case, pick_eq, pick_ne}
-use Rattle.hex.specs.Hex.{hex_text}
+use Rattle.hexadecimal.specs.Hex.{hex_text}
 use Rattle.text.specs.Decimal.{decimal}
-use Rattle.hex.proofs.HexLaws.{length_hex_text}
+use Rattle.hexadecimal.proofs.HexLaws.{length_hex_text}
 use Rattle.model.specs.declared.Answer.{Answer}
 use Rattle.model.specs.declared.Answer.TheVariants.{Refused, Nothing, Ack, NoAck, Byte, Silence, Reply}
 use Rattle.rule_names.specs.Names.{name_at}

@@ -3,7 +3,7 @@ use Rattle.std.specs.Prelude.{List, [], ◌∷◌, ◌++◌, ℕ, ◌-◌, eqb, 
 use Rattle.parts.specs.Pick.{pick}
 use Rattle.model.specs.declared.Answer.{Answer}
 use Rattle.model.specs.declared.Answer.TheVariants.{Refused, Nothing, Ack, NoAck, Byte, Silence, Reply}
-use Rattle.hex.specs.Hex.{hex_text}
+use Rattle.hexadecimal.specs.Hex.{hex_text}
 use Rattle.text.specs.Decimal.{decimal}
 use Rattle.rule_names.specs.Names.{name_at}
 

@@ -27,9 +27,9 @@ pub fn put_answer(answer: Answer, out: &[u8], text: &mut [u8], at: usize) -> usi
         Answer::Nothing => text::put_mark(text, at, b'-'),
         Answer::Ack => text::put_mark(text, at, b'A'),
         Answer::NoAck => text::put_mark(text, at, b'N'),
-        Answer::Byte(x) => hex::put_byte(text, at, x),
+        Answer::Byte(x) => hexadecimal::put_byte(text, at, x),
         Answer::Silence => text::put_mark(text, at, b'-'),
-        Answer::Reply(n) => hex::put_hex(text, at, out, shown_bytes(n)),
+        Answer::Reply(n) => hexadecimal::put_hex(text, at, out, shown_bytes(n)),
     }
 }
 

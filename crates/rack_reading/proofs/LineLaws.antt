@@ -10,7 +10,7 @@ use lib.ListN.{length, take, drop, get_or, length-take}
 use lib.Seq.{take_all}
 use Rattle.parts.proofs.Picks.{pick_case, pick_true}
 use Rattle.parts.proofs.Bools.{and_left}
-use Rattle.hex.specs.Hex.{all_hex}
+use Rattle.hexadecimal.specs.Hex.{all_hex}
 use Rattle.lines.specs.Line.{has_bytes}
 use Rattle.reading.specs.Line.{ScriptLine, bad_line, signal_line, frame_line, longest, line_of}
 use Rattle.reading.proofs.LineLaws.{Framed, framed}

@@ -1,7 +1,7 @@
 -- The lines of `rack_bench`: "Lines as in `bench`, and" three of its own. A line, without its line feed, and what it says.
 use Rattle.std.specs.Prelude.{Bool, true, not, ◌&&◌, ◌||◌, List, [], ◌∷◌, ℕ, ◌+◌, ◌-◌, ◌*◌, leb, ltb, eqb, length, get_or, drop}
 use Rattle.parts.specs.Pick.{pick}
-use Rattle.hex.specs.Hex.{hex_bytes}
+use Rattle.hexadecimal.specs.Hex.{hex_bytes}
 use Rattle.lines.specs.Line.{has_bytes}
 use Rattle.keys.specs.declared.Uid.{Uid}
 use Rattle.keys.specs.Keys.{uid_at}

@@ -27,7 +27,7 @@ pub fn uid_of(s: &[u8]) -> Uid
     ensures { result ≡ uid_of s.now }
 {
     let mut bytes = [0u8; 8];
-    hex::decode(s, &mut bytes);
+    hexadecimal::decode(s, &mut bytes);
     Uid { bytes }
 }
 

@@ -3,8 +3,8 @@ use Rattle.std.proofs.Common.{◌≡◌, ℕ, zero, suc, ◌-◌, ◌<◌, ◌�
 use lib.ListN.{length-replicate}
 use Rattle.parts.specs.Pick.{pick}
 use Rattle.parts.proofs.Picks.{pick_case}
-use Rattle.hex.specs.Hex.{hex_text}
-use Rattle.hex.proofs.HexLaws.{length_hex_text}
+use Rattle.hexadecimal.specs.Hex.{hex_text}
+use Rattle.hexadecimal.proofs.HexLaws.{length_hex_text}
 use Rattle.text.proofs.DecimalLaws.{digits_most}
 use Rattle.refusals.specs.Refusals.{number}
 use Rattle.refusals.proofs.Laws.{judged_case}

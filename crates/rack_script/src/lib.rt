@@ -4,7 +4,7 @@
 ghost use Rattle.std.specs.Prelude.{◌≡◌, ℕ, ◌≤◌, List, length, take};
 ghost use Rattle.std.proofs.lemmas.List.Edits.{sets};
 ghost use Rattle.crc.specs.Crc.{closed};
-ghost use Rattle.hex.specs.Hex.{hex_bytes};
+ghost use Rattle.hexadecimal.specs.Hex.{hex_bytes};
 ghost use Rattle.line_stream.specs.Step.{text_room, line_stored, stores_line};
 ghost use Rattle.rack_reading.specs.Line.{rack_line_of, uid_of};
 ghost use Rattle.rack_script.specs.Script.{rack_state, numbered, none_text, bad_answered, call_answered, search_answered, add_answered, name_answered, rack_program, rack_frame};
@@ -152,7 +152,7 @@ fn put_frame(s: &[u8], frame: &mut [u8; 602]) -> usize
     ensures upper_bound { result ≤ length frame.new }
     ensures frame_after_2 { frame.new ≡ sets frame.old 0 (closed (hex_bytes s.now)) }
 {
-    let n = hex::decode(s, frame);
+    let n = hexadecimal::decode(s, frame);
     crc::close(frame, n);
     n + 2
 }

@@ -3,7 +3,7 @@ use Rattle.std.specs.Prelude.{Bool, ◌&&◌, ◌||◌, List, ℕ, ◌-◌, ◌%
 use Rattle.parts.specs.Pick.{pick}
 use Rattle.reading.specs.declared.Reading.{Reading}
 use Rattle.reading.specs.declared.Reading.TheVariants.{Bad, Signal, Frame}
-use Rattle.hex.specs.Hex.{all_hex, hex_byte, hex_bytes}
+use Rattle.hexadecimal.specs.Hex.{all_hex, hex_byte, hex_bytes}
 
 -- a bad line, a signal's code and value, or a frame without CRC
 pub data ScriptLine : Type 0 where

@@ -47,8 +47,8 @@ fn byte_sent(s: &[u8]) -> Reading
     if s.len() != 2 {
         return Reading::Bad;
     }
-    if hex::all_hex(s) {
-        let x = hex::hex_byte(parts::byte_at(s, 0), parts::byte_at(s, 1));
+    if hexadecimal::all_hex(s) {
+        let x = hexadecimal::hex_byte(parts::byte_at(s, 0), parts::byte_at(s, 1));
         return Reading::Signal {
             code: 4,
             value: x as u16,
@@ -61,7 +61,7 @@ fn byte_sent(s: &[u8]) -> Reading
 fn frame_sent(s: &[u8]) -> Reading
     ensures { line_by result s.now ≡ frame_sent s.now }
 {
-    let hex = hex::all_hex(s);
+    let hex = hexadecimal::all_hex(s);
     if (2 <= s.len()) & (s.len() % 2 == 0) & hex {
         return Reading::Frame;
     }

@@ -13,8 +13,8 @@ use Rattle.refusals.specs.Call.{handed_in}
 use Rattle.model.specs.Step.{step_of}
 use Rattle.replies_fit.specs.Claims.{reply_fits}
 use Rattle.replies_fit.proofs.RepliesFit.{steps_fit}
-use Rattle.hex.specs.Hex.{hex_text}
-use Rattle.hex.proofs.HexLaws.{length_hex_text}
+use Rattle.hexadecimal.specs.Hex.{hex_text}
+use Rattle.hexadecimal.proofs.HexLaws.{length_hex_text}
 use Rattle.text.proofs.DecimalLaws.{digits_most}
 use Rattle.bench_start.specs.declared.Bench.{Bench}
 use Rattle.reading.specs.Line.{ScriptLine, bad_line, signal_line, frame_line, line_of}

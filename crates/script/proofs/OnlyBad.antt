@@ -32,8 +32,8 @@ use Rattle.model.proofs.Served.{act_served}
 use Rattle.model.proofs.Room.{step_room}
 use Rattle.model.specs.Claims.{Fit}
 use Rattle.model.proofs.Kept.{keeps, fresh_fits}
-use Rattle.hex.specs.Hex.{all_hex, hex_byte, hex_bytes}
-use Rattle.hex.proofs.HexLaws.{value_small}
+use Rattle.hexadecimal.specs.Hex.{all_hex, hex_byte, hex_bytes}
+use Rattle.hexadecimal.proofs.HexLaws.{value_small}
 use Rattle.reading.specs.Line.{ScriptLine, bad_line, signal_line, frame_line, longest, alone, level, byte_sent, frame_sent, tabbed, line_of}
 use Rattle.printing.specs.Text.{bad_text, line_text}
 use Rattle.bench_start.specs.Start.{next_line, bench_uid, bench_start_of}

@@ -5,7 +5,7 @@ ghost use Rattle.std.specs.Prelude.{◌≡◌, Bool, List, ℕ, ◌≤◌, lengt
 ghost use Rattle.std.proofs.lemmas.List.Edits.{sets};
 ghost use Rattle.parts.specs.Pick.{pick};
 ghost use Rattle.crc.specs.Crc.{closed};
-ghost use Rattle.hex.specs.Hex.{hex_bytes};
+ghost use Rattle.hexadecimal.specs.Hex.{hex_bytes};
 ghost use Rattle.bench_start.specs.declared.Bench.{Bench};
 ghost use Rattle.reading.specs.Line.{line_of};
 ghost use Rattle.script.specs.Bench.{longest_text, line_buffers, put_line, rule_named, bench_call, bad_result, closed_frame, bench_of};
@@ -67,7 +67,7 @@ fn put_frame(s: &[u8], frame: &mut [u8; 602]) -> usize
     ensures upper_bound { result ≤ length frame.new }
     ensures frame_after_2 { frame.new ≡ sets frame.old 0 (closed (hex_bytes s.now)) }
 {
-    let n = hex::decode(s, frame);
+    let n = hexadecimal::decode(s, frame);
     crc::close(frame, n);
     n + 2
 }

@@ -10,7 +10,7 @@ use lib.Seq.{sets, sets-eq, take_at, take-append-add}
 use Rattle.parts.specs.Pick.{pick}
 use Rattle.parts.specs.Bytes.{bytes_at}
 use Rattle.parts.proofs.Lists.{bytes_at_part, length_bytes_at}
-use Rattle.hex.proofs.HexLaws.{take_clip}
+use Rattle.hexadecimal.proofs.HexLaws.{take_clip}
 use Rattle.unfinished.specs.Kept.{kept_most, keep, kept_buffer}
 
 -- ---- bytes added to the unfinished line

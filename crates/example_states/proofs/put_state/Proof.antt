@@ -3,7 +3,7 @@ use mathlib.Core.List.{List}
 use Prim.Native.Nat.{ℕ}
 use lib.ListN.{take}
 use Rattle.text.specs.Place.{text_at}
-use Rattle.hex.specs.Hex.{hex_text}
+use Rattle.hexadecimal.specs.Hex.{hex_text}
 use Rattle.state.specs.Layout.{state_bytes}
 use Rattle.example_states.proofs.States.{encoded, all_bytes}
 use borrow.Author.Rules.{rules}

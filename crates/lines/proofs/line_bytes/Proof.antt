@@ -5,8 +5,8 @@ use mathlib.Core.List.{List, []}
 use Prim.Native.Nat.{ℕ, ◌-◌}
 use lib.ListN.{length, take, drop, length-drop}
 use lib.Seq.{sets, take_all}
-use Rattle.hex.specs.Hex.{hex_bytes}
-use Rattle.hex.proofs.HexLaws.{hex_bytes_end}
+use Rattle.hexadecimal.specs.Hex.{hex_bytes}
+use Rattle.hexadecimal.proofs.HexLaws.{hex_bytes_end}
 use Rattle.lines.proofs.line_bytes.Statement.{statement}
 use Rattle.lines.proofs.line_bytes.Tie as tie
 

@@ -3,7 +3,7 @@ use mathlib.Core.Path.{◌≡◌, ap, ◌∙◌}
 use mathlib.Core.List.{List}
 use Prim.Native.Nat.{ℕ}
 use Rattle.keys.specs.declared.Uid.{Uid}
-use Rattle.hex.specs.Hex.{hex_bytes}
+use Rattle.hexadecimal.specs.Hex.{hex_bytes}
 use Rattle.rack_reading.proofs.UidLaws.{over_zeros}
 use Rattle.rack_reading.proofs.uid_of.Statement.{statement}
 use Rattle.rack_reading.proofs.uid_of.Tie as tie

@@ -1,7 +1,7 @@
 use Rattle.std.proofs.Common.{◌≡◌, ℕ, ◌+◌, ◌-◌, ◌/◌, List, length, take, sym, ap, ◌∙◌, arith, rules}
 use lib.Seq.{sets}
-use Rattle.hex.specs.Hex.{hex_bytes}
-use Rattle.hex.proofs.HexLaws.{length_hex_bytes}
+use Rattle.hexadecimal.specs.Hex.{hex_bytes}
+use Rattle.hexadecimal.proofs.HexLaws.{length_hex_bytes}
 use Rattle.crc.specs.Crc.{closed, closed_at}
 use Rattle.crc.proofs.Frames.{closed_at_lem}
 use Rattle.rack_script.proofs.Frames.{frame_stored}

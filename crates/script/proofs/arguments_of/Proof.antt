@@ -8,7 +8,7 @@ use Rattle.parts.specs.Pick.{pick}
 use Rattle.crc.specs.Crc.{closed}
 use Rattle.script.specs.Bench.{bench_call, line_result, closed_frame, bench_of}
 use Rattle.reading.specs.Line.{ScriptLine, line_of, line_by}
-use Rattle.hex.specs.Hex.{hex_bytes}
+use Rattle.hexadecimal.specs.Hex.{hex_bytes}
 use Rattle.reading.specs.declared.Reading.{Reading}
 use Rattle.reading.proofs.LineLaws.{framed, Framed}
 use borrow.Author.Rules.{rules}

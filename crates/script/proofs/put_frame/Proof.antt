@@ -4,8 +4,8 @@ use mathlib.Core.List.{List}
 use Prim.Native.Nat.{ℕ, ◌+◌, ◌-◌, ◌/◌}
 use lib.ListN.{length, take}
 use lib.Seq.{sets}
-use Rattle.hex.specs.Hex.{hex_bytes}
-use Rattle.hex.proofs.HexLaws.{length_hex_bytes}
+use Rattle.hexadecimal.specs.Hex.{hex_bytes}
+use Rattle.hexadecimal.proofs.HexLaws.{length_hex_bytes}
 use Rattle.crc.specs.Crc.{closed, closed_at}
 use Rattle.crc.proofs.Frames.{closed_at_lem}
 use Rattle.script.proofs.LineLaws.{frame_stored}

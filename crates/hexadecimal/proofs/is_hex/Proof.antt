@@ -1,8 +1,8 @@
 use mathlib.Core.Path.{refl}
 use Prim.Native.Nat.{◌-◌}
-use Rattle.hex.specs.Hex.{is_hex}
-use Rattle.hex.proofs.is_hex.Statement.{statement}
-use Rattle.hex.proofs.is_hex.Tie as tie
+use Rattle.hexadecimal.specs.Hex.{is_hex}
+use Rattle.hexadecimal.proofs.is_hex.Statement.{statement}
+use Rattle.hexadecimal.proofs.is_hex.Tie as tie
 
 returns : tie.Need-returns
 unfolding is_hex

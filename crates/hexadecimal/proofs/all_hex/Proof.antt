@@ -4,10 +4,10 @@ use mathlib.Core.Path.{◌≡◌, refl, sym, ap, ◌∙◌}
 use mathlib.Core.Bool.{Bool, ◌&&◌}
 use Prim.Native.Nat.{◌+◌, ◌-◌, ◌≤◌}
 use lib.ListN.{length, drop}
-use Rattle.hex.specs.Hex.{all_hex}
-use Rattle.hex.proofs.HexLaws.{all_hex_more, all_hex_end}
-use Rattle.hex.proofs.all_hex.Statement.{statement}
-use Rattle.hex.proofs.all_hex.Tie as tie
+use Rattle.hexadecimal.specs.Hex.{all_hex}
+use Rattle.hexadecimal.proofs.HexLaws.{all_hex_more, all_hex_end}
+use Rattle.hexadecimal.proofs.all_hex.Statement.{statement}
+use Rattle.hexadecimal.proofs.all_hex.Tie as tie
 
 abbrev invariant-loop : tie.invariant-loop
 invariant-loop s all₀ i₀ all i = ((all && all_hex (drop i s)) ≡ all_hex s) × (i ≤ length s)

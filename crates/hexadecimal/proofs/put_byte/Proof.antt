@@ -1,8 +1,8 @@
 use borrow.Author.Rules.{rules}
 use native.Mathlib.Numerals.{add-one}
-use Rattle.hex.specs.Hex.{hex_text}
-use Rattle.hex.proofs.put_byte.Statement.{statement}
-use Rattle.hex.proofs.put_byte.Tie as tie
+use Rattle.hexadecimal.specs.Hex.{hex_text}
+use Rattle.hexadecimal.proofs.put_byte.Statement.{statement}
+use Rattle.hexadecimal.proofs.put_byte.Tie as tie
 
 hex-digit-requires : tie.Need-hex-digit-requires
 hex-digit-requires c κs = search rules

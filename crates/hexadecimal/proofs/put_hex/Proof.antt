@@ -5,11 +5,11 @@ use mathlib.Core.List.{List}
 use Prim.Native.Nat.{ℕ, ◌+◌, ◌*◌, ◌/◌, ◌-◌, min}
 use lib.ListN.{length, take, length-take}
 use lib.Seq.{sets}
-use Rattle.hex.specs.Hex.{hex_text}
+use Rattle.hexadecimal.specs.Hex.{hex_text}
 use Rattle.text.specs.Place.{stored, last_place, text_at}
-use Rattle.hex.proofs.HexLaws.{length_hex_text, take_clip}
-use Rattle.hex.proofs.put_hex.Statement.{statement}
-use Rattle.hex.proofs.put_hex.Tie as tie
+use Rattle.hexadecimal.proofs.HexLaws.{length_hex_text, take_clip}
+use Rattle.hexadecimal.proofs.put_hex.Statement.{statement}
+use Rattle.hexadecimal.proofs.put_hex.Tie as tie
 
 least-requires : tie.Need-least-requires
 least-requires c κs = search rules

@@ -3,10 +3,10 @@ use native.Mathlib.Omega.{arith}
 use mathlib.Core.Path.{◌∙◌}
 use mathlib.Core.List.{[], ◌∷◌}
 use Prim.Native.Nat.{◌/◌, ◌%◌}
-use Rattle.hex.specs.Hex.{hex_text}
+use Rattle.hexadecimal.specs.Hex.{hex_text}
 use Rattle.text.proofs.PlaceLaws.{behind}
-use Rattle.hex.proofs.put_word.Statement.{statement}
-use Rattle.hex.proofs.put_word.Tie as tie
+use Rattle.hexadecimal.proofs.put_word.Statement.{statement}
+use Rattle.hexadecimal.proofs.put_word.Tie as tie
 
 cast-put-byte : tie.Need-overflow-cast-put-byte
 cast-put-byte c = search rules

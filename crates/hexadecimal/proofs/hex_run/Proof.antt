@@ -4,10 +4,10 @@ use mathlib.Core.Path.{◌≡◌, refl, ap, ◌∙◌}
 use Prim.Native.Nat.{ℕ, ◌+◌, ◌-◌, ◌*◌, ◌≤◌}
 use lib.ListN.{length, take, length-set}
 use lib.Seq.{sets}
-use Rattle.hex.specs.Hex.{hex_text}
-use Rattle.hex.proofs.HexLaws.{hex_text_stored}
-use Rattle.hex.proofs.hex_run.Statement.{statement}
-use Rattle.hex.proofs.hex_run.Tie as tie
+use Rattle.hexadecimal.specs.Hex.{hex_text}
+use Rattle.hexadecimal.proofs.HexLaws.{hex_text_stored}
+use Rattle.hexadecimal.proofs.hex_run.Statement.{statement}
+use Rattle.hexadecimal.proofs.hex_run.Tie as tie
 
 abbrev invariant-loop : tie.invariant-loop
 invariant-loop text₀ at s n i₀ text i = (text ≡ sets text₀ at (hex_text (take i s))) × ((i ≤ n) × (length text ≡ length text₀))

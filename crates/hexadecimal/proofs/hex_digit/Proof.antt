@@ -1,9 +1,9 @@
 use borrow.Author.Rules.{rules}
 use Prim.Native.Nat.{◌-◌}
 use Rattle.parts.proofs.Picks.{picks}
-use Rattle.hex.specs.Hex.{hex_digit}
-use Rattle.hex.proofs.hex_digit.Statement.{statement}
-use Rattle.hex.proofs.hex_digit.Tie as tie
+use Rattle.hexadecimal.specs.Hex.{hex_digit}
+use Rattle.hexadecimal.proofs.hex_digit.Statement.{statement}
+use Rattle.hexadecimal.proofs.hex_digit.Tie as tie
 
 add-result : tie.Need-overflow-add-result
 add-result c = search rules

@@ -4,12 +4,12 @@ use mathlib.Core.Path.{◌≡◌, ap, ◌∙◌}
 use mathlib.Core.List.{List, [], ◌∷◌}
 use Prim.Native.Nat.{ℕ, ◌+◌, ◌-◌, ◌≤◌, min}
 use lib.ListN.{take, get_or}
-use Rattle.hex.specs.Hex.{hex_text}
+use Rattle.hexadecimal.specs.Hex.{hex_text}
 use Rattle.text.specs.Place.{stored, last_place, text_at}
-use Rattle.hex.proofs.HexLaws.{hex_text_more}
+use Rattle.hexadecimal.proofs.HexLaws.{hex_text_more}
 use Rattle.text.proofs.PlaceLaws.{behind, same_room}
-use Rattle.hex.proofs.hex_each.Statement.{statement}
-use Rattle.hex.proofs.hex_each.Tie as tie
+use Rattle.hexadecimal.proofs.hex_each.Statement.{statement}
+use Rattle.hexadecimal.proofs.hex_each.Tie as tie
 
 abbrev invariant-loop : tie.invariant-loop
 invariant-loop text₀ at s n to₀ i₀ text to i = (stored to text ≡ text_at text₀ at (hex_text (take i s))) × (i ≤ n)

@@ -6,10 +6,10 @@ use Prim.Native.Nat.{ℕ, ◌+◌, ◌-◌, ◌*◌, ◌/◌, ◌≤◌}
 use native.Mathlib.Numerals.{add-one}
 use lib.ListN.{length, drop, get_or, set, length-set, length-drop}
 use lib.Seq.{sets}
-use Rattle.hex.specs.Hex.{hex_byte, hex_bytes}
-use Rattle.hex.proofs.HexLaws.{hex_bytes_step, hex_bytes_end, length_hex_bytes}
-use Rattle.hex.proofs.decode.Statement.{statement}
-use Rattle.hex.proofs.decode.Tie as tie
+use Rattle.hexadecimal.specs.Hex.{hex_byte, hex_bytes}
+use Rattle.hexadecimal.proofs.HexLaws.{hex_bytes_step, hex_bytes_end, length_hex_bytes}
+use Rattle.hexadecimal.proofs.decode.Statement.{statement}
+use Rattle.hexadecimal.proofs.decode.Tie as tie
 
 abbrev invariant-loop : tie.invariant-loop
 invariant-loop s out₀ n i₀ out i = (sets out i (hex_bytes (drop (2 * i) s)) ≡ sets out₀ 0 (hex_bytes s)) × ((i ≤ n) × (length out ≡ length out₀))

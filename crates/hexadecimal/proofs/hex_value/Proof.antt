@@ -4,9 +4,9 @@ use lib.Dec.{leb}
 use borrow.Author.Tests.{leb-true}
 use Rattle.parts.proofs.Bools.{and_left, and_right}
 use Rattle.parts.proofs.Picks.{picks}
-use Rattle.hex.specs.Hex.{hex_value}
-use Rattle.hex.proofs.hex_value.Statement.{statement}
-use Rattle.hex.proofs.hex_value.Tie as tie
+use Rattle.hexadecimal.specs.Hex.{hex_value}
+use Rattle.hexadecimal.proofs.hex_value.Statement.{statement}
+use Rattle.hexadecimal.proofs.hex_value.Tie as tie
 
 sub-result : tie.Need-overflow-sub-result
 sub-result c =

@@ -12,7 +12,7 @@ use lib.Seq.{sets, drop-cons, take-suc, take_all}
 use Rattle.parts.proofs.Picks.{pick_case}
 use Rattle.parts.proofs.Bools.{and_right}
 use Rattle.parts.proofs.Lists.{sets_append}
-use Rattle.hex.specs.Hex.{is_hex, hex_value, all_hex, hex_byte, hex_bytes, hex_digit, hex_text}
+use Rattle.hexadecimal.specs.Hex.{is_hex, hex_value, all_hex, hex_byte, hex_bytes, hex_digit, hex_text}
 
 -- ---- digits read
 all_hex_step : (s : List ℕ) (i : ℕ) → i < length s → all_hex (drop i s) ≡ (is_hex (get_or s i 0) && all_hex (drop (i + 1) s))

@@ -1,0 +1,30 @@
+use mathlib.Core.Path.{◌≡◌, refl, ap, ◌∙◌}
+use Prim.Native.Nat.{◌+◌, ◌-◌, ◌≤◌}
+use native.Mathlib.Omega.{arith}
+use borrow.Author.Rules.{rules}
+use native.Mathlib.Numerals.{add-one}
+use Rattle.write_reasons.specs.Reasons.{is_allowed}
+use Rattle.block_writes.specs.Claims.{all_allowed}
+use Rattle.block_writes.proofs.all_allowed.Goals as goal
+
+pub loop-k-init : goal.loop-k-init
+unfolding all_allowed
+loop-k-init c = (omega arith, refl)
+
+pub loop-k-preserved : goal.loop-k-preserved
+unfolding all_allowed
+loop-k-preserved c =
+    
+    
+    let l = c.loop-k in
+    let a = c.args in
+    let one = c.is_allowed-one.ensures ∙ ap is_allowed c.verdict-verdict.ensures in
+    (omega arith, rw (l.invariant.1, one, add-one l.k))
+
+pub returns : goal.returns
+returns c =
+    let l = c.loop-k in
+    
+    let a = c.args in
+    let e : l.k ≡ a.more + 1 = omega arith in
+    l.invariant.1 ∙ ap (all_allowed a.c a.session a.first) e

@@ -1,0 +1,58 @@
+use mathlib.Core.Path.{ap, ◌∙◌}
+use mathlib.Core.List.{List}
+use Prim.Native.Nat.{ℕ, ◌+◌}
+use lib.Seq.{sets}
+use Rattle.parts.proofs.Picks.{picks}
+use Rattle.errors.specs.declared.RadioError.TheVariants.{NoSuchBlock, ReadLeavesArea, ReadProtected}
+use Rattle.reply.specs.Reply.{good, fault}
+use Rattle.reply.proofs.Finish.{said, good_run}
+use Rattle.blocks.specs.Blocks.{blocks_of, read_of}
+use borrow.Author.Rules.{rules}
+use Rattle.blocks.proofs.read.Goals as goal
+
+pub returns-then-above : goal.returns-then-above
+unfolding read_of
+returns-then-above c =
+    
+    
+    let a = c.args in
+    said (read_of a.v a.m.now a.option a.first a.more) _ (fault NoSuchBlock) c.error-answer.ensures (search picks depth 20)
+
+pub returns-then-leaving : goal.returns-then-leaving
+unfolding read_of
+returns-then-leaving c =
+    
+    
+    
+    let a = c.args in
+    said (read_of a.v a.m.now a.option a.first a.more) _ (fault ReadLeavesArea) c.error-answer-then-leaving.ensures
+    (rw (← c.leaves_area-leaving.ensures) (search picks depth 20))
+
+pub returns-then-not-may_read : goal.returns-then-not-may_read
+unfolding read_of
+returns-then-not-may_read c =
+    
+    
+    
+    
+    let a = c.args in
+    said (read_of a.v a.m.now a.option a.first a.more) _ (fault ReadProtected) c.error-answer-then-not-may_read.ensures
+    (rw (← c.leaves_area-leaving.ensures, ← c.may_read_lem.ensures) (search picks depth 20))
+
+pub returns : goal.returns
+unfolding read_of
+returns c =
+    
+    
+    
+    
+    
+    
+    let a = c.args in
+    let blocks = blocks_of a.v.core.registers a.v.air.session a.m.now a.option a.first (a.more + 1) in
+    said (read_of a.v a.m.now a.option a.first a.more) _ (good blocks)
+    (good_run blocks a.out.now c.put_blocks-n.new.out c.put_blocks-n.result
+    c.put_blocks-n.ensures.0
+    (c.put_blocks-n.ensures.1 ∙ ap (λ (o : List ℕ). sets o 1 blocks) c.put.ensures)
+    c.close-answer.ensures)
+    (rw (← c.leaves_area-leaving.ensures, ← c.may_read_lem.ensures) (search picks depth 20))

@@ -1,0 +1,11 @@
+use Rattle.bus.specs.Bus.{counted_dynamic}
+use Rattle.std.proofs.Common.{rules}
+use Rattle.bus.proofs.counted_dynamic.Goals as goal
+
+pub returns-in-Closed : goal.returns-in-Closed
+unfolding counted_dynamic
+returns-in-Closed c = rw c.enum_told-1.given.1
+
+pub returns-in-Open : goal.returns-in-Open
+unfolding counted_dynamic
+returns-in-Open c = rw c.transfer-1.given.1

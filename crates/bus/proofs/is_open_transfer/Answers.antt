@@ -1,0 +1,11 @@
+use Rattle.bus.specs.Bus.{is_open_transfer}
+use Rattle.std.proofs.Common.{rules}
+use Rattle.bus.proofs.is_open_transfer.Goals as goal
+
+pub returns-in-Closed : goal.returns-in-Closed
+unfolding is_open_transfer
+returns-in-Closed c = rw c.enum_told-1.given.1
+
+pub returns-in-Open : goal.returns-in-Open
+unfolding is_open_transfer
+returns-in-Open c = rw c.transfer-1.given.1

@@ -1,0 +1,11 @@
+use Rattle.bus.specs.Bus.{kept_of}
+use Rattle.std.proofs.Common.{rules}
+use Rattle.bus.proofs.kept_of.Goals as goal
+
+pub returns-in-Closed : goal.returns-in-Closed
+unfolding kept_of
+returns-in-Closed c = rw c.enum_told-1.given.1
+
+pub returns-in-Open : goal.returns-in-Open
+unfolding kept_of
+returns-in-Open c = rw c.transfer-1.given.1

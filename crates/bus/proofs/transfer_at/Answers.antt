@@ -1,0 +1,27 @@
+use Rattle.bus.specs.Bus.{transfer_at}
+use Rattle.std.proofs.Common.{rules}
+use Rattle.bus.proofs.transfer_at.Goals as goal
+
+pub returns-in-Idle : goal.returns-in-Idle
+unfolding transfer_at
+returns-in-Idle c = rw c.enum_told-1.given.1
+
+pub returns-in-Started : goal.returns-in-Started
+unfolding transfer_at
+returns-in-Started c = rw c.b-1.given.1
+
+pub returns-in-ReadLeg : goal.returns-in-ReadLeg
+unfolding transfer_at
+returns-in-ReadLeg c = rw c.b-in-ReadLeg-1.given.1
+
+pub returns-in-WriteLeg : goal.returns-in-WriteLeg
+unfolding transfer_at
+returns-in-WriteLeg c = rw c.b-in-WriteLeg-1.given.1
+
+pub returns-in-LowAddress : goal.returns-in-LowAddress
+unfolding transfer_at
+returns-in-LowAddress c = rw c.b-in-LowAddress-1.given.1
+
+pub returns-in-DataLeg : goal.returns-in-DataLeg
+unfolding transfer_at
+returns-in-DataLeg c = rw c.b-in-DataLeg-1.given.1

@@ -1,0 +1,11 @@
+use borrow.Author.Rules.{rules}
+use Rattle.commands.specs.Table.{takes_option}
+use Rattle.commands.proofs.CommandCode.takes_option.Goals as goal
+
+pub returns-in-Unknown : goal.returns-in-Unknown
+unfolding takes_option
+returns-in-Unknown c = rw c.enum_told-1.given.1
+
+pub returns-in-Known : goal.returns-in-Known
+unfolding takes_option
+returns-in-Known c = rw c.self-1.given.1

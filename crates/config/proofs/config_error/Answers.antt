@@ -1,0 +1,16 @@
+use Rattle.config.specs.Claims.{config_error}
+use Rattle.parts.specs.Pick.{pick}
+use Rattle.config.proofs.ByVerdict.{closed}
+use borrow.Author.Rules.{rules}
+use Rattle.config.proofs.config_error.Goals as goal
+
+pub returns-in-OutsideMap : goal.returns-in-OutsideMap
+unfolding config_error pick
+returns-in-OutsideMap c = rw c.enum_told-1.given.1
+
+pub returns-in-EndaRule : goal.returns-in-EndaRule
+unfolding config_error pick
+returns-in-EndaRule c = rw c.enum_told-in-EndaRule-1.given.1
+
+pub returns-in_default : goal.returns-in_default
+returns-in_default c = closed _ c.in_default.keys3

@@ -1,0 +1,34 @@
+use mathlib.Core.List.{[]}
+use Rattle.reply.specs.Reply.{good, fault}
+use Rattle.reply.proofs.Finish.{said}
+use Rattle.config.specs.Config.{write_config_of}
+use Rattle.config.specs.Claims.{config_by}
+use Rattle.config.proofs.ByVerdict.{config_by_verdict}
+use borrow.Author.Rules.{rules}
+use Rattle.config.proofs.write.Goals as goal
+
+pub returns-in-Allowed : goal.returns-in-Allowed
+unfolding config_by
+returns-in-Allowed c =
+    
+    
+    let a = c.args in
+    let by = config_by_verdict a.v a.m.now a.pointer a.x in
+    
+    
+    
+    said (write_config_of a.v a.m.now a.pointer a.x) _ (good []) c.done.ensures
+    (rw (by, ← c.verdict-verdict.ensures, c.enum_told-1.given.1, c.written_core-core.ensures))
+
+pub returns-in-Forbidden : goal.returns-in-Forbidden
+unfolding config_by
+returns-in-Forbidden c =
+    
+    
+    let a = c.args in
+    let by = config_by_verdict a.v a.m.now a.pointer a.x in
+    
+    
+    
+    said (write_config_of a.v a.m.now a.pointer a.x) _ (fault c.config_error.result) c.error.ensures
+    (rw (by, ← c.verdict-verdict.ensures, c.verdict-1.given.1, c.config_error.ensures))

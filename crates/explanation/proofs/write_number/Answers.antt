@@ -1,0 +1,13 @@
+use borrow.Author.Rules.{rules}
+use Rattle.explanation_rules.specs.Numbers.{write_number}
+use Rattle.explanation.proofs.write_number.Goals as goal
+
+pub returns-in-Allowed : goal.returns-in-Allowed
+unfolding write_number
+returns-in-Allowed c = rw c.enum_told-1.given.1
+
+pub returns-in-Forbidden : goal.returns-in-Forbidden
+unfolding write_number
+returns-in-Forbidden c =
+    
+    rw c.verdict-1.given.1 c.number.ensures

@@ -1,0 +1,8 @@
+use mathlib.Core.Path.{refl}
+use Prim.Native.Nat.{◌-◌}
+use Rattle.hexadecimal.specs.Hex.{is_hex}
+use Rattle.hexadecimal.proofs.is_hex.Goals as goal
+
+pub returns : goal.returns
+unfolding is_hex
+returns c = refl

@@ -1,0 +1,27 @@
+use borrow.Author.Rules.{rules}
+use mathlib.Core.Path.{◌≡◌, refl, ap, ◌∙◌}
+use mathlib.Core.Bool.{Bool, ◌&&◌}
+use Prim.Native.Nat.{ℕ, ◌≤◌, ◌-◌}
+use native.Mathlib.Omega.{arith}
+use native.Mathlib.Numerals.{add-one}
+use Rattle.inventory.specs.Inventory.{same_bits}
+use Rattle.inventory.proofs.same_bits.Goals as goal
+
+pub loop-i-init : goal.loop-i-init
+unfolding same_bits
+loop-i-init c = (refl, omega arith)
+
+pub loop-i-preserved : goal.loop-i-preserved
+unfolding same_bits
+loop-i-preserved c =
+    
+    
+    
+    let l = c.loop-i in (rw (add-one l.i, c.bit_at.ensures.0, c.bit_at-in-loop-i.ensures.0, l.invariant.0), omega arith)
+
+pub returns : goal.returns
+returns c =
+    
+    let l = c.loop-i in
+    let e : l.i ≡ c.args.n = omega arith in
+    rw (← e) l.invariant.0

@@ -1,0 +1,9 @@
+use native.Mathlib.Omega.{arith}
+use Rattle.inventory.specs.Inventory.{slot_number}
+use borrow.Author.Rules.{rules}
+use Rattle.inventory.proofs.slot_number.Goals as goal
+
+pub returns : goal.returns
+unfolding slot_number
+returns c =
+    record { value = rw (c.bit_at.ensures.0, c.bit_at-2.ensures.0, c.bit_at-3.ensures.0, c.bit_at-4.ensures.0); upper_bound = omega arith }

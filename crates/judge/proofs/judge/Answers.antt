@@ -1,0 +1,34 @@
+use borrow.Author.Rules.{rules}
+use Rattle.parts.specs.Pick.{pick}
+use Rattle.parts.proofs.Picks.{picks}
+use Rattle.judge.proofs.Muted.{muted, judge_muted}
+use Rattle.judge.proofs.judge.Goals as goal
+
+pub returns-then-is_silent : goal.returns-then-is_silent
+returns-then-is_silent c =
+    rw (judge_muted, ← c.is_silent.ensures) (search picks depth 20)
+
+pub returns-in-Silence : goal.returns-in-Silence
+unfolding muted pick
+returns-in-Silence c =
+    
+    
+    
+    rw (judge_muted, ← c.is_silent.ensures, c.if-is_silent.left, ← c.first_error.ensures, c.enum_told-1.given.1)
+
+pub returns-in-Error : goal.returns-in-Error
+unfolding muted pick
+returns-in-Error c =
+    
+    
+    
+    
+    rw (judge_muted, ← c.is_silent.ensures, c.if-is_silent.left, ← c.first_error.ensures, c.error-1.given.1, c.error_of_lem.ensures)
+
+pub returns-in-Request : goal.returns-in-Request
+unfolding muted pick
+returns-in-Request c =
+    
+    
+    
+    rw (judge_muted, ← c.is_silent.ensures, c.if-is_silent.left, ← c.first_error.ensures, c.enum_told-in-Request-1.given.1)

@@ -1,0 +1,12 @@
+use borrow.Author.Rules.{rules}
+use Rattle.judge.specs.Judge.{wrong_length}
+use Rattle.judge.proofs.wrong_length.Goals as goal
+
+pub returns : goal.returns
+unfolding wrong_length
+returns c =
+    
+    
+    
+    
+    rw (c.crc_place-end.ensures, c.param_place-at.ensures.0, c.param_bytes-takes.ensures.0, c.param-2.ensures, c.param.ensures, c.command_of.ensures, c.command.ensures)

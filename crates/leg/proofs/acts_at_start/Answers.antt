@@ -1,0 +1,11 @@
+use Rattle.leg.specs.Leg.{acts_at_start}
+use borrow.Author.Rules.{rules}
+use Rattle.leg.proofs.acts_at_start.Goals as goal
+
+pub returns-in-User : goal.returns-in-User
+unfolding acts_at_start
+returns-in-User c = rw (c.host_writes.ensures, c.enum_told-1.given.1)
+
+pub returns-in-System : goal.returns-in-System
+unfolding acts_at_start
+returns-in-System c = rw c.enum_told-in-System-1.given.1

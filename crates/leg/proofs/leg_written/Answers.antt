@@ -1,0 +1,13 @@
+use Rattle.leg.specs.Leg.{leg_written}
+use borrow.Author.Rules.{rules}
+use Rattle.leg.proofs.leg_written.Goals as goal
+
+pub returns-in-User : goal.returns-in-User
+unfolding leg_written
+returns-in-User c =
+    
+    rw (c.user_written.ensures, c.enum_told-1.given.1)
+
+pub returns-in-System : goal.returns-in-System
+unfolding leg_written
+returns-in-System c = rw (c.system_written.ensures, c.enum_told-in-System-1.given.1)

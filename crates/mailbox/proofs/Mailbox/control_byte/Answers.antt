@@ -1,0 +1,10 @@
+use native.Mathlib.Omega.{arith}
+use Rattle.mailbox.specs.Mailbox.{control_byte}
+use borrow.Author.Rules.{rules}
+use Rattle.mailbox.proofs.Mailbox.control_byte.Goals as goal
+
+pub returns : goal.returns
+unfolding control_byte
+returns c =
+    
+    rw (c.weight-rf_current.ensures.0, c.weight-host_current.ensures.0, c.weight-rf_put.ensures.0, c.weight-host_put.ensures.0, c.weight-en.ensures.0)

@@ -1,0 +1,25 @@
+use mathlib.Core.List.{[], ◌∷◌}
+use borrow.Author.Rules.{rules}
+use Rattle.parts.proofs.Picks.{picks}
+use Rattle.errors.specs.declared.RadioError.TheVariants.{MailboxDisabled}
+use Rattle.reply.specs.Reply.{good, fault}
+use Rattle.reply.proofs.Finish.{said}
+use Rattle.message.specs.Message.{length_of}
+use Rattle.message.proofs.length.Goals as goal
+
+pub returns-then-not-b : goal.returns-then-not-b
+unfolding length_of
+returns-then-not-b c =
+    
+    
+    let a = c.args in
+    said (length_of a.v a.m.now) _ (fault MailboxDisabled) c.error.ensures (search picks depth 20)
+
+pub returns : goal.returns
+unfolding length_of
+returns c =
+    
+    
+    let a = c.args in
+    said (length_of a.v a.m.now) _ (good (c.length_byte_lem.result ∷ [])) c.byte.ensures
+    (rw c.length_byte_lem.ensures (search picks depth 20))

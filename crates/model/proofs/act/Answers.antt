@@ -1,0 +1,37 @@
+use mathlib.Core.Path.{ap}
+use Rattle.model.specs.Step.{FreshResult, step_result, act_of}
+use borrow.Author.Rules.{rules}
+use Rattle.model.proofs.act.Reads as reads
+use Rattle.model.proofs.act.Lts as lts
+use Rattle.model.proofs.by_field.Reads as by-field-reads
+use Rattle.model.proofs.by_frame.Reads as by-frame-reads
+use Rattle.model.proofs.by_wire.Reads as by-wire-reads
+use Rattle.model.proofs.act.Goals as goal
+
+-- src/lib.rt:159:1
+pub returns-in-Wire : goal.returns-in-Wire
+unfolding act_of
+returns-in-Wire c =
+    
+    
+    let a = c.args in
+    rw c.signal-1.given.1
+    (ap (λ (e : FreshResult). step_result e.answer e.tag e.memory a.out.now) c.by_wire_lem.ensures)
+
+-- src/lib.rt:159:1
+pub returns-in-Field : goal.returns-in-Field
+unfolding act_of
+returns-in-Field c = rw (c.by_field.ensures, c.signal-in-Field-1.given.1)
+
+-- src/lib.rt:159:1
+pub returns-in-Frame : goal.returns-in-Frame
+returns-in-Frame c =
+    
+    
+    rw c.enum_told-1.given.1 c.by_frame.ensures
+
+pub returns-in-EndOfFrame : goal.returns-in-EndOfFrame
+returns-in-EndOfFrame c =
+    
+    
+    rw c.enum_told-in-EndOfFrame-1.given.1 c.by_end_of_frame.ensures

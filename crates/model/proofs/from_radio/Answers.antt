@@ -1,0 +1,15 @@
+use Rattle.model.specs.Step.{from_radio}
+use borrow.Author.Rules.{rules}
+use Rattle.model.proofs.from_radio.Reads as reads
+use Rattle.model.proofs.from_radio.Lts as lts
+use Rattle.model.proofs.from_radio.Goals as goal
+
+-- src/lib.rt:88:1
+pub returns-in-Silence : goal.returns-in-Silence
+unfolding from_radio
+returns-in-Silence c = rw c.enum_told-1.given.1
+
+-- src/lib.rt:88:1
+pub returns-in-Reply : goal.returns-in-Reply
+unfolding from_radio
+returns-in-Reply c = rw c.answer-1.given.1

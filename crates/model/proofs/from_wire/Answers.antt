@@ -1,0 +1,25 @@
+use Rattle.model.specs.Step.{from_wire}
+use borrow.Author.Rules.{rules}
+use Rattle.model.proofs.from_wire.Reads as reads
+use Rattle.model.proofs.from_wire.Lts as lts
+use Rattle.model.proofs.from_wire.Goals as goal
+
+-- src/lib.rt:77:1
+pub returns-in-Nothing : goal.returns-in-Nothing
+unfolding from_wire
+returns-in-Nothing c = rw c.enum_told-1.given.1
+
+-- src/lib.rt:77:1
+pub returns-in-Ack : goal.returns-in-Ack
+unfolding from_wire
+returns-in-Ack c = rw c.enum_told-in-Ack-1.given.1
+
+-- src/lib.rt:77:1
+pub returns-in-NoAck : goal.returns-in-NoAck
+unfolding from_wire
+returns-in-NoAck c = rw c.enum_told-in-NoAck-1.given.1
+
+-- src/lib.rt:77:1
+pub returns-in-Byte : goal.returns-in-Byte
+unfolding from_wire
+returns-in-Byte c = rw c.answer-1.given.1

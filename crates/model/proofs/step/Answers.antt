@@ -1,0 +1,20 @@
+use mathlib.Core.Path.{sym, ◌∙◌}
+use Rattle.refusals.specs.Refusals.{unless_refused}
+use Rattle.model.specs.Step.{step_of}
+use borrow.Author.Rules.{rules}
+use Rattle.model.proofs.step.Goals as goal
+
+pub returns-in-RefusedBy : goal.returns-in-RefusedBy
+unfolding step_of unless_refused
+returns-in-RefusedBy c =
+    
+    rw (c.refused.ensures, sym c.entry_refusal-judged.ensures ∙ c.judged-1.given.1)
+
+pub returns-in-NoRefusal : goal.returns-in-NoRefusal
+unfolding step_of unless_refused
+returns-in-NoRefusal c =
+    
+    
+    
+    
+    rw (sym c.entry_refusal-judged.ensures ∙ c.enum_told-1.given.1, ← c.signal_by.ensures) c.act.ensures

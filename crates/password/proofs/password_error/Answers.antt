@@ -1,0 +1,12 @@
+use Rattle.password.specs.Claims.{password_error}
+use Rattle.parts.specs.Pick.{pick}
+use Rattle.password.proofs.ByVerdict.{closed}
+use borrow.Author.Rules.{rules}
+use Rattle.password.proofs.password_error.Goals as goal
+
+pub returns-in-OutsideMap : goal.returns-in-OutsideMap
+unfolding password_error pick
+returns-in-OutsideMap c = rw c.enum_told-1.given.1
+
+pub returns-in_default : goal.returns-in_default
+returns-in_default c = closed _ c.in_default.keys2

@@ -1,0 +1,30 @@
+use mathlib.Core.List.{[]}
+use Rattle.reply.specs.Reply.{good, fault}
+use Rattle.reply.proofs.Finish.{said}
+use Rattle.password.specs.Password.{write_password_of}
+use Rattle.password.specs.Claims.{password_by}
+use Rattle.password.proofs.ByVerdict.{password_by_verdict}
+use borrow.Author.Rules.{rules}
+use Rattle.password.proofs.write.Goals as goal
+
+pub returns-in-Forbidden : goal.returns-in-Forbidden
+unfolding password_by
+returns-in-Forbidden c =
+    
+    
+    
+    
+    let a = c.args in
+    said (write_password_of a.v a.m.now a.n a.frame.now a.at) _ (fault c.password_error.result) c.error.ensures
+    (rw (password_by_verdict a.v a.m.now a.n a.frame.now a.at, ← c.verdict-verdict.ensures, c.verdict-1.given.1, c.password_error.ensures))
+
+pub returns : goal.returns
+unfolding password_by
+returns c =
+    
+    
+    
+    
+    let a = c.args in
+    said (write_password_of a.v a.m.now a.n a.frame.now a.at) _ (good []) c.done.ensures
+    (rw (password_by_verdict a.v a.m.now a.n a.frame.now a.at, ← c.verdict-verdict.ensures, c.enum_told-1.given.1, c.with_passwords.ensures, c.with_radio-passwords.ensures, c.at.ensures))

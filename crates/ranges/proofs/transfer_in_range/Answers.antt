@@ -1,0 +1,11 @@
+use Rattle.ranges.specs.Ranges.{transfer_in_range}
+use borrow.Author.Rules.{rules}
+use Rattle.ranges.proofs.transfer_in_range.Goals as goal
+
+pub returns-in-Closed : goal.returns-in-Closed
+unfolding transfer_in_range
+returns-in-Closed c = rw c.enum_told-1.given.1
+
+pub returns-in-Open : goal.returns-in-Open
+unfolding transfer_in_range
+returns-in-Open c = rw (c.keep.ensures, c.transfer-1.given.1)

@@ -1,0 +1,26 @@
+use borrow.Author.Rules.{rules}
+use Prim.Native.Nat.{◌-◌}
+use borrow.Author.Tests.{ne_eqb}
+use Rattle.parts.specs.Pick.{pick}
+use Rattle.reading.specs.Line.{line_by, alone}
+use Rattle.reading.proofs.alone.Goals as goal
+
+pub returns-in-83 : goal.returns-in-83
+unfolding line_by alone pick
+returns-in-83 c = rw (← c.byte_at.ensures, c.in_default.keys1)
+
+pub returns-in-80 : goal.returns-in-80
+unfolding line_by alone pick
+returns-in-80 c = rw (← c.byte_at.ensures, c.in_default.keys2)
+
+pub returns-in-68 : goal.returns-in-68
+unfolding line_by alone pick
+returns-in-68 c = rw (← c.byte_at.ensures, c.in_default.keys3)
+
+pub returns-in-69 : goal.returns-in-69
+unfolding line_by alone pick
+returns-in-69 c = rw (← c.byte_at.ensures, c.in_default.keys4)
+
+pub returns-in_default : goal.returns-in_default
+unfolding line_by alone pick
+returns-in_default c = rw (← c.byte_at.ensures) (rw (ne_eqb _ 0x53 c.in_default.rest.0.0.0.1, ne_eqb _ 0x50 c.in_default.rest.0.0.1, ne_eqb _ 0x44 c.in_default.rest.0.1, ne_eqb _ 0x45 c.in_default.rest.1))

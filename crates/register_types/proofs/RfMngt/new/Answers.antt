@@ -1,0 +1,5 @@
+use borrow.Author.Rules.{rules}
+use Rattle.register_types.proofs.RfMngt.new.Goals as goal
+
+pub returns : goal.returns
+returns c = rw c.keep.ensures

@@ -1,0 +1,7 @@
+use Rattle.registers.specs.Map.{written}
+use borrow.Author.Rules.{rules}
+use Rattle.registers.proofs.Registers.write.Goals as goal
+
+pub returns : goal.returns
+unfolding written
+returns c = rw (c.write_to.ensures, c.row_of-row.ensures)

@@ -1,0 +1,13 @@
+use mathlib.Core.Path.{◌∙◌}
+use Rattle.reply.specs.Reply.{answer_of, buffer_of}
+use borrow.Author.Rules.{rules}
+use Rattle.reply.proofs.error.Goals as goal
+
+pub returns : goal.returns
+unfolding answer_of buffer_of
+returns c =
+    
+    
+    
+    
+    c.close.ensures ∙ rw (c.put-2.ensures, c.code.ensures, c.put.ensures)

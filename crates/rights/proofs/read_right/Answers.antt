@@ -1,0 +1,11 @@
+use Rattle.rights.specs.Rights.{read_right}
+use borrow.Author.Rules.{rules}
+use Rattle.rights.proofs.read_right.Goals as goal
+
+pub returns-in-Wire : goal.returns-in-Wire
+unfolding read_right
+returns-in-Wire c = rw (c.wire_reads.ensures, c.by-1.given.1)
+
+pub returns-in-Radio : goal.returns-in-Radio
+unfolding read_right
+returns-in-Radio c = rw (c.radio_reads.ensures, c.security_of.ensures, c.by-in-Radio-1.given.1)

@@ -1,0 +1,7 @@
+use Rattle.rights.specs.Rights.{wire_guards}
+use borrow.Author.Rules.{rules}
+use Rattle.rights.proofs.wire_guards.Goals as goal
+
+pub returns : goal.returns
+unfolding wire_guards
+returns c = rw c.wire_bits-bits.ensures

@@ -1,0 +1,7 @@
+use Rattle.rights.specs.Rights.{wire_reads}
+use borrow.Author.Rules.{rules}
+use Rattle.rights.proofs.wire_reads.Goals as goal
+
+pub returns : goal.returns
+unfolding wire_reads
+returns c = rw c.wire_bits-bits.ensures

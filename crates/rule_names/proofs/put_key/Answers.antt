@@ -1,0 +1,29 @@
+use native.Mathlib.Omega.{arith}
+use mathlib.Core.Path.{◌∙◌}
+use mathlib.Core.List.{[], ◌∷◌}
+use Prim.Native.Nat.{◌≤◌}
+use lib.ListN.{length}
+use Rattle.text.specs.Decimal.{decimal}
+use Rattle.text.specs.Place.{last_place}
+use Rattle.text.proofs.PlaceLaws.{behind}
+use Rattle.rule_names.specs.Text.{key_text}
+use Rattle.rule_names.proofs.Table.{nothing_stored}
+use borrow.Author.Rules.{rules}
+use Rattle.rule_names.proofs.put_key.Goals as goal
+
+pub returns-in-Unnumbered : goal.returns-in-Unnumbered
+unfolding key_text
+returns-in-Unnumbered c = rw c.enum_told-1.given.1 (nothing_stored _ _ (omega arith))
+
+pub returns-in-Numbered : goal.returns-in-Numbered
+unfolding key_text
+returns-in-Numbered c =
+    
+    
+    
+    let a = c.args in
+    let o = a.text.now in
+    let mark = c.put_mark-number in
+    let room : length o ≤ last_place = omega arith in
+    rw c.key-1.given.1
+    (c.put_decimal.ensures ∙ behind o mark.last.0 (0x20 ∷ []) (decimal _) a.at mark.result room mark.ensures)

@@ -1,0 +1,10 @@
+use borrow.Author.Rules.{rules}
+use Prim.Native.Nat.{◌-◌}
+use Rattle.script.proofs.call.Goals as goal
+
+pub returns : goal.returns
+returns c =
+    
+    
+    
+    rw (← c.step-o.ensures, c.put_line-length.ensures.1, c.put_line-length.ensures.0, c.next_line-number.ensures, c.rule_named-rule.ensures)

@@ -1,0 +1,20 @@
+use Rattle.reply.proofs.Finish.{silent}
+use Rattle.serve.specs.Commands.{serve_code, serve_of}
+use Rattle.serve.proofs.Rows.{known_row}
+use borrow.Author.Rules.{rules}
+use Rattle.serve.proofs.serve.Goals as goal
+
+pub returns-in-Unknown : goal.returns-in-Unknown
+unfolding serve_code serve_of
+returns-in-Unknown c =
+    
+    let a = c.args in
+    silent (serve_of a.q a.v a.vcc a.m.now a.f.now) (rw c.enum_told-1.given.1)
+
+pub returns-in-Known : goal.returns-in-Known
+returns-in-Known c =
+    
+    
+    
+    let a = c.args in
+    rw (known_row a.q a.v a.vcc a.m.now a.f.now _ c.code-1.given.1) c.serve_command.ensures

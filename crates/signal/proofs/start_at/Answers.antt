@@ -1,0 +1,37 @@
+use mathlib.Core.Path.{ap}
+use Rattle.effect.specs.Effect.{LegResult}
+use Rattle.leg.specs.Leg.{settle}
+use Rattle.signal.specs.declared.WireAnswer.TheVariants.{Nothing}
+use Rattle.signal.specs.Signal.{wire_result, due_of, start_at}
+use Rattle.signal.proofs.Settle.{read_started}
+use borrow.Author.Rules.{rules}
+use Rattle.signal.proofs.start_at.Goals as goal
+
+pub returns-in-Idle : goal.returns-in-Idle
+unfolding start_at settle due_of
+returns-in-Idle c = rw (c.started-next.ensures, c.enum_told-1.given.1)
+
+pub returns-in-Started : goal.returns-in-Started
+unfolding start_at settle due_of
+returns-in-Started c = rw (c.started-next.ensures, c.b-1.given.1)
+
+pub returns-in-ReadLeg : goal.returns-in-ReadLeg
+unfolding start_at due_of
+returns-in-ReadLeg c =
+    
+    rw (c.End-read.ensures, c.started-next.ensures, c.b-in-ReadLeg-1.given.1) (ap (λ (r : LegResult). wire_result Nothing r.side r.memory) (read_started _ _ _))
+
+pub returns-in-WriteLeg : goal.returns-in-WriteLeg
+unfolding start_at settle due_of
+returns-in-WriteLeg c = rw (c.started-next.ensures, c.b-in-WriteLeg-1.given.1)
+
+pub returns-in-LowAddress : goal.returns-in-LowAddress
+unfolding start_at settle due_of
+returns-in-LowAddress c = rw (c.started-next.ensures, c.b-in-LowAddress-1.given.1)
+
+pub returns-in-DataLeg : goal.returns-in-DataLeg
+unfolding start_at due_of
+returns-in-DataLeg c =
+    
+    
+    rw c.b-in-DataLeg-1.given.1 (rw (c.started-next.ensures, c.b-in-DataLeg-1.given.1) at (ap (λ (r : LegResult). wire_result Nothing r.side r.memory) c.start_write.ensures))

@@ -1,0 +1,5 @@
+use borrow.Author.Rules.{rules}
+use Rattle.signal.proofs.started.Goals as goal
+
+pub returns : goal.returns
+returns c = rw (c.with_bus.ensures, c.transfer_at.ensures)

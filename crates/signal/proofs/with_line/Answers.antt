@@ -1,0 +1,5 @@
+use borrow.Author.Rules.{rules}
+use Rattle.signal.proofs.with_line.Goals as goal
+
+pub returns : goal.returns
+returns c = rw c.with_bus-host.ensures

@@ -1,0 +1,12 @@
+use mathlib.Core.Path.{sym, ◌∙◌}
+use Rattle.signal_table.specs.Table.{is_found, signal_in_range}
+use borrow.Author.Rules.{rules}
+use Rattle.signal_table.proofs.signal_in_range.Goals as goal
+
+pub returns-in-NoSignal : goal.returns-in-NoSignal
+unfolding is_found signal_in_range
+returns-in-NoSignal c = rw (sym c.signal_found-found.ensures ∙ c.enum_told-1.given.1)
+
+pub returns-in-Found : goal.returns-in-Found
+unfolding is_found signal_in_range
+returns-in-Found c = rw (sym c.signal_found-found.ensures ∙ c.found-1.given.1)

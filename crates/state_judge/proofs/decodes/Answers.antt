@@ -1,0 +1,7 @@
+use Rattle.state.specs.Layout.{decodes}
+use borrow.Author.Rules.{rules}
+use Rattle.state_judge.proofs.decodes.Goals as goal
+
+pub returns : goal.returns
+unfolding decodes
+returns c = rw (c.mailbox_decodes_lem.ensures, c.host_decodes_lem.ensures, c.air_decodes_lem.ensures)

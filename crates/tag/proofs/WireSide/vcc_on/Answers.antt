@@ -1,0 +1,5 @@
+use borrow.Author.Rules.{rules}
+use Rattle.tag.proofs.WireSide.vcc_on.Goals as goal
+
+pub returns : goal.returns
+returns c = rw c.reload-registers.ensures

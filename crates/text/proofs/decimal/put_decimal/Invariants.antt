@@ -1,0 +1,17 @@
+use borrow.Author.Rules.{rules}
+use native.Mathlib.Omega.{arith}
+use mathlib.Core.Path.{◌≡◌, refl, sym, ap, ◌∙◌}
+use mathlib.Core.List.{List}
+use Prim.Native.Nat.{ℕ, suc, ◌+◌, ◌-◌, ◌/◌, ◌%◌, ◌≤◌, min}
+use lib.ListN.{length, set, length-set}
+use lib.Seq.{sets}
+use Rattle.text.specs.Decimal.{digits_of, decimal}
+use Rattle.text.specs.Place.{stored, last_place}
+use Rattle.text.proofs.DecimalLaws.{digits_enough, digit_stored}
+use Rattle.text.proofs.decimal.put_decimal.Given as goal
+
+abbrev pub invariant-loop-i : goal.invariant-loop-i
+invariant-loop-i l = (sets l.text l.at (digits_of l.i l.left) ≡ sets l.initial.text l.at (decimal l.n)) × ((length (digits_of l.i l.left) ≡ l.i) × ((l.i ≤ 20) × (length l.text ≡ length l.initial.text)))
+
+abbrev pub decreases-loop-i : goal.decreases-loop-i
+decreases-loop-i l = l.i

@@ -1,0 +1,11 @@
+use borrow.Author.Rules.{rules}
+use Rattle.write_reasons.specs.Reasons.{is_allowed}
+use Rattle.write_reasons.proofs.WriteVerdict.is_allowed.Goals as goal
+
+pub returns-in-Allowed : goal.returns-in-Allowed
+unfolding is_allowed
+returns-in-Allowed c = rw c.enum_told-1.given.1
+
+pub returns-in-Forbidden : goal.returns-in-Forbidden
+unfolding is_allowed
+returns-in-Forbidden c = rw c.enum_told-in-Forbidden-1.given.1

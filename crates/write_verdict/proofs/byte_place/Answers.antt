@@ -1,0 +1,11 @@
+use Rattle.write_rules.specs.Situation.{byte_place}
+use borrow.Author.Rules.{rules}
+use Rattle.write_verdict.proofs.byte_place.Goals as goal
+
+pub returns-in-User : goal.returns-in-User
+unfolding byte_place
+returns-in-User c = rw (c.user_place.ensures, c.enum_told-1.given.1)
+
+pub returns-in-System : goal.returns-in-System
+unfolding byte_place
+returns-in-System c = rw (c.system_place.ensures, c.enum_told-in-System-1.given.1)

@@ -1,0 +1,7 @@
+use Rattle.registers.specs.Map.{written}
+use borrow.Author.Rules.{rules}
+use Rattle.written_registers.proofs.write_at.Goals as goal
+
+pub returns : goal.returns
+unfolding written
+returns c = rw (c.write_to.ensures, c.row_of-row.ensures)

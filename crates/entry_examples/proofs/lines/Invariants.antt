@@ -1,0 +1,9 @@
+use Rattle.std.proofs.Common.{◌≡◌, ◌-◌, length, ◌∙◌, arith, rules}
+use Rattle.example_lines.proofs.Laws.{nearer}
+use Rattle.entry_examples.proofs.lines.Given as goal
+
+abbrev pub invariant-loop-at : goal.invariant-loop-at
+invariant-loop-at l = (length l.m ≡ length l.initial.m) × ((length l.out ≡ length l.initial.out) × (length l.bytes ≡ length l.initial.bytes))
+
+abbrev pub decreases-loop-at : goal.decreases-loop-at
+decreases-loop-at l = length l.s - l.at

@@ -1,0 +1,38 @@
+use mathlib.Core.Path.{◌≡◌, refl, sym, ap, ◌∙◌}
+use mathlib.Core.Bool.{true}
+use borrow.Author.Tests.{not-true, not-false}
+use Rattle.parts.proofs.Picks.{pick_true, pick_false}
+use Rattle.example_states.specs.States.{patch_outcome, patch_by}
+use Rattle.example_states.proofs.States.{encoded, patched_by}
+use borrow.Author.Rules.{rules}
+use Rattle.example_states.proofs.patch.Goals as goal
+
+pub returns-then-not-store : goal.returns-then-not-store
+unfolding patch_by
+returns-then-not-store c =
+    
+    
+    let t = c.args.t in
+    let e = c.encode in
+    pick_false _ _ _ _ (not-true _ c.if-not-store.true) refl
+    ∙ patched_by t _ _ _ (encoded t _ _ refl e.ensures.1 e.ensures.0) c.store.ensures
+
+pub returns-then-not-decodes : goal.returns-then-not-decodes
+unfolding patch_by
+returns-then-not-decodes c =
+    
+    
+    
+    let t = c.args.t in
+    let e = c.encode in
+    pick_true _ _ _ _ (not-false _ c.if-not-store.false) (pick_false _ _ _ _ (sym c.decodes.ensures ∙ not-true _ c.if-not-decodes.true) refl)
+    ∙ patched_by t _ _ _ (encoded t _ _ refl e.ensures.1 e.ensures.0) c.store.ensures
+
+pub returns : goal.returns
+unfolding patch_by
+returns c =
+    let t = c.args.t in
+    let e = c.encode in
+    pick_true _ _ _ _ (not-false _ c.if-not-store.false)
+    (pick_true _ _ _ _ (sym c.decodes.ensures ∙ not-false _ c.if-not-decodes.false) (ap (patch_outcome true) c.decode.ensures))
+    ∙ patched_by t _ _ _ (encoded t _ _ refl e.ensures.1 e.ensures.0) c.store.ensures

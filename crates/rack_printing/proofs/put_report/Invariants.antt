@@ -1,0 +1,22 @@
+use borrow.Author.Rules.{rules}
+use native.Mathlib.Omega.{arith}
+use mathlib.Core.Path.{◌≡◌, refl, sym, ap, ◌∙◌}
+use mathlib.Core.Bool.{Bool, false}
+use mathlib.Core.List.{List, [], ◌∷◌}
+use Prim.Native.Nat.{ℕ, ◌+◌, ◌-◌, ◌≤◌, min}
+use lib.ListN.{length, drop, get_or, drop_of_length-le}
+use Rattle.parts.specs.Pick.{pick}
+use Rattle.text.specs.Decimal.{decimal}
+use Rattle.text.specs.Place.{Stored, stored, last_place, text_at}
+use Rattle.text.proofs.PlaceLaws.{behind, same_room}
+use Rattle.rack.specs.Step.{numbers_from}
+use Rattle.rack_printing.specs.Text.{numbers_text, report_text}
+use Rattle.rack_printing.proofs.TextLaws.{report_more}
+use Rattle.rack_printing.proofs.put_report.Given as goal
+
+-- stored behind what stands, what is left gives the whole
+abbrev pub invariant-loop-i : goal.invariant-loop-i
+invariant-loop-i l = (text_at l.text l.to (numbers_text l.mark (numbers_from l.i (drop l.i l.answered))) ≡ text_at l.initial.text l.at (report_text (numbers_from 0 l.answered))) × ((l.i ≤ 16) × ((l.to ≤ last_place) × (length l.text ≡ length l.initial.text)))
+
+abbrev pub decreases-loop-i : goal.decreases-loop-i
+decreases-loop-i l = 16 - l.i

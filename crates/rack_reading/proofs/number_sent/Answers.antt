@@ -1,0 +1,81 @@
+use borrow.Author.Rules.{rules}
+use native.Mathlib.Omega.{arith}
+use mathlib.Core.Path.{◌≡◌, refl, sym, ap, ◌∙◌}
+use mathlib.Core.Bool.{Bool, true, false, not, ◌&&◌}
+use mathlib.Core.List.{List, []}
+use Prim.Native.Nat.{ℕ, ◌+◌, ◌-◌, ◌*◌, ◌≤◌, ◌<◌}
+use lib.ListN.{length, drop, get_or, drop_of_length-le}
+use Rattle.parts.proofs.Picks.{picks}
+use Rattle.rack_reading.specs.Line.{name_line, is_digit, all_digits, number_from, number_of, most_number, badly_begun, number_sent, rack_line_by}
+use Rattle.rack_reading.proofs.NumberLaws.{digits_step, number_step, number_grows, digit_from, digit_most, no_digit, too_much, named}
+use Rattle.rack_reading.proofs.number_sent.Goals as goal
+
+-- the text is well begun past the first test
+begun : (c : tie.Else1 invariant-loop decreases-loop) → badly_begun c.before.before.before.args.s.now ≡ false
+begun c = rw (← c.before.byte_at.ensures) c.if1.false
+
+-- a test that was turned round
+held : (b d : Bool) → b ≡ d → not b ≡ false → d ≡ true
+held true d e h = sym e
+held false d e h = sym e ∙ sym h
+
+failed : (b d : Bool) → b ≡ d → not b ≡ true → d ≡ false
+failed false d e h = sym e
+failed true d e h = sym e ∙ sym h
+
+pub returns-then-s-first : goal.returns-then-s-first
+unfolding rack_line_by number_sent
+returns-then-s-first c = rw (← c.byte_at-first.ensures) (search picks depth 20)
+
+pub loop-i-init : goal.loop-i-init
+loop-i-init c = (refl, (refl, (omega arith, omega arith)))
+
+pub returns-then-not-is_digit : goal.returns-then-not-is_digit
+unfolding rack_line_by
+returns-then-not-is_digit c =
+    
+    
+    let l = c.loop-i in
+    let s = c.args.s.now in
+    let d = failed _ _ c.is_digit.ensures c.if-not-is_digit.true in
+    no_digit s (begun c) (sym l.invariant.0 ∙ digits_step s l.i (omega arith) ∙ ap (λ (b : Bool). b && all_digits (drop (l.i + 1) s)) d)
+
+pub overflow_sub-n : goal.overflow_sub-n
+overflow_sub-n c = digit_from _ (held _ _ c.is_digit.ensures c.if-not-is_digit.false)
+
+pub overflow_cast-n : goal.overflow_cast-n
+overflow_cast-n c = omega (arith, digit_most _ (held _ _ c.is_digit.ensures c.if-not-is_digit.false))
+
+pub overflow_add-n : goal.overflow_add-n
+overflow_add-n c = omega (arith, digit_most _ (held _ _ c.is_digit.ensures c.if-not-is_digit.false))
+
+pub returns-then-n-gt255 : goal.returns-then-n-gt255
+unfolding rack_line_by
+returns-then-n-gt255 c =
+    
+    
+    let l = c.loop-i in
+    let s = c.args.s.now in
+    let n = 10 * l.n + (get_or s l.i 0 - 0x30) in
+    too_much s (begun c) (omega (arith, c.if-n-gt255.true, number_grows (drop (l.i + 1) s) n, sym (number_step l.n s l.i (omega arith)) ∙ l.invariant.1.0))
+
+pub loop-i-preserved : goal.loop-i-preserved
+loop-i-preserved c =
+    
+    
+    let l = c.loop-i in
+    let s = c.args.s.now in
+    let d = held _ _ c.is_digit.ensures c.if-not-is_digit.false in (
+      sym (ap (λ (b : Bool). b && all_digits (drop (l.i + 1) s)) d) ∙ sym (digits_step s l.i (omega arith)) ∙ l.invariant.0,
+      (sym (number_step l.n s l.i (omega arith)) ∙ l.invariant.1.0, (omega arith, omega arith)),
+    )
+
+pub returns : goal.returns
+unfolding rack_line_by all_digits number_from
+returns c =
+    
+    let l = c.loop-i in
+    let s = c.args.s.now in
+    let e : drop l.i s ≡ [] = drop_of_length-le s {i = l.i} (omega arith) in
+    let n : l.n ≡ number_of s = sym (ap (number_from l.n) e) ∙ l.invariant.1.0 in
+    ap name_line n ∙ named s (begun c) (sym l.invariant.0 ∙ ap all_digits e) (omega (arith, sym n))

@@ -1,0 +1,15 @@
+use borrow.Author.Rules.{rules}
+use borrow.Author.Tests.{ltb-true}
+use native.Mathlib.Omega.{arith}
+use mathlib.Core.Path.{◌≡◌, refl, ◌∙◌}
+use Prim.Native.Nat.{◌<◌}
+use lib.Dec.{ltb}
+use lib.ListN.{length}
+use Rattle.parts.proofs.Bools.{and_right}
+use Rattle.rack_run.proofs.all.Given as goal
+
+abbrev pub invariant-loop-r : goal.invariant-loop-r
+invariant-loop-r l = (length l.input ≡ length l.initial.input) × (length l.out ≡ length l.initial.out)
+
+abbrev pub decreases-loop-r : goal.decreases-loop-r
+decreases-loop-r l = l.reads

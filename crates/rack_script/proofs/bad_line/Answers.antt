@@ -1,0 +1,11 @@
+use Rattle.printing.specs.Text.{bad_text}
+use Rattle.rack_script.proofs.Stored.{numbered_stored}
+use Rattle.std.proofs.Common.{ℕ, List, rules}
+use Rattle.rack_script.proofs.bad_line.Goals as goal
+
+pub returns : goal.returns
+returns c =
+    let p = c.put_bad_line-length in
+    let n = c.wrapping_add_u64-number in
+    let a = c.args in
+    λ (m o : List ℕ). numbered_stored a.bench m o bad_text a.text.now p.new.0 n.result p.result n.ensures p.ensures.0 p.ensures.1

@@ -1,0 +1,140 @@
+use Rattle.std.proofs.Common.{◌≡◌, ℕ, List, drop, refl, ap, ◌∙◌, arith, length-drop, length-take, rules}
+use Rattle.reading.proofs.LineLaws.{Framed}
+use Rattle.line_stream.specs.Step.{line_stored, stores_line}
+use Rattle.rack_reading.specs.declared.RackReading.TheVariants.{Bad, Signal, Frame, Add, Name, Search}
+use Rattle.rack_reading.specs.Line.{uid_of, rack_line_by}
+use Rattle.rack_reading.proofs.LineLaws.{has_digits}
+use Rattle.rack_script.specs.Script.{rack_state, call_answered, search_answered, add_answered, rack_line_answer, rack_frame}
+use Rattle.rack_script.proofs.Said.{said, said_framed, behind_tab, settled}
+use Rattle.rack_script.proofs.line.Goals as goal
+
+-- a line with digits behind its tab is not too long, and has its letter and its tab
+frame-framed : (c : tie.After-enum-told2) → Framed c.before.before.before.before.before.args.s.now
+unfolding rack_line_by has_digits
+frame-framed c = said_framed c.before.before.before.before.before.args.s.now _ Frame c.before.before.read.ensures c.enum-told2.given.1 refl
+
+add-framed : (c : tie.After-enum-told3) → Framed c.before.before.before.before.before.args.s.now
+unfolding rack_line_by has_digits
+add-framed c = said_framed c.before.before.before.before.before.args.s.now _ Add c.before.before.read.ensures c.enum-told3.given.1 refl
+
+search-framed : (c : tie.After-enum-told4) → Framed c.before.before.before.before.before.args.s.now
+unfolding rack_line_by has_digits
+search-framed c = said_framed c.before.before.before.before.before.args.s.now _ Search c.before.before.read.ensures c.enum-told4.given.1 refl
+
+pub slice_bounds-put_frame-count : goal.slice_bounds-put_frame-count
+slice_bounds-put_frame-count c = omega (arith, frame-framed c)
+
+pub slice_bounds-put_frame-start : goal.slice_bounds-put_frame-start
+slice_bounds-put_frame-start c = omega (arith, frame-framed c)
+
+pub put_frame-n-requires : goal.put_frame-n-requires
+put_frame-n-requires c =
+    let s = c.args.s.now in
+    rw (behind_tab s) (omega (arith, frame-framed c, length-drop 2 s))
+
+pub slice_bounds-call_line-end-in-Frame-2 : goal.slice_bounds-call_line-end-in-Frame-2
+slice_bounds-call_line-end-in-Frame-2 c =
+    let w = c.put_frame-n in
+    omega (arith, w.ensures.1.0, length-take w.result w.new.1.0)
+
+pub slice_bounds-add_line-count : goal.slice_bounds-add_line-count
+slice_bounds-add_line-count c = omega (arith, add-framed c)
+
+pub slice_bounds-add_line-start : goal.slice_bounds-add_line-start
+slice_bounds-add_line-start c = omega (arith, add-framed c)
+
+pub slice_bounds-put_frame-count-in-Search : goal.slice_bounds-put_frame-count-in-Search
+slice_bounds-put_frame-count-in-Search c = omega (arith, search-framed c)
+
+pub slice_bounds-put_frame-start-in-Search : goal.slice_bounds-put_frame-start-in-Search
+slice_bounds-put_frame-start-in-Search c = omega (arith, search-framed c)
+
+pub put_frame-n-requires-in-Search : goal.put_frame-n-requires-in-Search
+put_frame-n-requires-in-Search c =
+    let s = c.args.s.now in
+    rw (behind_tab s) (omega (arith, search-framed c, length-drop 2 s))
+
+pub slice_bounds-search_line-end-in-Search : goal.slice_bounds-search_line-end-in-Search
+slice_bounds-search_line-end-in-Search c =
+    let w = c.put_frame-n-in-Search in
+    omega (arith, w.ensures.1.0, length-take w.result w.new.1.0)
+
+pub returns-in-Bad : goal.returns-in-Bad
+unfolding rack_line_by rack_line_answer rack_frame
+returns-in-Bad c =
+    let a = c.args in
+    let r = c.read in
+    let w = c.bad_line in
+    let s = a.s.now in
+    let st = rack_state a.bench a.m.now a.reply.now in
+    settled st s a.text.now (rack_line_by Bad (drop 2 s)) (line_stored (rack_state w.result.bench a.m.now a.reply.now) w.result.length w.new.1.0) a.frame.now a.frame.now
+    (said s _ Bad r.ensures c.enum_told-1.given.1)
+    (w.ensures a.m.now a.reply.now)
+    refl
+
+pub returns-in-Signal : goal.returns-in-Signal
+unfolding rack_line_by rack_line_answer rack_frame
+returns-in-Signal c =
+    let a = c.args in
+    let r = c.read in
+    let w = c.call_line in
+    let s = a.s.now in
+    let st = rack_state a.bench a.m.now a.reply.now in
+    settled st s a.text.now (rack_line_by (Signal _ _) (drop 2 s)) (line_stored (rack_state w.result.bench w.new.1.0 w.new.1.1.0) w.result.length w.new.1.1.1.1.1.1.0) a.frame.now a.frame.now
+    (said s _ (Signal _ _) r.ensures c.code-1.given.1)
+    w.ensures
+    refl
+
+pub returns-in-Frame : goal.returns-in-Frame
+unfolding rack_line_by rack_line_answer rack_frame
+returns-in-Frame c =
+    let a = c.args in
+    let r = c.read in
+    let w = c.call_line-in-Frame in
+    let f = c.put_frame-n in
+    let s = a.s.now in
+    let st = rack_state a.bench a.m.now a.reply.now in
+    settled st s a.text.now (rack_line_by Frame (drop 2 s)) (line_stored (rack_state w.result.bench w.new.1.0 w.new.1.1.0) w.result.length w.new.1.1.1.1.1.1.0) a.frame.now f.new.1.0
+    (said s _ Frame r.ensures c.enum_told-in-Frame-1.given.1)
+    (w.ensures ∙ ap (λ (z : List ℕ). stores_line (call_answered 8 0 st z) a.text.now) (rw (behind_tab s) at f.ensures.0))
+    (rw (behind_tab s) at f.ensures.1.1)
+
+pub returns-in-Add : goal.returns-in-Add
+unfolding rack_line_by rack_line_answer rack_frame
+returns-in-Add c =
+    let a = c.args in
+    let r = c.read in
+    let w = c.add_line in
+    let s = a.s.now in
+    let st = rack_state a.bench a.m.now a.reply.now in
+    settled st s a.text.now (rack_line_by Add (drop 2 s)) (line_stored (rack_state w.result.bench w.new.1.0 a.reply.now) w.result.length w.new.1.1.1.1.0) a.frame.now a.frame.now
+    (said s _ Add r.ensures c.enum_told-in-Add-1.given.1)
+    (w.ensures ∙ ap (λ (z : List ℕ). stores_line (add_answered (uid_of z) st) a.text.now) (behind_tab s))
+    refl
+
+pub returns-in-Name : goal.returns-in-Name
+unfolding rack_line_by rack_line_answer rack_frame
+returns-in-Name c =
+    let a = c.args in
+    let r = c.read in
+    let w = c.name_line in
+    let s = a.s.now in
+    let st = rack_state a.bench a.m.now a.reply.now in
+    settled st s a.text.now (rack_line_by (Name _) (drop 2 s)) (line_stored (rack_state w.result.bench a.m.now a.reply.now) w.result.length w.new.1.1.1.0) a.frame.now a.frame.now
+    (said s _ (Name _) r.ensures c.to-1.given.1)
+    (w.ensures a.m.now)
+    refl
+
+pub returns-in-Search : goal.returns-in-Search
+unfolding rack_line_by rack_line_answer rack_frame
+returns-in-Search c =
+    let a = c.args in
+    let r = c.read in
+    let w = c.search_line in
+    let f = c.put_frame-n-in-Search in
+    let s = a.s.now in
+    let st = rack_state a.bench a.m.now a.reply.now in
+    settled st s a.text.now (rack_line_by Search (drop 2 s)) (line_stored (rack_state w.result.bench w.new.1.0 w.new.1.1.0) w.result.length w.new.1.1.1.1.0) a.frame.now f.new.1.0
+    (said s _ Search r.ensures c.enum_told-in-Search-1.given.1)
+    (w.ensures ∙ ap (λ (z : List ℕ). stores_line (search_answered st z) a.text.now) (rw (behind_tab s) at f.ensures.0))
+    (rw (behind_tab s) at f.ensures.1.1)

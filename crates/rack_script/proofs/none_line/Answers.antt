@@ -1,0 +1,16 @@
+use Rattle.rack_script.specs.Script.{none_text}
+use Rattle.rack_script.proofs.Stored.{numbered_stored}
+use Rattle.std.proofs.Common.{ℕ, List, rules}
+use Rattle.parts.specs.Pick.{pick}
+use Rattle.rack.specs.Step.{numbers_from}
+use Rattle.printing.specs.Text.{answer_text}
+use Rattle.rack_printing.specs.Text.{rack_text, said_text, numbers_text}
+use Rattle.rack_script.proofs.none_line.Goals as goal
+
+pub returns : goal.returns
+unfolding rack_text said_text answer_text numbers_text numbers_from pick
+returns c =
+    let p = c.put_rack_line-length in
+    let n = c.wrapping_add_u64-number in
+    let a = c.args in
+    λ (m : List ℕ). numbered_stored a.bench m a.reply.now none_text a.text.now p.new.0 n.result p.result n.ensures p.ensures.0 p.ensures.1

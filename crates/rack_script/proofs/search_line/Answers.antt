@@ -1,0 +1,19 @@
+use Rattle.std.proofs.Common.{arith, length-take, rules}
+use Rattle.rack_script.proofs.Stored.{search_stored}
+use Rattle.rack_script.proofs.search_line.Goals as goal
+
+pub slice_bounds-search-end-2 : goal.slice_bounds-search-end-2
+slice_bounds-search-end-2 c =
+    let l = c.memory_length-end in
+    
+    omega (arith, l.ensures.1, c.requires, length-take l.result c.args.m.now)
+
+pub returns : goal.returns
+returns c =
+    let p = c.put_search_line-length in
+    let n = c.wrapping_add_u64-number in
+    let t = c.search-o in
+    let l = c.memory_length-end in
+    let a = c.args in
+    search_stored a.bench a.m.now a.reply.now a.text.now t.result.tags t.new.1.1.0 t.new.1.1.1.0 p.new.0 l.result n.result p.result
+    l.ensures.0 t.ensures.1 n.ensures a.frame.now t.result.answer t.ensures.0 p.ensures.0 p.ensures.1

@@ -1,0 +1,7 @@
+use Rattle.rack_start.specs.Start.{rack_start}
+use borrow.Author.Rules.{rules}
+use Rattle.rack_start.proofs.start.Goals as goal
+
+pub returns : goal.returns
+unfolding rack_start
+returns c = rw c.fresh-none.ensures

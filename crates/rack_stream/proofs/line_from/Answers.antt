@@ -1,0 +1,14 @@
+use borrow.Author.Rules.{rules}
+use mathlib.Core.Path.{ap, ◌∙◌}
+use native.Mathlib.Nat.{sub-zero}
+use Prim.Native.Nat.{ℕ}
+use lib.ListN.{take}
+use Rattle.parts.specs.Pick.{pick}
+use Rattle.parts.proofs.Picks.{picks}
+use Rattle.rack_stream.proofs.line_from.Goals as goal
+
+pub returns-then-n-eq0 : goal.returns-then-n-eq0
+returns-then-n-eq0 c = search picks depth 20
+
+pub returns : goal.returns
+returns c = rw (sub-zero c.args.n) (search picks depth 20)

@@ -35,7 +35,7 @@ fn error_of(f: &[u8], u: Uid, error: RadioError) -> Verdict
 }
 
 // The verdict while shut out.
-pub fn shut_out_lem(f: &[u8], a: Air, u: Uid, dynamic: RfMngt) -> Verdict
+pub fn shut_out(f: &[u8], a: Air, u: Uid, dynamic: RfMngt) -> Verdict
     ensures { result ≡ shut_out f.now a u dynamic }
 {
     if silence::is_silent(f, a, u, dynamic) {

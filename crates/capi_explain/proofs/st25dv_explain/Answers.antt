@@ -1,0 +1,19 @@
+use mathlib.Core.Path.{sym, ap, ◌∙◌}
+use Rattle.refusals.specs.Refusals.{unless_refused}
+use Rattle.capi_explain.specs.Explain.{explain_call}
+use borrow.Author.Rules.{rules}
+use Rattle.capi_explain.proofs.st25dv_explain.Goals as goal
+
+pub returns-in-RefusedBy : goal.returns-in-RefusedBy
+unfolding explain_call unless_refused
+returns-in-RefusedBy c =
+    
+    rw (c.number.ensures, sym c.step_refusal-judged.ensures ∙ c.judged-1.given.1)
+
+pub returns-in-NoRefusal : goal.returns-in-NoRefusal
+unfolding explain_call unless_refused
+returns-in-NoRefusal c =
+    
+    
+    
+    rw (sym c.step_refusal-judged.ensures ∙ c.enum_told-1.given.1, ← c.decode.ensures) c.explain.ensures

@@ -1,0 +1,37 @@
+use mathlib.Core.Path.{◌≡◌, sym, ap, ◌∙◌}
+use mathlib.Core.List.{List}
+use native.Mathlib.Omega.{arith}
+use lib.ListN.{length, take, length-map}
+use Rattle.parts.proofs.Below.{are_below}
+use Rattle.tag.specs.declared.Tag.{Tag}
+use Rattle.tag.specs.contracts.Tag as tag-type
+use Rattle.rack.specs.Rack.{rack_of}
+use Rattle.rack_search.specs.Search.{search_entry}
+use Rattle.capi_rack.proofs.Calls.{refused_search, searched}
+use borrow.Author.Rules.{rules}
+use Rattle.capi_rack.proofs.st25dv_rack_search.Goals as goal
+
+sixteen : (c : tie.After-search) → length c.search.result.tags ≡ 16
+sixteen c = sym (length-map c.search.result.tags (tag-type.the_type).to) ∙ c.search.type-inv.1.1.1.0.1.0.1
+
+pub returns-in-RefusedBy : goal.returns-in-RefusedBy
+returns-in-RefusedBy c =
+    let a = c.args in
+    refused_search a.number a.s.now a.m.now a.out.now a.frame.now _ c.number.result (sym c.rack_bytes_refusal-judged.ensures ∙ c.judged-1.given.1) c.number.ensures
+
+pub returns-in-NoRefusal : goal.returns-in-NoRefusal
+returns-in-NoRefusal c =
+    
+    
+    
+    
+    
+    
+    let a = c.args in
+    let o = c.search-o in
+    searched a.number a.s.now a.m.now a.out.now a.frame.now o.result.answer o.result.tags o.new.1.1.0 o.new.1.1.1.0 c.encode_tags.new.s
+    c.search_number.result
+    (are_below _ (λ i. let p = c.slice_known-1.given i in omega (arith, p)))
+    (sym c.rack_bytes_refusal-judged.ensures ∙ c.enum_told-1.given.1)
+    (o.ensures.0 ∙ ap (λ (tags : List Tag). search_entry (rack_of (take a.number tags) a.m.now) a.out.now a.frame.now) c.decode_tags-tags.ensures)
+    (sixteen c) c.encode_tags.ensures c.search_number.ensures

@@ -1,0 +1,40 @@
+use mathlib.Core.Path.{◌≡◌, sym, ap, ◌∙◌}
+use mathlib.Core.List.{List}
+use native.Mathlib.Omega.{arith}
+use lib.ListN.{length, take, length-map}
+use Rattle.tag.specs.contracts.Tag as tag-type
+use Rattle.parts.proofs.Below.{are_below}
+use Rattle.tag.specs.declared.Tag.{Tag}
+use Rattle.refusals.specs.Call.{handed_in}
+use Rattle.rack.specs.Rack.{rack_of, rack_call}
+use Rattle.rack.specs.Step.{rack_entry}
+use Rattle.capi_rack.proofs.Calls.{refused_step, stepped}
+use borrow.Author.Rules.{rules}
+use Rattle.capi_rack.proofs.st25dv_rack_step.Goals as goal
+
+sixteen : (c : tie.After-step) → length c.step.result.tags ≡ 16
+sixteen c = sym (length-map c.step.result.tags (tag-type.the_type).to) ∙ c.step.type-inv.1.1.1.1.0.1.0.1
+
+pub returns-in-RefusedBy : goal.returns-in-RefusedBy
+returns-in-RefusedBy c =
+    let a = c.args in
+    let call = rack_call (handed_in a.out.now a.code a.value a.frame.now) a.to in
+    refused_step a.number a.s.now a.m.now call _ c.number.result (sym c.rack_bytes_refusal-judged.ensures ∙ c.judged-1.given.1) c.number.ensures
+
+pub returns-in-NoRefusal : goal.returns-in-NoRefusal
+returns-in-NoRefusal c =
+    
+    
+    
+    
+    
+    
+    let a = c.args in
+    let o = c.step-o in
+    let call = rack_call (handed_in a.out.now a.code a.value a.frame.now) a.to in
+    stepped a.number a.s.now a.m.now call o.result.answer o.result.answered o.result.tags o.new.1.1.0 o.new.1.1.1.0 c.encode_tags.new.s
+    c.answer_number.result c.mask.result
+    (are_below _ (λ i. let p = c.slice_known-1.given i in omega (arith, p)))
+    (sym c.rack_bytes_refusal-judged.ensures ∙ c.enum_told-1.given.1)
+    (o.ensures.0 ∙ ap (λ (tags : List Tag). rack_entry (rack_of (take a.number tags) a.m.now) call) c.decode_tags-tags.ensures)
+    (sixteen c) c.encode_tags.ensures c.answer_number.ensures c.mask.ensures

@@ -1,0 +1,17 @@
+use mathlib.Core.Path.{◌≡◌, refl, ap}
+use mathlib.Core.Bool.{◌&&◌}
+use Prim.Native.Nat.{ℕ, ◌+◌, ◌*◌, ◌-◌, ◌≤◌}
+use native.Mathlib.Omega.{arith}
+use native.Mathlib.Nat.{sub-zero}
+use lib.ListN.{drop}
+use Rattle.state.specs.Layout.{state_bytes}
+use Rattle.rack_states.specs.States.{all_decode}
+use Rattle.library_rack_refusals.proofs.Loops.{decodes_more, all_done}
+use borrow.Author.Rules.{rules}
+use Rattle.library_rack_refusals.proofs.all_decode.Given as goal
+
+abbrev pub invariant-loop-i : goal.invariant-loop-i
+invariant-loop-i l = ((l.all && all_decode (l.n - l.i) (drop l.at l.s)) ≡ all_decode l.n l.s) × (l.at ≡ l.i * state_bytes) × (l.i ≤ l.n)
+
+abbrev pub decreases-loop-i : goal.decreases-loop-i
+decreases-loop-i l = l.n - l.i

@@ -1,0 +1,31 @@
+use Rattle.model.specs.Step.{is_refused}
+use borrow.Author.Rules.{rules}
+use Rattle.next_state.proofs.is_refused.Goals as goal
+
+pub returns-in-Refused : goal.returns-in-Refused
+unfolding is_refused
+returns-in-Refused c = rw c.answer-1.given.1
+
+pub returns-in-Nothing : goal.returns-in-Nothing
+unfolding is_refused
+returns-in-Nothing c = rw c.enum_told-1.given.1
+
+pub returns-in-Ack : goal.returns-in-Ack
+unfolding is_refused
+returns-in-Ack c = rw c.enum_told-in-Ack-1.given.1
+
+pub returns-in-NoAck : goal.returns-in-NoAck
+unfolding is_refused
+returns-in-NoAck c = rw c.enum_told-in-NoAck-1.given.1
+
+pub returns-in-Byte : goal.returns-in-Byte
+unfolding is_refused
+returns-in-Byte c = rw c.answer-in-Byte-1.given.1
+
+pub returns-in-Silence : goal.returns-in-Silence
+unfolding is_refused
+returns-in-Silence c = rw c.enum_told-in-Silence-1.given.1
+
+pub returns-in-Reply : goal.returns-in-Reply
+unfolding is_refused
+returns-in-Reply c = rw c.answer-in-Reply-1.given.1

@@ -1,0 +1,44 @@
+use mathlib.Core.Path.{◌≡◌, ap}
+use Prim.Native.Nat.{◌+◌, ◌-◌}
+use native.Mathlib.Omega.{arith}
+use Rattle.parts.proofs.Picks.{pick_true, pick_false}
+use Rattle.model.specs.Step.{StepResult}
+use Rattle.rack_hear.specs.Hear.{acted_at, act_at}
+use borrow.Author.Rules.{rules}
+use Rattle.rack_hear.proofs.act_at.Reads as reads
+use Rattle.rack_hear.proofs.act_at.Lts as lts
+use Rattle.model.proofs.act.Reads as act-reads
+use Rattle.rack_hear.proofs.noted.Reads as noted-reads
+use Rattle.signal_table.proofs.signal_by.Reads as signal-by-reads
+use Rattle.rack_hear.proofs.act_at.Goals as goal
+
+-- src/lib.rt:154:9
+pub returns-then-heard : goal.returns-then-heard
+unfolding act_at
+returns-then-heard c =
+    
+    
+    
+    
+    let a = c.args.heard in
+    let i = c.args.i in
+    let m = c.args.memory.now in
+    let o = c.args.out.now in
+    let n : a.at + 1024 - a.at ≡ 1024 = omega arith in
+    pick_true _ _ _ a.replied c.if-heard.taken
+    (rw (c.noted-next.ensures, n) (ap (acted_at a i m o) (rw (n, c.signal_by-signal.ensures) at c.act-o.ensures)))
+
+-- src/lib.rt:134:1
+pub returns : goal.returns
+unfolding act_at
+returns c =
+    
+    
+    
+    
+    let a = c.args.heard in
+    let i = c.args.i in
+    let m = c.args.memory.now in
+    let n : a.at + 1024 - a.at ≡ 1024 = omega arith in
+    pick_false _ _ _ a.replied c.if-heard.left
+    (rw (c.noted-next-2.ensures, n) (ap (λ (e : StepResult). acted_at a i m e.reply e) (rw (n, c.signal_by-signal.ensures) at c.act-o-2.ensures)))

@@ -1,0 +1,12 @@
+use Rattle.refusals.specs.Refusals.{unless_refused}
+use Rattle.rack_hear.specs.Hear.{hearing_of}
+use borrow.Author.Rules.{rules}
+use Rattle.rack_hear.proofs.hearing.Goals as goal
+
+pub returns-in-RefusedBy : goal.returns-in-RefusedBy
+unfolding hearing_of unless_refused
+returns-in-RefusedBy c = rw (c.hear_refused.ensures, c.judged-1.given.1)
+
+pub returns-in-NoRefusal : goal.returns-in-NoRefusal
+unfolding hearing_of unless_refused
+returns-in-NoRefusal c = rw (c.hear_start.ensures, c.enum_told-1.given.1)

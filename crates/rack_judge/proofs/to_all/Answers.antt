@@ -1,0 +1,10 @@
+use mathlib.Core.Path.{refl}
+use Rattle.rack.specs.Rack.{to_all}
+use Rattle.rack_judge.proofs.to_all.Reads as reads
+use Rattle.rack_judge.proofs.to_all.Lts as lts
+use Rattle.rack_judge.proofs.to_all.Goals as goal
+
+-- src/lib.rt:106:1
+pub returns : goal.returns
+unfolding to_all
+returns c = refl

@@ -1,0 +1,11 @@
+use Rattle.state.proofs.There.{bytes_length}
+use Rattle.state_encode.proofs.Stored.{tag_stored}
+use borrow.Author.Rules.{rules}
+use Rattle.state_encode.proofs.encode.Goals as goal
+
+pub returns : goal.returns
+returns c =
+    let a = c.args in
+    let keys = c.put_passwords.ensures in
+    let uid = c.put_eight.ensures in
+    record { s_after = tag_stored a.t a.s.now _ _ _ _ _ _ keys.1 c.put_air.ensures c.put_host.ensures c.put_registers.ensures c.put_mailbox.ensures keys.0 uid.0; t_len = bytes_length a.t keys.1 uid.1 }

@@ -1,0 +1,15 @@
+use Rattle.state.proofs.Passwords.{Eights, passwords_length}
+use Rattle.state_encode.proofs.Stored.{passwords_stored}
+use borrow.Author.Rules.{rules}
+use Rattle.state_encode.proofs.put_passwords.Goals as goal
+
+pub returns : goal.returns
+returns c =
+    let a = c.args in
+    let i2c = c.put_eight.ensures in
+    let rf0 = c.put_eight-2.ensures in
+    let rf1 = c.put_eight-3.ensures in
+    let rf2 = c.put_eight-4.ensures in
+    let rf3 = c.put_eight-5.ensures in
+    let e : Eights a.p = record { i2c = i2c.1; rf0 = rf0.1; rf1 = rf1.1; rf2 = rf2.1; rf3 = rf3.1 } in
+    record { s_after = passwords_stored a.p a.s.now a.at _ _ _ _ _ e i2c.0 rf0.0 rf1.0 rf2.0 rf3.0; p_len = passwords_length a.p e }

@@ -4,12 +4,12 @@ use Rattle.air.proofs.is_quiet.Goals as goal
 
 pub returns-in-Ready : goal.returns-in-Ready
 unfolding is_quiet
-returns-in-Ready c = rw c.enum_told-1.given.1
+returns-in-Ready c = rw c.in-Ready.is
 
 pub returns-in-Quiet : goal.returns-in-Quiet
 unfolding is_quiet
-returns-in-Quiet c = rw c.enum_told-in-Quiet-1.given.1
+returns-in-Quiet c = rw c.in-Quiet.is
 
 pub returns-in-Selected : goal.returns-in-Selected
 unfolding is_quiet
-returns-in-Selected c = rw c.enum_told-in-Selected-1.given.1
+returns-in-Selected c = rw c.in-Selected.is

@@ -11,7 +11,7 @@ returns-then-option c =
     
     
     
-    let h = c.if-option.taken in
+    let h = c.if-option.true in
     let a = c.args in
     record { value = sym (length_with a.c.registers a.session a.m.now a.option a.block h); part_after = c.put_bytes.ensures
           ∙ rw (c.put.ensures, c.status_of-status.ensures)
@@ -22,7 +22,7 @@ returns c =
     
     
     
-    let h = c.if-option.left in
+    let h = c.if-option.false in
     let a = c.args in
     record { value = sym (length_plain a.c.registers a.session a.m.now a.option a.block h); part_after = c.put_bytes-2.ensures
           ∙ ap (sets a.part.now 0) (sym (block_plain a.c.registers a.session a.m.now a.option a.block h)) }

@@ -35,4 +35,4 @@ returns c =
     (ap (λ (k : ℕ). 1 + k) (sym (length_statuses a.v.core.registers a.v.air.session a.first n)))
     (c.put_statuses.ensures ∙ ap (λ (o : List ℕ). sets o 1 statuses) c.put.ensures)
     c.close-answer.ensures)
-    (rw c.lesser-n.ensures.0 (search picks depth 20))
+    (rw c.lesser-n.ensures.value (search picks depth 20))

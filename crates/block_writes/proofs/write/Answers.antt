@@ -47,7 +47,7 @@ returns-then-not-all_allowed c =
     
     let a = c.args in
     
-    let within = inside _ _ _ (sym c.leaves_area.ensures ∙ c.if-leaves_area.left) in
+    let within = inside _ _ _ (sym c.leaves_area.ensures ∙ c.if-leaves_area.false) in
     let may = writes_by_verdict a.v.core a.v.air.session a.first (a.more + 1) (omega (arith, within)) ∙ sym c.all_allowed.ensures in
     said (write_of a.v a.m.now a.first a.more a.frame.now a.at) _ (fault WriteForbidden) c.error-answer-then-not-all_allowed.ensures
     (rw (← c.leaves_area.ensures, may) (search picks depth 20))
@@ -62,7 +62,7 @@ returns c =
     
     let a = c.args in
     
-    let within = inside _ _ _ (sym c.leaves_area.ensures ∙ c.if-leaves_area.left) in
+    let within = inside _ _ _ (sym c.leaves_area.ensures ∙ c.if-leaves_area.false) in
     let may = writes_by_verdict a.v.core a.v.air.session a.first (a.more + 1) (omega (arith, within)) ∙ sym c.all_allowed.ensures in
     said (write_of a.v a.m.now a.first a.more a.frame.now a.at) _ (good []) c.done-answer.ensures
     (rw (c.put_bytes.ensures, ← c.leaves_area.ensures, may) (search picks depth 20))

@@ -23,7 +23,7 @@ overflow_add-at c =
     
     let l = c.loop-k in
     let a = c.args in
-    let h : c.put_block_at-at.result ≤ 5 = subst (λ (n : ℕ). n ≤ 5) (sym c.put_block_at-at.ensures.0) (block_le _ _ _ _ _) in
+    let h : c.put_block_at-at.result ≤ 5 = subst (λ (n : ℕ). n ≤ 5) (sym c.put_block_at-at.ensures.value) (block_le _ _ _ _ _) in
     omega (arith, h, l.invariant.1.0, blocks_le a.c.registers a.session a.m.now a.option a.first l.k)
 
 pub loop-k-preserved : goal.loop-k-preserved
@@ -40,11 +40,11 @@ loop-k-preserved c =
         omega (
           arith,
           l.invariant.1.0,
-          c.put_block_at-at.ensures.0,
+          c.put_block_at-at.ensures.value,
           blocks_length a.c.registers a.session a.m.now a.option a.first l.k,
         ),
         (
-          c.put_block_at-at.ensures.1
+          c.put_block_at-at.ensures.out_after
               ∙ ap (λ (o : List ℕ). sets o l.at next) l.invariant.1.1.0
               ∙ ap (λ (n : ℕ). sets (sets a.out.now 1 done) n next) l.invariant.1.0
               ∙ sym (sets_append done next a.out.now 1)

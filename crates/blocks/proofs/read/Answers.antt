@@ -52,7 +52,7 @@ returns c =
     let blocks = blocks_of a.v.core.registers a.v.air.session a.m.now a.option a.first (a.more + 1) in
     said (read_of a.v a.m.now a.option a.first a.more) _ (good blocks)
     (good_run blocks a.out.now c.put_blocks-n.new.out c.put_blocks-n.result
-    c.put_blocks-n.ensures.0
-    (c.put_blocks-n.ensures.1 ∙ ap (λ (o : List ℕ). sets o 1 blocks) c.put.ensures)
+    c.put_blocks-n.ensures.value
+    (c.put_blocks-n.ensures.out_after ∙ ap (λ (o : List ℕ). sets o 1 blocks) c.put.ensures)
     c.close-answer.ensures)
     (rw (← c.leaves_area-leaving.ensures, ← c.may_read_lem.ensures) (search picks depth 20))

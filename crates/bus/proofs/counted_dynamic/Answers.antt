@@ -4,8 +4,8 @@ use Rattle.bus.proofs.counted_dynamic.Goals as goal
 
 pub returns-in-Closed : goal.returns-in-Closed
 unfolding counted_dynamic
-returns-in-Closed c = rw c.enum_told-1.given.1
+returns-in-Closed c = rw c.in-Closed.is
 
 pub returns-in-Open : goal.returns-in-Open
 unfolding counted_dynamic
-returns-in-Open c = rw c.transfer-1.given.1
+returns-in-Open c = rw c.in-Open.is

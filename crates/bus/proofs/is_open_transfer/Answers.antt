@@ -4,8 +4,8 @@ use Rattle.bus.proofs.is_open_transfer.Goals as goal
 
 pub returns-in-Closed : goal.returns-in-Closed
 unfolding is_open_transfer
-returns-in-Closed c = rw c.enum_told-1.given.1
+returns-in-Closed c = rw c.in-Closed.is
 
 pub returns-in-Open : goal.returns-in-Open
 unfolding is_open_transfer
-returns-in-Open c = rw c.transfer-1.given.1
+returns-in-Open c = rw c.in-Open.is

@@ -12,7 +12,7 @@ pub returns-in-RefusedBy : goal.returns-in-RefusedBy
 unfolding fresh_call unless_refused
 returns-in-RefusedBy c =
     
-    rw (c.number.ensures, sym c.fresh_call_refusal-judged.ensures ∙ c.judged-1.given.1)
+    rw (c.number.ensures, sym c.fresh_call_refusal-judged.ensures ∙ c.in-RefusedBy.is)
 
 pub returns-in-NoRefusal : goal.returns-in-NoRefusal
 returns-in-NoRefusal c =
@@ -24,5 +24,5 @@ returns-in-NoRefusal c =
     let a = c.args in
     let o = c.fresh-o in
     freshened a.uid.now a.m.now a.s.now (fresh_result o.result.answer o.result.tag o.last.1.0) c.answer_number.result c.keep.new.s
-    (sym c.fresh_call_refusal-judged.ensures ∙ c.enum_told-1.given.1)
+    (sym c.fresh_call_refusal-judged.ensures ∙ c.in-NoRefusal.is)
     (o.ensures ∙ rw c.at.ensures) (number_fits _ _ (ap (λ (e : FreshResult). reply_fits e.answer) o.ensures ∙ fresh_reply_fits _ _) c.answer_number.ensures) c.keep.ensures

@@ -13,12 +13,12 @@ pub returns-in-RefusedBy : goal.returns-in-RefusedBy
 unfolding step_call unless_refused
 returns-in-RefusedBy c =
     
-    rw (c.number.ensures, sym c.step_refusal-judged.ensures ∙ c.judged-1.given.1)
+    rw (c.number.ensures, sym c.step_refusal-judged.ensures ∙ c.in-RefusedBy.is)
 
 pub returns-in-NoRefusal : goal.returns-in-NoRefusal
 returns-in-NoRefusal c =
     let a = c.args in
     let o = c.step-o in
     stepped a.s.now a.m.now (handed_in a.out.now a.code a.value a.frame.now) (step_result_of o.result o.new.1.0 o.new.1.1.0) c.answer_number.result c.keep.new.s
-    (sym c.step_refusal-judged.ensures ∙ c.enum_told-1.given.1)
+    (sym c.step_refusal-judged.ensures ∙ c.in-NoRefusal.is)
     (o.ensures ∙ rw c.decode-t.ensures) (number_fits _ _ (ap (λ (e : StepResult). reply_fits e.answer) o.ensures ∙ steps_fit _ _ _) c.answer_number.ensures) c.keep.ensures

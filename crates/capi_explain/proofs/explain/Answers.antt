@@ -8,7 +8,7 @@ pub returns-in-RefusedBy : goal.returns-in-RefusedBy
 unfolding explain_of unless_refused
 returns-in-RefusedBy c =
     
-    rw (c.number.ensures, sym c.entry_refusal-judged.ensures ∙ c.judged-1.given.1)
+    rw (c.number.ensures, sym c.entry_refusal-judged.ensures ∙ c.in-RefusedBy.is)
 
 pub returns-in-NoRefusal : goal.returns-in-NoRefusal
 unfolding explain_of unless_refused
@@ -16,4 +16,4 @@ returns-in-NoRefusal c =
     
     
     
-    rw (c.rule_of.ensures, sym c.entry_refusal-judged.ensures ∙ c.enum_told-1.given.1)
+    rw (c.rule_of.ensures, sym c.entry_refusal-judged.ensures ∙ c.in-NoRefusal.is)

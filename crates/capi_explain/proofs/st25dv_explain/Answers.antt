@@ -8,7 +8,7 @@ pub returns-in-RefusedBy : goal.returns-in-RefusedBy
 unfolding explain_call unless_refused
 returns-in-RefusedBy c =
     
-    rw (c.number.ensures, sym c.step_refusal-judged.ensures ∙ c.judged-1.given.1)
+    rw (c.number.ensures, sym c.step_refusal-judged.ensures ∙ c.in-RefusedBy.is)
 
 pub returns-in-NoRefusal : goal.returns-in-NoRefusal
 unfolding explain_call unless_refused
@@ -16,4 +16,4 @@ returns-in-NoRefusal c =
     
     
     
-    rw (sym c.step_refusal-judged.ensures ∙ c.enum_told-1.given.1, ← c.decode.ensures) c.explain.ensures
+    rw (sym c.step_refusal-judged.ensures ∙ c.in-NoRefusal.is, ← c.decode.ensures) c.explain.ensures

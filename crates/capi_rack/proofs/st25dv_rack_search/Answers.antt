@@ -17,7 +17,7 @@ sixteen c = sym (length-map c.search.result.tags (tag-type.the_type).to) ∙ c.s
 pub returns-in-RefusedBy : goal.returns-in-RefusedBy
 returns-in-RefusedBy c =
     let a = c.args in
-    refused_search a.number a.s.now a.m.now a.out.now a.frame.now _ c.number.result (sym c.rack_bytes_refusal-judged.ensures ∙ c.judged-1.given.1) c.number.ensures
+    refused_search a.number a.s.now a.m.now a.out.now a.frame.now _ c.number.result (sym c.rack_bytes_refusal-judged.ensures ∙ c.in-RefusedBy.is) c.number.ensures
 
 pub returns-in-NoRefusal : goal.returns-in-NoRefusal
 returns-in-NoRefusal c =
@@ -32,6 +32,6 @@ returns-in-NoRefusal c =
     searched a.number a.s.now a.m.now a.out.now a.frame.now o.result.answer o.result.tags o.new.1.1.0 o.new.1.1.1.0 c.encode_tags.new.s
     c.search_number.result
     (are_below _ (λ i. let p = c.slice_known-1.given i in omega (arith, p)))
-    (sym c.rack_bytes_refusal-judged.ensures ∙ c.enum_told-1.given.1)
-    (o.ensures.0 ∙ ap (λ (tags : List Tag). search_entry (rack_of (take a.number tags) a.m.now) a.out.now a.frame.now) c.decode_tags-tags.ensures)
+    (sym c.rack_bytes_refusal-judged.ensures ∙ c.in-NoRefusal.is)
+    (o.ensures.out_after ∙ ap (λ (tags : List Tag). search_entry (rack_of (take a.number tags) a.m.now) a.out.now a.frame.now) c.decode_tags-tags.ensures)
     (sixteen c) c.encode_tags.ensures c.search_number.ensures

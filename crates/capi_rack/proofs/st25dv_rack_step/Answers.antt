@@ -19,7 +19,7 @@ pub returns-in-RefusedBy : goal.returns-in-RefusedBy
 returns-in-RefusedBy c =
     let a = c.args in
     let call = rack_call (handed_in a.out.now a.code a.value a.frame.now) a.to in
-    refused_step a.number a.s.now a.m.now call _ c.number.result (sym c.rack_bytes_refusal-judged.ensures ∙ c.judged-1.given.1) c.number.ensures
+    refused_step a.number a.s.now a.m.now call _ c.number.result (sym c.rack_bytes_refusal-judged.ensures ∙ c.in-RefusedBy.is) c.number.ensures
 
 pub returns-in-NoRefusal : goal.returns-in-NoRefusal
 returns-in-NoRefusal c =
@@ -35,6 +35,6 @@ returns-in-NoRefusal c =
     stepped a.number a.s.now a.m.now call o.result.answer o.result.answered o.result.tags o.new.1.1.0 o.new.1.1.1.0 c.encode_tags.new.s
     c.answer_number.result c.mask.result
     (are_below _ (λ i. let p = c.slice_known-1.given i in omega (arith, p)))
-    (sym c.rack_bytes_refusal-judged.ensures ∙ c.enum_told-1.given.1)
-    (o.ensures.0 ∙ ap (λ (tags : List Tag). rack_entry (rack_of (take a.number tags) a.m.now) call) c.decode_tags-tags.ensures)
+    (sym c.rack_bytes_refusal-judged.ensures ∙ c.in-NoRefusal.is)
+    (o.ensures.memory_after ∙ ap (λ (tags : List Tag). rack_entry (rack_of (take a.number tags) a.m.now) call) c.decode_tags-tags.ensures)
     (sixteen c) c.encode_tags.ensures c.answer_number.ensures c.mask.ensures

@@ -69,7 +69,7 @@ loop-i-preserved c =
     let bs = c.open_slot-opened.result.heard.answered in
     let within : l.i < 16 = omega arith in
     let next : Counted bs c.if-answered-i.seen (suc l.i) = ⊎_elim
-    (λ p. subst (λ (b : Bool). Counted bs b (suc l.i)) (sym p.2) (on_first bs l.seen l.i (noted c) l.invariant.1 within p.0.taken p.1.left))
+    (λ p. subst (λ (b : Bool). Counted bs b (suc l.i)) (sym p.2) (on_first bs l.seen l.i (noted c) l.invariant.1 within p.0.true p.1.left))
     (λ p. subst (λ (b : Bool). Counted bs b (suc l.i)) (sym p.1) (on_silence bs l.seen l.i (noted c) l.invariant.1 within p.0.left))
     c.if-answered-i.branch in
     (l.invariant.0, subst (Counted bs c.if-answered-i.seen) (sym (add-one l.i)) next)

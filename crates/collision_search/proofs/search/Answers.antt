@@ -38,7 +38,7 @@ look_into-requires c =
       omega (arith, e),
       ap (λ (ts : List Tag). judgement (search_rules (rack_of ts a.memory.now) a.out.now)) (take_count a.number c.tag_count-n.result e a.tags (sixteen c))
           ∙ refusal c
-          ∙ c.enum_told-1.given.1,
+          ∙ c.in-NoRefusal.is,
     )
 
 pub returns-in-RefusedBy : goal.returns-in-RefusedBy
@@ -63,7 +63,7 @@ returns-in-NoRefusal c =
     let o = c.look_into.new.out in
     let call = sends_frame a.out.now a.frame.now in
     record { out_after = ap (λ (ts : List Tag). search_result r.answer (rack_of ts m) o) (sym (take_count a.number n e r.tags (left-sixteen c)))
-          ∙ c.look_into.ensures.0
+          ∙ c.look_into.ensures.out_after
           ∙ ap (λ (k : ℕ). look rack_entry k 0 (rack_of (take n a.tags) a.memory.now) call) c.slot_count.ensures
           ∙ ap (λ (ts : List Tag). look rack_entry (slot_count a.frame.now) 0 (rack_of ts a.memory.now) call) (take_count a.number n e a.tags (sixteen c))
-          ∙ sym (search_looks (rack_of (take a.number a.tags) a.memory.now) a.out.now a.frame.now (refusal c ∙ c.enum_told-1.given.1)); tags_value = sym (drop_count a.number n e r.tags (left-sixteen c)) ∙ c.look_into.ensures.1 ∙ drop_count a.number n e a.tags (sixteen c) }
+          ∙ sym (search_looks (rack_of (take a.number a.tags) a.memory.now) a.out.now a.frame.now (refusal c ∙ c.in-NoRefusal.is)); tags_value = sym (drop_count a.number n e r.tags (left-sixteen c)) ∙ c.look_into.ensures.tags_value ∙ drop_count a.number n e a.tags (sixteen c) }

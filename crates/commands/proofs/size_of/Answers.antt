@@ -5,14 +5,14 @@ use Rattle.commands.proofs.size_of.Goals as goal
 pub returns-in-Bytes : goal.returns-in-Bytes
 unfolding size_of
 returns-in-Bytes c =
-    record { value = rw c.size-1.given.1; upper_bound = search rules }
+    record { value = rw c.in-Bytes.is; upper_bound = search rules }
 
 pub returns-in-BlockData : goal.returns-in-BlockData
 unfolding size_of
 returns-in-BlockData c =
-    record { value = rw c.enum_told-1.given.1; upper_bound = search rules }
+    record { value = rw c.in-BlockData.is; upper_bound = search rules }
 
 pub returns-in-MessageData : goal.returns-in-MessageData
 unfolding size_of
 returns-in-MessageData c =
-    record { value = rw c.enum_told-in-MessageData-1.given.1; upper_bound = search rules }
+    record { value = rw c.in-MessageData.is; upper_bound = search rules }

@@ -6,11 +6,11 @@ use Rattle.config.proofs.config_error.Goals as goal
 
 pub returns-in-OutsideMap : goal.returns-in-OutsideMap
 unfolding config_error pick
-returns-in-OutsideMap c = rw c.enum_told-1.given.1
+returns-in-OutsideMap c = rw c.in-OutsideMap.is
 
 pub returns-in-EndaRule : goal.returns-in-EndaRule
 unfolding config_error pick
-returns-in-EndaRule c = rw c.enum_told-in-EndaRule-1.given.1
+returns-in-EndaRule c = rw c.in-EndaRule.is
 
 pub returns-in_default : goal.returns-in_default
-returns-in_default c = closed _ c.in_default.keys3
+returns-in_default c = closed _ c.in_default.in_default-own.keys3

@@ -5,18 +5,18 @@ use Rattle.config.proofs.mailbox_after.Goals as goal
 
 pub returns-then-x-eq1 : goal.returns-then-x-eq1
 unfolding mailbox_after_write
-returns-then-x-eq1 c = rw (← c.row_of-row.ensures, c.enum_told-in-MailboxMode-1.given.1) (search picks depth 20)
+returns-then-x-eq1 c = rw (← c.row_of-row.ensures, c.in-MailboxMode.is) (search picks depth 20)
 
 pub returns-in-Plain : goal.returns-in-Plain
 unfolding mailbox_after_write
-returns-in-Plain c = rw (← c.row_of-row.ensures, c.enum_told-1.given.1)
+returns-in-Plain c = rw (← c.row_of-row.ensures, c.in-Plain.is)
 
 pub returns-in-AreaEnd : goal.returns-in-AreaEnd
 unfolding mailbox_after_write
-returns-in-AreaEnd c = rw (← c.row_of-row.ensures, c.enum_told-in-AreaEnd-1.given.1)
+returns-in-AreaEnd c = rw (← c.row_of-row.ensures, c.in-AreaEnd.is)
 
 pub returns-else-x-eq1 : goal.returns-else-x-eq1
 unfolding mailbox_after_write
 returns-else-x-eq1 c =
     
-    rw (c.disable.ensures, ← c.row_of-row.ensures, c.enum_told-in-MailboxMode-1.given.1) (search picks depth 20)
+    rw (c.disable.ensures, ← c.row_of-row.ensures, c.in-MailboxMode.is) (search picks depth 20)

@@ -18,7 +18,7 @@ returns-in-Allowed c =
     
     
     said (write_config_of a.v a.m.now a.pointer a.x) _ (good []) c.done.ensures
-    (rw (by, ← c.verdict-verdict.ensures, c.enum_told-1.given.1, c.written_core-core.ensures))
+    (rw (by, ← c.verdict-verdict.ensures, c.in-Allowed.is, c.written_core-core.ensures))
 
 pub returns-in-Forbidden : goal.returns-in-Forbidden
 unfolding config_by
@@ -31,4 +31,4 @@ returns-in-Forbidden c =
     
     
     said (write_config_of a.v a.m.now a.pointer a.x) _ (fault c.config_error.result) c.error.ensures
-    (rw (by, ← c.verdict-verdict.ensures, c.verdict-1.given.1, c.config_error.ensures))
+    (rw (by, ← c.verdict-verdict.ensures, c.in-Forbidden.is, c.config_error.ensures))

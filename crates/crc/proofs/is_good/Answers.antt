@@ -20,4 +20,4 @@ returns c =
     let s = c.args.s.now in
     let k = length s - 2 in
     let e : c.crc-c.result ≡ crc_of (take k s) = c.crc-c.ensures ∙ ap (λ (n : ℕ). crc_of (take n s)) (sub-zero k) in
-    rw (e, le-leb _ _ c.if-s-lt2.left)
+    rw (e, le-leb _ _ c.if-s-lt2.false)

@@ -14,7 +14,7 @@ loop-i-init c = (omega arith, refl)
 pub feed-c-requires : goal.feed-c-requires
 feed-c-requires c =
     
-    c.pre
+    c.requires
 
 pub loop-i-preserved : goal.loop-i-preserved
 loop-i-preserved c =

@@ -13,7 +13,7 @@ overflow_add-count c =
     
     
     let a = c.args in
-    let j = judged a.kept a.space a.k a.spoiled a.w a.m.now a.x _ _ _ c.asked_of.ensures c.verdict-verdict.ensures c.is_allowed.ensures ∙ c.if-is_allowed.taken in
+    let j = judged a.kept a.space a.k a.spoiled a.w a.m.now a.x _ _ _ c.asked_of.ensures c.verdict-verdict.ensures c.is_allowed.ensures ∙ c.if-is_allowed.true in
     omega (arith, room a.kept a.space a.k a.spoiled a.w a.m.now a.x j)
 
 pub returns-then-is_allowed : goal.returns-then-is_allowed
@@ -33,7 +33,7 @@ returns-then-spoiled c =
     
     
     let a = c.args in
-    rw c.no_ack.ensures (in_spoiled a.kept a.space a.k a.spoiled a.w a.m.now a.x c.if-spoiled.taken)
+    rw c.no_ack.ensures (in_spoiled a.kept a.space a.k a.spoiled a.w a.m.now a.x c.if-spoiled.true)
 
 pub returns : goal.returns
 returns c =
@@ -44,6 +44,6 @@ returns c =
     
     
     let a = c.args in
-    let j = judged a.kept a.space a.k a.spoiled a.w a.m.now a.x _ _ _ c.asked_of.ensures c.verdict-verdict.ensures c.is_allowed.ensures ∙ c.if-is_allowed.left in
+    let j = judged a.kept a.space a.k a.spoiled a.w a.m.now a.x _ _ _ c.asked_of.ensures c.verdict-verdict.ensures c.is_allowed.ensures ∙ c.if-is_allowed.false in
     
-    rw (c.no_ack-2.ensures, c.with_bus.ensures) (spoils a.kept a.space a.k a.spoiled a.w a.m.now a.x j c.if-spoiled.left)
+    rw (c.no_ack-2.ensures, c.with_bus.ensures) (spoils a.kept a.space a.k a.spoiled a.w a.m.now a.x j c.if-spoiled.false)

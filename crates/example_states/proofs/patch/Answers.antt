@@ -15,7 +15,7 @@ returns-then-not-store c =
     let t = c.args.t in
     let e = c.encode in
     pick_false _ _ _ _ (not-true _ c.if-not-store.true) refl
-    ∙ patched_by t _ _ _ (encoded t _ _ refl e.ensures.1 e.ensures.0) c.store.ensures
+    ∙ patched_by t _ _ _ (encoded t _ _ refl e.ensures.t_len e.ensures.s_after) c.store.ensures
 
 pub returns-then-not-decodes : goal.returns-then-not-decodes
 unfolding patch_by
@@ -26,7 +26,7 @@ returns-then-not-decodes c =
     let t = c.args.t in
     let e = c.encode in
     pick_true _ _ _ _ (not-false _ c.if-not-store.false) (pick_false _ _ _ _ (sym c.decodes.ensures ∙ not-true _ c.if-not-decodes.true) refl)
-    ∙ patched_by t _ _ _ (encoded t _ _ refl e.ensures.1 e.ensures.0) c.store.ensures
+    ∙ patched_by t _ _ _ (encoded t _ _ refl e.ensures.t_len e.ensures.s_after) c.store.ensures
 
 pub returns : goal.returns
 unfolding patch_by
@@ -35,4 +35,4 @@ returns c =
     let e = c.encode in
     pick_true _ _ _ _ (not-false _ c.if-not-store.false)
     (pick_true _ _ _ _ (sym c.decodes.ensures ∙ not-false _ c.if-not-decodes.false) (ap (patch_outcome true) c.decode.ensures))
-    ∙ patched_by t _ _ _ (encoded t _ _ refl e.ensures.1 e.ensures.0) c.store.ensures
+    ∙ patched_by t _ _ _ (encoded t _ _ refl e.ensures.t_len e.ensures.s_after) c.store.ensures

@@ -7,10 +7,10 @@ returns-then-byte_at-eq1 c =
     
     
     
-    c.inventory_rule.ensures (rw (← c.byte_at.ensures) (eq-eqb _ 1 c.if-byte_at-eq1.taken)) c.args.m.now
+    c.inventory_rule.ensures (rw (← c.byte_at.ensures) (eq-eqb _ 1 c.if-byte_at-eq1.true)) c.args.m.now
 
 pub returns : goal.returns
 returns c =
     
     
-    c.request_rule.ensures (rw (← c.byte_at.ensures) (ne_eqb _ 1 c.if-byte_at-eq1.left))
+    c.request_rule.ensures (rw (← c.byte_at.ensures) (ne_eqb _ 1 c.if-byte_at-eq1.false))

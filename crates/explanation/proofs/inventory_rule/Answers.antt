@@ -26,7 +26,7 @@ returns-then-inventory_silent c flagged m =
     let a = c.args in
     
     
-    rw (inventory_number a.t m a.f.now flagged, ← c.transfer_at-transfer.ensures, ← c.counted_dynamic-dynamic.ensures, ← c.is_open_transfer.ensures, ← c.first_of_reception-silent.ensures a.t.uid, eq-eqb _ 0 c.if-silent-ne0.left, ← c.inventory_silent.ensures, c.if-inventory_silent.true)
+    rw (inventory_number a.t m a.f.now flagged, ← c.transfer_at-transfer.ensures, ← c.counted_dynamic-dynamic.ensures, ← c.is_open_transfer.ensures, ← c.first_of_reception-silent.ensures a.t.uid, eq-eqb _ 0 c.if-silent-ne0.false, ← c.inventory_silent.ensures, c.if-inventory_silent.true)
 
 pub returns : goal.returns
 unfolding pick
@@ -39,4 +39,4 @@ returns c flagged m =
     let a = c.args in
     
     
-    rw (inventory_number a.t m a.f.now flagged, ← c.transfer_at-transfer.ensures, ← c.counted_dynamic-dynamic.ensures, ← c.is_open_transfer.ensures, ← c.first_of_reception-silent.ensures a.t.uid, eq-eqb _ 0 c.if-silent-ne0.left, ← c.inventory_silent.ensures, c.if-inventory_silent.false)
+    rw (inventory_number a.t m a.f.now flagged, ← c.transfer_at-transfer.ensures, ← c.counted_dynamic-dynamic.ensures, ← c.is_open_transfer.ensures, ← c.first_of_reception-silent.ensures a.t.uid, eq-eqb _ 0 c.if-silent-ne0.false, ← c.inventory_silent.ensures, c.if-inventory_silent.false)

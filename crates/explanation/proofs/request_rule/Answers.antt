@@ -26,7 +26,7 @@ returns-then-is_mute c plain =
     let a = c.args in
     
     
-    rw (frame_number a.t a.m.now a.f.now plain, ← c.transfer_at-transfer.ensures, ← c.counted_dynamic-dynamic.ensures, ← c.is_open_transfer.ensures, ← c.first_silence-silent.ensures, eq-eqb _ 0 c.if-silent-ne0.left, ← c.is_mute.ensures, c.if-is_mute.true)
+    rw (frame_number a.t a.m.now a.f.now plain, ← c.transfer_at-transfer.ensures, ← c.counted_dynamic-dynamic.ensures, ← c.is_open_transfer.ensures, ← c.first_silence-silent.ensures, eq-eqb _ 0 c.if-silent-ne0.false, ← c.is_mute.ensures, c.if-is_mute.true)
 
 pub returns : goal.returns
 unfolding pick
@@ -41,4 +41,4 @@ returns c plain =
     
     
     
-    rw (frame_number a.t a.m.now a.f.now plain, ← c.transfer_at-transfer.ensures, ← c.counted_dynamic-dynamic.ensures, ← c.is_open_transfer.ensures, ← c.first_silence-silent.ensures, eq-eqb _ 0 c.if-silent-ne0.left, ← c.is_mute.ensures, c.if-is_mute.left, ← c.frame_error.ensures) c.verdict_number.ensures
+    rw (frame_number a.t a.m.now a.f.now plain, ← c.transfer_at-transfer.ensures, ← c.counted_dynamic-dynamic.ensures, ← c.is_open_transfer.ensures, ← c.first_silence-silent.ensures, eq-eqb _ 0 c.if-silent-ne0.false, ← c.is_mute.ensures, c.if-is_mute.false, ← c.frame_error.ensures) c.verdict_number.ensures

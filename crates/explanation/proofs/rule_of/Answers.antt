@@ -8,22 +8,22 @@ unfolding rule_at
 returns-in-Wire c =
     
     
-    rw (← c.signal_by-signal.ensures, c.signal-1.given.1) (c.wire_rule.ensures c.args.frame.now)
+    rw (← c.signal_by-signal.ensures, c.in-Wire.is) (c.wire_rule.ensures c.args.frame.now)
 
 pub returns-in-Field : goal.returns-in-Field
 unfolding first_says explained explained_number rules_for rule_at
 returns-in-Field c =
     
-    rw (← c.signal_by-signal.ensures, c.enum_told-1.given.1)
+    rw (← c.signal_by-signal.ensures, c.in-Field.is)
 
 pub returns-in-Frame : goal.returns-in-Frame
 unfolding rule_at
 returns-in-Frame c =
     
-    rw (← c.signal_by-signal.ensures, c.enum_told-in-Frame-1.given.1) c.frame_rule.ensures
+    rw (← c.signal_by-signal.ensures, c.in-Frame.is) c.frame_rule.ensures
 
 pub returns-in-EndOfFrame : goal.returns-in-EndOfFrame
 unfolding first_says explained explained_number rules_for rule_at
 returns-in-EndOfFrame c =
     
-    rw (← c.signal_by-signal.ensures, c.enum_told-in-EndOfFrame-1.given.1)
+    rw (← c.signal_by-signal.ensures, c.in-EndOfFrame.is)

@@ -5,23 +5,23 @@ use Rattle.explanation.proofs.wire_rule.Goals as goal
 
 pub returns-in-Start : goal.returns-in-Start
 unfolding first_says explained explained_number rules_for wire_rules
-returns-in-Start c f = rw c.enum_told-1.given.1
+returns-in-Start c f = rw c.in-Start.is
 
 pub returns-in-Send : goal.returns-in-Send
-returns-in-Send c f = rw c.signal-1.given.1 (c.sent_byte.ensures f)
+returns-in-Send c f = rw c.in-Send.is (c.sent_byte.ensures f)
 
 pub returns-in-Fetch : goal.returns-in-Fetch
 unfolding first_says explained explained_number rules_for wire_rules
-returns-in-Fetch c f = rw c.enum_told-in-Fetch-1.given.1
+returns-in-Fetch c f = rw c.in-Fetch.is
 
 pub returns-in-Stop : goal.returns-in-Stop
 unfolding first_says explained explained_number rules_for wire_rules
-returns-in-Stop c f = rw c.enum_told-in-Stop-1.given.1
+returns-in-Stop c f = rw c.in-Stop.is
 
 pub returns-in-Vcc : goal.returns-in-Vcc
 unfolding first_says explained explained_number rules_for wire_rules
-returns-in-Vcc c f = rw c.enum_told-in-Vcc-1.given.1
+returns-in-Vcc c f = rw c.in-Vcc.is
 
 pub returns-in-ProgrammingEnd : goal.returns-in-ProgrammingEnd
 unfolding first_says explained explained_number rules_for wire_rules
-returns-in-ProgrammingEnd c f = rw c.enum_told-in-ProgrammingEnd-1.given.1
+returns-in-ProgrammingEnd c f = rw c.in-ProgrammingEnd.is

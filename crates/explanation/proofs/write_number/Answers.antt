@@ -4,10 +4,10 @@ use Rattle.explanation.proofs.write_number.Goals as goal
 
 pub returns-in-Allowed : goal.returns-in-Allowed
 unfolding write_number
-returns-in-Allowed c = rw c.enum_told-1.given.1
+returns-in-Allowed c = rw c.in-Allowed.is
 
 pub returns-in-Forbidden : goal.returns-in-Forbidden
 unfolding write_number
 returns-in-Forbidden c =
     
-    rw c.verdict-1.given.1 c.number.ensures
+    rw c.in-Forbidden.is c.number.ensures

@@ -4,8 +4,8 @@ use Rattle.fetch.proofs.fetched.Goals as goal
 
 pub returns-in-User : goal.returns-in-User
 unfolding fetched
-returns-in-User c = rw (c.user_byte.ensures, c.enum_told-1.given.1)
+returns-in-User c = rw (c.user_byte.ensures, c.in-User.is)
 
 pub returns-in-System : goal.returns-in-System
 unfolding fetched
-returns-in-System c = rw (c.system_byte.ensures, c.enum_told-in-System-1.given.1)
+returns-in-System c = rw (c.system_byte.ensures, c.in-System.is)

@@ -4,8 +4,8 @@ use Rattle.fetch.proofs.is_last.Goals as goal
 
 pub returns-in-User : goal.returns-in-User
 unfolding is_last
-returns-in-User c = rw c.enum_told-1.given.1
+returns-in-User c = rw c.in-User.is
 
 pub returns-in-System : goal.returns-in-System
 unfolding is_last
-returns-in-System c = rw c.enum_told-in-System-1.given.1
+returns-in-System c = rw c.in-System.is

@@ -4,4 +4,4 @@ use Rattle.frame.proofs.own_uid.Goals as goal
 
 pub returns : goal.returns
 unfolding own_uid
-returns c = rw (c.equals.ensures, c.at.ensures, c.uid_place.ensures.0)
+returns c = rw (c.equals.ensures, c.at.ensures, c.uid_place.ensures.value)

@@ -4,4 +4,4 @@ use Rattle.frame.proofs.param.Goals as goal
 
 pub returns : goal.returns
 unfolding param
-returns c = rw (c.byte_in.ensures, c.param_place.ensures.0)
+returns c = rw (c.byte_in.ensures, c.param_place.ensures.value)

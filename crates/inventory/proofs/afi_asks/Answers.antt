@@ -10,8 +10,8 @@ returns-then-asked-eq0 c = rw (eq-eqb _ 0 c.if-asked-eq0.true)
 
 pub returns-then-asked-eq0-2 : goal.returns-then-asked-eq0-2
 unfolding afi_asks
-returns-then-asked-eq0-2 c = rw (ne_eqb _ 0 c.if-asked-eq0.left) (search picks depth 20)
+returns-then-asked-eq0-2 c = rw (ne_eqb _ 0 c.if-asked-eq0.false) (search picks depth 20)
 
 pub returns : goal.returns
 unfolding afi_asks
-returns c = rw (ne_eqb _ 0 c.if-asked-eq0.left) (search picks depth 20)
+returns c = rw (ne_eqb _ 0 c.if-asked-eq0.false) (search picks depth 20)

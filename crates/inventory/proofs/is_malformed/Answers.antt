@@ -10,4 +10,4 @@ returns c =
     
     
     
-    rw (c.crc_place-end.ensures, c.mask_bits-n.ensures, c.mask_length_place-at.ensures.0, c.command-c.ensures, c.byte_at-flags.ensures)
+    rw (c.crc_place-end.ensures, c.mask_bits-n.ensures, c.mask_length_place-at.ensures.value, c.command-c.ensures, c.byte_at-flags.ensures)

@@ -11,4 +11,4 @@ returns c =
     
     
     
-    rw (c.byte_at-2.ensures, c.same_bits-same.ensures, c.mask_bits-n.ensures, c.mask_length_place-at.ensures.0, c.afi_asks-asked.ensures, c.byte_at.ensures)
+    rw (c.byte_at-2.ensures, c.same_bits-same.ensures, c.mask_bits-n.ensures, c.mask_length_place-at.ensures.value, c.afi_asks-asked.ensures, c.byte_at.ensures)

@@ -12,4 +12,4 @@ unfolding own_slot
 returns c =
     
     
-    rw (← c.byte_at.ensures, c.slot_number.ensures.0, c.mask_bits.ensures) (search picks depth 20)
+    rw (← c.byte_at.ensures, c.slot_number.ensures.value, c.mask_bits.ensures) (search picks depth 20)

@@ -17,7 +17,7 @@ loop-i-preserved c =
     
     
     
-    let l = c.loop-i in (rw (add-one l.i, c.bit_at.ensures.0, c.bit_at-in-loop-i.ensures.0, l.invariant.0), omega arith)
+    let l = c.loop-i in (rw (add-one l.i, c.bit_at.ensures.value, c.bit_at-in-loop-i.ensures.value, l.invariant.0), omega arith)
 
 pub returns : goal.returns
 returns c =

@@ -6,4 +6,4 @@ use Rattle.inventory.proofs.slot_number.Goals as goal
 pub returns : goal.returns
 unfolding slot_number
 returns c =
-    record { value = rw (c.bit_at.ensures.0, c.bit_at-2.ensures.0, c.bit_at-3.ensures.0, c.bit_at-4.ensures.0); upper_bound = omega arith }
+    record { value = rw (c.bit_at.ensures.value, c.bit_at-2.ensures.value, c.bit_at-3.ensures.value, c.bit_at-4.ensures.value); upper_bound = omega arith }

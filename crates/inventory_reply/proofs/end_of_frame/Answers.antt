@@ -12,7 +12,7 @@ returns-then-takes_part c =
     
     
     
-    rw (← c.takes_part.ensures, c.if-takes_part.taken, ← c.less_one.ensures) c.leave_slots.ensures
+    rw (← c.takes_part.ensures, c.if-takes_part.true, ← c.less_one.ensures) c.leave_slots.ensures
 
 pub returns : goal.returns
 unfolding end_of_frame_of

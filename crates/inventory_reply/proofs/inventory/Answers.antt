@@ -13,7 +13,7 @@ returns-then-is_heard c =
     
     
     
-    rw (← c.is_heard.ensures, c.if-is_heard.taken, ← c.slots_after-slots.ensures, ← c.answers_now-answers.ensures) c.leave_slots.ensures
+    rw (← c.is_heard.ensures, c.if-is_heard.true, ← c.slots_after-slots.ensures, ← c.answers_now-answers.ensures) c.leave_slots.ensures
 
 pub returns : goal.returns
 unfolding inventory_of

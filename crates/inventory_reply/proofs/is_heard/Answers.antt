@@ -19,7 +19,7 @@ returns-then-f c =
     
     
     
-    rw (← c.takes_part.ensures, not-false c.takes_part.result c.if-not-takes_part.left, c.if-f.true)
+    rw (← c.takes_part.ensures, not-false c.takes_part.result c.if-not-takes_part.false, c.if-f.true)
 
 pub returns-then-not-is_good : goal.returns-then-not-is_good
 unfolding is_heard
@@ -29,7 +29,7 @@ returns-then-not-is_good c =
     
     
     
-    rw (← c.takes_part.ensures, not-false c.takes_part.result c.if-not-takes_part.left, c.if-f.left, ← c.is_good.ensures, not-true c.is_good.result c.if-not-is_good.true)
+    rw (← c.takes_part.ensures, not-false c.takes_part.result c.if-not-takes_part.false, c.if-f.false, ← c.is_good.ensures, not-true c.is_good.result c.if-not-is_good.true)
 
 pub returns : goal.returns
 unfolding is_heard
@@ -41,4 +41,4 @@ returns c =
     
     
     
-    rw (← c.takes_part.ensures, not-false c.takes_part.result c.if-not-takes_part.left, c.if-f.left, ← c.is_good.ensures, not-false c.is_good.result c.if-not-is_good.left, c.is_malformed.ensures)
+    rw (← c.takes_part.ensures, not-false c.takes_part.result c.if-not-takes_part.false, c.if-f.false, ← c.is_good.ensures, not-false c.is_good.result c.if-not-is_good.false, c.is_malformed.ensures)

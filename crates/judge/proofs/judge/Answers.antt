@@ -4,6 +4,15 @@ use Rattle.parts.proofs.Picks.{picks}
 use Rattle.judge.proofs.Muted.{muted, judge_muted}
 use Rattle.judge.proofs.judge.Goals as goal
 
+enum_told : tie.Need-enum-told
+enum_told c = search rules
+
+enum-known-error : tie.Need-enum-known-error
+enum-known-error c = search rules
+
+enum-told-2 : tie.Need-enum-told-2
+enum-told-2 c = search rules
+
 pub returns-then-is_silent : goal.returns-then-is_silent
 returns-then-is_silent c =
     rw (judge_muted, ← c.is_silent.ensures) (search picks depth 20)
@@ -14,7 +23,7 @@ returns-in-Silence c =
     
     
     
-    rw (judge_muted, ← c.is_silent.ensures, c.if-is_silent.left, ← c.first_error.ensures, c.enum_told-1.given.1)
+    rw (judge_muted, ← c.is_silent.ensures, c.if-is_silent.false, ← c.first_error.ensures, c.in-Silence.is)
 
 pub returns-in-Error : goal.returns-in-Error
 unfolding muted pick
@@ -23,7 +32,7 @@ returns-in-Error c =
     
     
     
-    rw (judge_muted, ← c.is_silent.ensures, c.if-is_silent.left, ← c.first_error.ensures, c.error-1.given.1, c.error_of_lem.ensures)
+    rw (judge_muted, ← c.is_silent.ensures, c.if-is_silent.false, ← c.first_error.ensures, c.in-Error.is, c.error_of_lem.ensures)
 
 pub returns-in-Request : goal.returns-in-Request
 unfolding muted pick
@@ -31,4 +40,4 @@ returns-in-Request c =
     
     
     
-    rw (judge_muted, ← c.is_silent.ensures, c.if-is_silent.left, ← c.first_error.ensures, c.enum_told-in-Request-1.given.1)
+    rw (judge_muted, ← c.is_silent.ensures, c.if-is_silent.false, ← c.first_error.ensures, c.in-Request.is)

@@ -9,4 +9,4 @@ returns c =
     
     
     
-    rw (c.crc_place-end.ensures, c.param_place-at.ensures.0, c.param_bytes-takes.ensures.0, c.param-2.ensures, c.param.ensures, c.command_of.ensures, c.command.ensures)
+    rw (c.crc_place-end.ensures, c.param_place-at.ensures.value, c.param_bytes-takes.ensures.value, c.param-2.ensures, c.param.ensures, c.command_of.ensures, c.command.ensures)

@@ -4,8 +4,8 @@ use Rattle.leg.proofs.acts_at_start.Goals as goal
 
 pub returns-in-User : goal.returns-in-User
 unfolding acts_at_start
-returns-in-User c = rw (c.host_writes.ensures, c.enum_told-1.given.1)
+returns-in-User c = rw (c.host_writes.ensures, c.in-User.is)
 
 pub returns-in-System : goal.returns-in-System
 unfolding acts_at_start
-returns-in-System c = rw c.enum_told-in-System-1.given.1
+returns-in-System c = rw c.in-System.is

@@ -6,8 +6,8 @@ pub returns-in-User : goal.returns-in-User
 unfolding leg_written
 returns-in-User c =
     
-    rw (c.user_written.ensures, c.enum_told-1.given.1)
+    rw (c.user_written.ensures, c.in-User.is)
 
 pub returns-in-System : goal.returns-in-System
 unfolding leg_written
-returns-in-System c = rw (c.system_written.ensures, c.enum_told-in-System-1.given.1)
+returns-in-System c = rw (c.system_written.ensures, c.in-System.is)

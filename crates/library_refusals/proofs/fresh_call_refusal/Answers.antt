@@ -15,7 +15,7 @@ returns-then-s-ne-STATE_BYTES c =
     let a = c.args in
     let first = fresh_rules a.m.now in
     let rest = state_rule a.s.now ∷ uid_rule a.uid.now ∷ [] in
-    rw (append_none first rest (sym c.fresh_refusal-first.ensures ∙ c.enum_told-1.given.1)) (search picks depth 20)
+    rw (append_none first rest (sym c.fresh_refusal-first.ensures ∙ c.in-NoRefusal.is)) (search picks depth 20)
 
 pub returns-then-uid-ne8 : goal.returns-then-uid-ne8
 unfolding judgement first_says
@@ -25,7 +25,7 @@ returns-then-uid-ne8 c =
     let a = c.args in
     let first = fresh_rules a.m.now in
     let rest = state_rule a.s.now ∷ uid_rule a.uid.now ∷ [] in
-    rw (append_none first rest (sym c.fresh_refusal-first.ensures ∙ c.enum_told-1.given.1)) (search picks depth 20)
+    rw (append_none first rest (sym c.fresh_refusal-first.ensures ∙ c.in-NoRefusal.is)) (search picks depth 20)
 
 pub returns-in-RefusedBy : goal.returns-in-RefusedBy
 returns-in-RefusedBy c =
@@ -33,7 +33,7 @@ returns-in-RefusedBy c =
     let a = c.args in
     let first = fresh_rules a.m.now in
     let rest = state_rule a.s.now ∷ uid_rule a.uid.now ∷ [] in
-    sym (append_refused first rest _ (sym c.fresh_refusal-first.ensures ∙ c.first-1.given.1))
+    sym (append_refused first rest _ (sym c.fresh_refusal-first.ensures ∙ c.in-RefusedBy.is))
 
 pub returns-else-uid-ne8 : goal.returns-else-uid-ne8
 unfolding judgement first_says
@@ -43,4 +43,4 @@ returns-else-uid-ne8 c =
     let a = c.args in
     let first = fresh_rules a.m.now in
     let rest = state_rule a.s.now ∷ uid_rule a.uid.now ∷ [] in
-    rw (append_none first rest (sym c.fresh_refusal-first.ensures ∙ c.enum_told-1.given.1)) (search picks depth 20)
+    rw (append_none first rest (sym c.fresh_refusal-first.ensures ∙ c.in-NoRefusal.is)) (search picks depth 20)

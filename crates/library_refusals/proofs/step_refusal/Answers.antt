@@ -16,7 +16,7 @@ returns-then-s-ne-STATE_BYTES c =
     let a = c.args in
     let first = call_rules a.m.now (handed_in a.out.now a.code a.value a.frame.now) in
     let rest = state_rule a.s.now ∷ decodes_rule a.s.now ∷ [] in
-    rw (append_none first rest (sym c.call_refusal-first.ensures ∙ c.enum_told-1.given.1)) (search picks depth 20)
+    rw (append_none first rest (sym c.call_refusal-first.ensures ∙ c.in-NoRefusal.is)) (search picks depth 20)
 
 pub returns-then-not-decodes : goal.returns-then-not-decodes
 unfolding judgement first_says
@@ -26,7 +26,7 @@ returns-then-not-decodes c =
     let a = c.args in
     let first = call_rules a.m.now (handed_in a.out.now a.code a.value a.frame.now) in
     let rest = state_rule a.s.now ∷ decodes_rule a.s.now ∷ [] in
-    rw (append_none first rest (sym c.call_refusal-first.ensures ∙ c.enum_told-1.given.1), ← c.decodes.ensures) (search picks depth 20)
+    rw (append_none first rest (sym c.call_refusal-first.ensures ∙ c.in-NoRefusal.is), ← c.decodes.ensures) (search picks depth 20)
 
 pub returns-in-RefusedBy : goal.returns-in-RefusedBy
 returns-in-RefusedBy c =
@@ -34,7 +34,7 @@ returns-in-RefusedBy c =
     let a = c.args in
     let first = call_rules a.m.now (handed_in a.out.now a.code a.value a.frame.now) in
     let rest = state_rule a.s.now ∷ decodes_rule a.s.now ∷ [] in
-    sym (append_refused first rest _ (sym c.call_refusal-first.ensures ∙ c.first-1.given.1))
+    sym (append_refused first rest _ (sym c.call_refusal-first.ensures ∙ c.in-RefusedBy.is))
 
 pub returns-else-not-decodes : goal.returns-else-not-decodes
 unfolding judgement first_says
@@ -44,4 +44,4 @@ returns-else-not-decodes c =
     let a = c.args in
     let first = call_rules a.m.now (handed_in a.out.now a.code a.value a.frame.now) in
     let rest = state_rule a.s.now ∷ decodes_rule a.s.now ∷ [] in
-    rw (append_none first rest (sym c.call_refusal-first.ensures ∙ c.enum_told-1.given.1), ← c.decodes.ensures) (search picks depth 20)
+    rw (append_none first rest (sym c.call_refusal-first.ensures ∙ c.in-NoRefusal.is), ← c.decodes.ensures) (search picks depth 20)

@@ -15,23 +15,23 @@ returns-in-Wire c =
     
     
     let a = c.args in
-    rw c.signal-1.given.1
+    rw c.in-Wire.is
     (ap (λ (e : FreshResult). step_result e.answer e.tag e.memory a.out.now) c.by_wire_lem.ensures)
 
 -- src/lib.rt:159:1
 pub returns-in-Field : goal.returns-in-Field
 unfolding act_of
-returns-in-Field c = rw (c.by_field.ensures, c.signal-in-Field-1.given.1)
+returns-in-Field c = rw (c.by_field.ensures, c.in-Field.is)
 
 -- src/lib.rt:159:1
 pub returns-in-Frame : goal.returns-in-Frame
 returns-in-Frame c =
     
     
-    rw c.enum_told-1.given.1 c.by_frame.ensures
+    rw c.in-Frame.is c.by_frame.ensures
 
 pub returns-in-EndOfFrame : goal.returns-in-EndOfFrame
 returns-in-EndOfFrame c =
     
     
-    rw c.enum_told-in-EndOfFrame-1.given.1 c.by_end_of_frame.ensures
+    rw c.in-EndOfFrame.is c.by_end_of_frame.ensures

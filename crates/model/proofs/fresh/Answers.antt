@@ -11,7 +11,7 @@ unfolding fresh_of unless_refused
 returns-in-RefusedBy c =
     
     
-    rw (c.refused.ensures, c.fresh-t.ensures, sym c.fresh_refusal-judged.ensures ∙ c.judged-1.given.1)
+    rw (c.refused.ensures, c.fresh-t.ensures, sym c.fresh_refusal-judged.ensures ∙ c.in-RefusedBy.is)
 
 pub returns-in-NoRefusal : goal.returns-in-NoRefusal
 unfolding fresh_of unless_refused
@@ -21,5 +21,5 @@ returns-in-NoRefusal c =
     
     
     let m = c.args.m.now in
-    let none = sym c.fresh_refusal-judged.ensures ∙ c.enum_told-1.given.1 in
+    let none = sym c.fresh_refusal-judged.ensures ∙ c.in-NoRefusal.is in
     rw (c.put_bytes.ensures, c.fresh-t.ensures, cleared m (fresh_size m none), none)

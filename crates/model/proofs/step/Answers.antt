@@ -8,7 +8,7 @@ pub returns-in-RefusedBy : goal.returns-in-RefusedBy
 unfolding step_of unless_refused
 returns-in-RefusedBy c =
     
-    rw (c.refused.ensures, sym c.entry_refusal-judged.ensures ∙ c.judged-1.given.1)
+    rw (c.refused.ensures, sym c.entry_refusal-judged.ensures ∙ c.in-RefusedBy.is)
 
 pub returns-in-NoRefusal : goal.returns-in-NoRefusal
 unfolding step_of unless_refused
@@ -17,4 +17,4 @@ returns-in-NoRefusal c =
     
     
     
-    rw (sym c.entry_refusal-judged.ensures ∙ c.enum_told-1.given.1, ← c.signal_by.ensures) c.act.ensures
+    rw (sym c.entry_refusal-judged.ensures ∙ c.in-NoRefusal.is, ← c.signal_by.ensures) c.act.ensures

@@ -20,7 +20,7 @@ returns-then-not-is_refused c =
     let a = c.args in
     pick_true _ _ _ _ (eq-eqb _ _ c.if-s-ne-STATE_BYTES.false)
     (pick_false _ _ _ _ (sym c.is_refused.ensures ∙ not-true _ c.if-not-is_refused.true)
-    (c.encode.ensures.0 ∙ replaced (bytes_of a.outcome.tag) a.s.now (c.if-s-ne-STATE_BYTES.false ∙ sym c.encode.ensures.1)))
+    (c.encode.ensures.s_after ∙ replaced (bytes_of a.outcome.tag) a.s.now (c.if-s-ne-STATE_BYTES.false ∙ sym c.encode.ensures.t_len)))
 
 pub returns-else-not-is_refused : goal.returns-else-not-is_refused
 unfolding state_after kept_state

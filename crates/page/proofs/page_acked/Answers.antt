@@ -2,7 +2,7 @@ use borrow.Author.Rules.{rules}
 use Rattle.page.proofs.page_acked.Goals as goal
 
 pub returns-in-User : goal.returns-in-User
-returns-in-User c = rw c.enum_told-1.given.1 c.user_page.ensures
+returns-in-User c = rw c.in-User.is c.user_page.ensures
 
 pub returns-in-System : goal.returns-in-System
-returns-in-System c = rw c.enum_told-in-System-1.given.1 c.system_page.ensures
+returns-in-System c = rw c.in-System.is c.system_page.ensures

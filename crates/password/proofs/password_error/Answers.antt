@@ -6,7 +6,7 @@ use Rattle.password.proofs.password_error.Goals as goal
 
 pub returns-in-OutsideMap : goal.returns-in-OutsideMap
 unfolding password_error pick
-returns-in-OutsideMap c = rw c.enum_told-1.given.1
+returns-in-OutsideMap c = rw c.in-OutsideMap.is
 
 pub returns-in_default : goal.returns-in_default
-returns-in_default c = closed _ c.in_default.keys2
+returns-in_default c = closed _ c.in_default.in_default-own.keys2

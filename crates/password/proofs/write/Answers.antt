@@ -16,7 +16,7 @@ returns-in-Forbidden c =
     
     let a = c.args in
     said (write_password_of a.v a.m.now a.n a.frame.now a.at) _ (fault c.password_error.result) c.error.ensures
-    (rw (password_by_verdict a.v a.m.now a.n a.frame.now a.at, ← c.verdict-verdict.ensures, c.verdict-1.given.1, c.password_error.ensures))
+    (rw (password_by_verdict a.v a.m.now a.n a.frame.now a.at, ← c.verdict-verdict.ensures, c.in-Forbidden.is, c.password_error.ensures))
 
 pub returns : goal.returns
 unfolding password_by
@@ -27,4 +27,4 @@ returns c =
     
     let a = c.args in
     said (write_password_of a.v a.m.now a.n a.frame.now a.at) _ (good []) c.done.ensures
-    (rw (password_by_verdict a.v a.m.now a.n a.frame.now a.at, ← c.verdict-verdict.ensures, c.enum_told-1.given.1, c.with_passwords.ensures, c.with_radio-passwords.ensures, c.at.ensures))
+    (rw (password_by_verdict a.v a.m.now a.n a.frame.now a.at, ← c.verdict-verdict.ensures, c.in-Allowed.is, c.with_passwords.ensures, c.with_radio-passwords.ensures, c.at.ensures))

@@ -6,40 +6,40 @@ pub returns-in-Refused : goal.returns-in-Refused
 unfolding answer_text
 returns-in-Refused c =
     
-    rw c.enum_told-1.given.1 c.put_mark.ensures
+    rw c.in-Refused.is c.put_mark.ensures
 
 pub returns-in-Nothing : goal.returns-in-Nothing
 unfolding answer_text
 returns-in-Nothing c =
     
-    rw c.enum_told-in-Nothing-1.given.1 c.put_mark-in-Nothing.ensures
+    rw c.in-Nothing.is c.put_mark-in-Nothing.ensures
 
 pub returns-in-Ack : goal.returns-in-Ack
 unfolding answer_text
 returns-in-Ack c =
     
-    rw c.enum_told-in-Ack-1.given.1 c.put_mark-in-Ack.ensures
+    rw c.in-Ack.is c.put_mark-in-Ack.ensures
 
 pub returns-in-NoAck : goal.returns-in-NoAck
 unfolding answer_text
 returns-in-NoAck c =
     
-    rw c.enum_told-in-NoAck-1.given.1 c.put_mark-in-NoAck.ensures
+    rw c.in-NoAck.is c.put_mark-in-NoAck.ensures
 
 pub returns-in-Byte : goal.returns-in-Byte
 unfolding answer_text
 returns-in-Byte c =
     
-    rw c.answer-1.given.1 c.put_byte.ensures
+    rw c.in-Byte.is c.put_byte.ensures
 
 pub returns-in-Silence : goal.returns-in-Silence
 unfolding answer_text
 returns-in-Silence c =
     
-    rw c.enum_told-in-Silence-1.given.1 c.put_mark-in-Silence.ensures
+    rw c.in-Silence.is c.put_mark-in-Silence.ensures
 
 pub returns-in-Reply : goal.returns-in-Reply
 unfolding answer_text
 returns-in-Reply c =
     
-    rw (c.answer-in-Reply-1.given.1, ← c.shown_bytes.ensures) c.put_hex.ensures
+    rw (c.in-Reply.is, ← c.shown_bytes.ensures) c.put_hex.ensures

@@ -28,4 +28,4 @@ returns c =
     let room : length o ≤ last_place = omega arith in
     c.put_name.ensures
     ∙ behind o t.last.0 (0x09 ∷ []) (name_at a.rule) a.at t.result room t.ensures
-    ∙ ap (λ (l : List ℕ). text_at o a.at l) (field_parts a.rule c.if-rule-eq0.left)
+    ∙ ap (λ (l : List ℕ). text_at o a.at l) (field_parts a.rule c.if-rule-eq0.false)

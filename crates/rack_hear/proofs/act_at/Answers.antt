@@ -25,7 +25,7 @@ returns-then-heard c =
     let m = c.args.memory.now in
     let o = c.args.out.now in
     let n : a.at + 1024 - a.at ≡ 1024 = omega arith in
-    pick_true _ _ _ a.replied c.if-heard.taken
+    pick_true _ _ _ a.replied c.if-heard.true
     (rw (c.noted-next.ensures, n) (ap (acted_at a i m o) (rw (n, c.signal_by-signal.ensures) at c.act-o.ensures)))
 
 -- src/lib.rt:134:1
@@ -40,5 +40,5 @@ returns c =
     let i = c.args.i in
     let m = c.args.memory.now in
     let n : a.at + 1024 - a.at ≡ 1024 = omega arith in
-    pick_false _ _ _ a.replied c.if-heard.left
+    pick_false _ _ _ a.replied c.if-heard.false
     (rw (c.noted-next-2.ensures, n) (ap (λ (e : StepResult). acted_at a i m e.reply e) (rw (n, c.signal_by-signal.ensures) at c.act-o-2.ensures)))

@@ -6,16 +6,16 @@ pub returns-in-Refused : goal.returns-in-Refused
 unfolding search_text
 returns-in-Refused c =
     
-    rw c.answer-1.given.1 c.Put-refused.ensures
+    rw c.in-Refused.is c.Put-refused.ensures
 
 pub returns-in-NoCollision : goal.returns-in-NoCollision
 unfolding search_text
 returns-in-NoCollision c =
     
-    rw c.enum_told-1.given.1 c.put_mark.ensures
+    rw c.in-NoCollision.is c.put_mark.ensures
 
 pub returns-in-Collision : goal.returns-in-Collision
 unfolding search_text
 returns-in-Collision c =
     
-    rw c.answer-in-Collision-1.given.1 c.put_decimal.ensures
+    rw c.in-Collision.is c.put_decimal.ensures

@@ -17,14 +17,14 @@ pub returns-in-Bad : goal.returns-in-Bad
 unfolding line_by or_own
 returns-in-Bad c =
     
-    c.own_line.ensures ∙ read-so _ _ _ c.read.ensures c.enum_told-1.given.1
+    c.own_line.ensures ∙ read-so _ _ _ c.read.ensures c.in-Bad.is
 
 pub returns-in-Signal : goal.returns-in-Signal
 unfolding rack_line_by line_by or_own
 returns-in-Signal c =
     
-    read-so _ _ _ c.read.ensures c.code-1.given.1
+    read-so _ _ _ c.read.ensures c.in-Signal.is
 
 pub returns-in-Frame : goal.returns-in-Frame
 unfolding rack_line_by line_by or_own
-returns-in-Frame c = read-so _ _ _ c.read.ensures c.enum_told-in-Frame-1.given.1
+returns-in-Frame c = read-so _ _ _ c.read.ensures c.in-Frame.is

@@ -14,4 +14,4 @@ pub returns : goal.returns
 unfolding uid
 returns c =
     
-    ap uid (c.decode.ensures.1 ∙ over_zeros 8 (hex_bytes c.args.s.now))
+    ap uid (c.decode.ensures.out_after ∙ over_zeros 8 (hex_bytes c.args.s.now))

@@ -15,7 +15,7 @@ pub turn-r-requires : goal.turn-r-requires
 turn-r-requires c =
     
     
-    omega (arith, c.loop-r.invariant.1, c.pre)
+    omega (arith, c.loop-r.invariant.1, c.requires)
 
 pub overflow_sub-reads : goal.overflow_sub-reads
 overflow_sub-reads c = omega (arith, ltb-true 0 c.loop-r.reads (and_right c.loop-r.r.more (ltb 0 c.loop-r.reads) c.loop-r-test.true))

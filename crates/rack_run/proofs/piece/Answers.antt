@@ -25,7 +25,7 @@ slice_bounds-step-start c =
 pub slice_bounds-say-end : goal.slice_bounds-say-end
 slice_bounds-say-end c =
     
-    omega (arith, c.step-t.ensures.1.1, c.step-t.kept.1.1.1.1.1.1.0)
+    omega (arith, c.step-t.ensures.used_in_bounds.1, c.step-t.kept.1.1.1.1.1.1.0)
 
 pub shape_of-out-then-not-say : goal.shape_of-out-then-not-say
 shape_of-out-then-not-say c =
@@ -40,7 +40,7 @@ pub overflow_add-at : goal.overflow_add-at
 overflow_add-at c =
     let s = c.args.s.now in
     let l = c.loop-at in
-    omega (arith, c.step-t.ensures.1.0, length-take (length s - l.at) (drop l.at s), l.invariant.within, c.well_formed.1.1.1.1.0.0)
+    omega (arith, c.step-t.ensures.used_in_bounds.0, length-take (length s - l.at) (drop l.at s), l.invariant.within, c.well_formed.1.1.1.1.0.0)
 
 pub loop-at-smaller : goal.loop-at-smaller
 loop-at-smaller c =
@@ -51,7 +51,7 @@ loop-at-smaller c =
       arith,
       used_some rack_program (rack_state a.run.bench a.m.now a.reply.now) (take a.run.have a.kept.now) a.s.now a.out.now (rack_state l.bench l.m l.reply) (take l.have l.auto) l.out l.at l.invariant
           (stream_buffers (rack_state t.result.bench t.new.1.0 t.new.1.1.0) (take t.result.have t.new.1.1.1.0) t.result.used t.result.wrote t.new.1.1.1.1.1.1.0)
-          t.ensures.0 (omega (arith, l.invariant.out_len, c.requires)) c.loop-at-test.true,
+          t.ensures.out_after (omega (arith, l.invariant.out_len, c.requires)) c.loop-at-test.true,
       c.loop-at-test.true,
     )
 
@@ -62,7 +62,7 @@ loop-at-preserved c =
     let t = c.step-t in
     goes rack_program (rack_state a.run.bench a.m.now a.reply.now) (take a.run.have a.kept.now) a.s.now a.out.now (rack_state l.bench l.m l.reply) (take l.have l.auto) l.out l.at l.invariant
     (stream_buffers (rack_state t.result.bench t.new.1.0 t.new.1.1.0) (take t.result.have t.new.1.1.1.0) t.result.used t.result.wrote t.new.1.1.1.1.1.1.0)
-    t.ensures.0 t.ensures.1.0 t.new.1.1.1.1.1.1.0 t.auto.1.1.1.1.1.1.0
+    t.ensures.out_after t.ensures.used_in_bounds.0 t.new.1.1.1.1.1.1.0 t.auto.1.1.1.1.1.1.0
 
 pub shape_of-out : goal.shape_of-out
 shape_of-out c = c.loop-at.invariant.out_len

@@ -35,7 +35,7 @@ put_frame-n-requires c =
 pub slice_bounds-call_line-end-in-Frame-2 : goal.slice_bounds-call_line-end-in-Frame-2
 slice_bounds-call_line-end-in-Frame-2 c =
     let w = c.put_frame-n in
-    omega (arith, w.ensures.1.0, length-take w.result w.new.1.0)
+    omega (arith, w.ensures.upper_bound, length-take w.result w.new.1.0)
 
 pub slice_bounds-add_line-count : goal.slice_bounds-add_line-count
 slice_bounds-add_line-count c = omega (arith, add-framed c)
@@ -57,7 +57,7 @@ put_frame-n-requires-in-Search c =
 pub slice_bounds-search_line-end-in-Search : goal.slice_bounds-search_line-end-in-Search
 slice_bounds-search_line-end-in-Search c =
     let w = c.put_frame-n-in-Search in
-    omega (arith, w.ensures.1.0, length-take w.result w.new.1.0)
+    omega (arith, w.ensures.upper_bound, length-take w.result w.new.1.0)
 
 pub returns-in-Bad : goal.returns-in-Bad
 unfolding rack_line_by rack_line_answer rack_frame
@@ -68,7 +68,7 @@ returns-in-Bad c =
     let s = a.s.now in
     let st = rack_state a.bench a.m.now a.reply.now in
     settled st s a.text.now (rack_line_by Bad (drop 2 s)) (line_stored (rack_state w.result.bench a.m.now a.reply.now) w.result.length w.new.1.0) a.frame.now a.frame.now
-    (said s _ Bad r.ensures c.enum_told-1.given.1)
+    (said s _ Bad r.ensures c.in-Bad.is)
     (w.ensures a.m.now a.reply.now)
     refl
 
@@ -81,7 +81,7 @@ returns-in-Signal c =
     let s = a.s.now in
     let st = rack_state a.bench a.m.now a.reply.now in
     settled st s a.text.now (rack_line_by (Signal _ _) (drop 2 s)) (line_stored (rack_state w.result.bench w.new.1.0 w.new.1.1.0) w.result.length w.new.1.1.1.1.1.1.0) a.frame.now a.frame.now
-    (said s _ (Signal _ _) r.ensures c.code-1.given.1)
+    (said s _ (Signal _ _) r.ensures c.in-Signal.is)
     w.ensures
     refl
 
@@ -95,9 +95,9 @@ returns-in-Frame c =
     let s = a.s.now in
     let st = rack_state a.bench a.m.now a.reply.now in
     settled st s a.text.now (rack_line_by Frame (drop 2 s)) (line_stored (rack_state w.result.bench w.new.1.0 w.new.1.1.0) w.result.length w.new.1.1.1.1.1.1.0) a.frame.now f.new.1.0
-    (said s _ Frame r.ensures c.enum_told-in-Frame-1.given.1)
-    (w.ensures ∙ ap (λ (z : List ℕ). stores_line (call_answered 8 0 st z) a.text.now) (rw (behind_tab s) at f.ensures.0))
-    (rw (behind_tab s) at f.ensures.1.1)
+    (said s _ Frame r.ensures c.in-Frame.is)
+    (w.ensures ∙ ap (λ (z : List ℕ). stores_line (call_answered 8 0 st z) a.text.now) (rw (behind_tab s) at f.ensures.frame_after))
+    (rw (behind_tab s) at f.ensures.frame_after_2)
 
 pub returns-in-Add : goal.returns-in-Add
 unfolding rack_line_by rack_line_answer rack_frame
@@ -108,7 +108,7 @@ returns-in-Add c =
     let s = a.s.now in
     let st = rack_state a.bench a.m.now a.reply.now in
     settled st s a.text.now (rack_line_by Add (drop 2 s)) (line_stored (rack_state w.result.bench w.new.1.0 a.reply.now) w.result.length w.new.1.1.1.1.0) a.frame.now a.frame.now
-    (said s _ Add r.ensures c.enum_told-in-Add-1.given.1)
+    (said s _ Add r.ensures c.in-Add.is)
     (w.ensures ∙ ap (λ (z : List ℕ). stores_line (add_answered (uid_of z) st) a.text.now) (behind_tab s))
     refl
 
@@ -121,7 +121,7 @@ returns-in-Name c =
     let s = a.s.now in
     let st = rack_state a.bench a.m.now a.reply.now in
     settled st s a.text.now (rack_line_by (Name _) (drop 2 s)) (line_stored (rack_state w.result.bench a.m.now a.reply.now) w.result.length w.new.1.1.1.0) a.frame.now a.frame.now
-    (said s _ (Name _) r.ensures c.to-1.given.1)
+    (said s _ (Name _) r.ensures c.in-Name.is)
     (w.ensures a.m.now)
     refl
 
@@ -135,6 +135,6 @@ returns-in-Search c =
     let s = a.s.now in
     let st = rack_state a.bench a.m.now a.reply.now in
     settled st s a.text.now (rack_line_by Search (drop 2 s)) (line_stored (rack_state w.result.bench w.new.1.0 w.new.1.1.0) w.result.length w.new.1.1.1.1.0) a.frame.now f.new.1.0
-    (said s _ Search r.ensures c.enum_told-in-Search-1.given.1)
-    (w.ensures ∙ ap (λ (z : List ℕ). stores_line (search_answered st z) a.text.now) (rw (behind_tab s) at f.ensures.0))
-    (rw (behind_tab s) at f.ensures.1.1)
+    (said s _ Search r.ensures c.in-Search.is)
+    (w.ensures ∙ ap (λ (z : List ℕ). stores_line (search_answered st z) a.text.now) (rw (behind_tab s) at f.ensures.frame_after))
+    (rw (behind_tab s) at f.ensures.frame_after_2)

@@ -6,7 +6,7 @@ pub slice_bounds-search-end-2 : goal.slice_bounds-search-end-2
 slice_bounds-search-end-2 c =
     let l = c.memory_length-end in
     
-    omega (arith, l.ensures.1, c.requires, length-take l.result c.args.m.now)
+    omega (arith, l.ensures.upper_bound, c.requires, length-take l.result c.args.m.now)
 
 pub returns : goal.returns
 returns c =
@@ -16,4 +16,4 @@ returns c =
     let l = c.memory_length-end in
     let a = c.args in
     search_stored a.bench a.m.now a.reply.now a.text.now t.result.tags t.new.1.1.0 t.new.1.1.1.0 p.new.0 l.result n.result p.result
-    l.ensures.0 t.ensures.1 n.ensures a.frame.now t.result.answer t.ensures.0 p.ensures.0 p.ensures.1
+    l.ensures.value t.ensures.tags_value n.ensures a.frame.now t.result.answer t.ensures.out_after p.ensures.value p.ensures.text_after

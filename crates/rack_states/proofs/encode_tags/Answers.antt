@@ -43,7 +43,7 @@ loop-i-preserved c =
     let l = c.loop-i in
     
     encoding_more c.args.s.now c.args.t1 l.s l.i l.at (l.at + 87 - l.at) _ c.encode.new.s
-    l.invariant (sixteen c) (fewer c) (room c) (omega arith) c.encode.ensures.0 c.encode.ensures.1
+    l.invariant (sixteen c) (fewer c) (room c) (omega arith) c.encode.ensures.s_after c.encode.ensures.t_len
     (same_len_mid l.at (l.at + 87 - l.at) l.s c.encode.new.s c.encode.auto.s)
 
 pub returns : goal.returns

@@ -70,7 +70,7 @@ end_line-o-requires c =
     c.loop-end.invariant.few
 
 pub overflow_add-at : goal.overflow_add-at
-overflow_add-at c = omega (arith, c.end_line-o.ensures.1, roomy c, c.loop-end.invariant.out_len, c.loop-end.invariant.fits, c.well_formed.1.1.1.1.1.1.0.0)
+overflow_add-at c = omega (arith, c.end_line-o.ensures.length_le_text_room, roomy c, c.loop-end.invariant.out_len, c.loop-end.invariant.fits, c.well_formed.1.1.1.1.1.1.0.0)
 
 pub overflow_add-from : goal.overflow_add-from
 overflow_add-from c = omega (arith, less c, c.well_formed.1.1.1.1.1.0.0)
@@ -88,7 +88,7 @@ loop-end-preserved c =
     let o = c.end_line-o in
     turns rack_program (rack_state a.bench a.m.now a.reply.now) (take n.result a.kept.now) a.s.now a.out.now (rack_state l.bench l.m l.reply) l.auto l.out l.n l.from l.at l.end l.invariant
     rack_tells (rack_state o.result.bench o.new.1.0 o.new.1.1.0) o.result.length o.new.1.1.1.0 o.new.1.1.1.1.1.1.1.0 c.line_end-end-in-loop-end.result
-    (less c) (roomy c) o.ensures.0 o.ensures.1 o.auto.1.1.1.1.1.1.1.0 c.line_end-end-in-loop-end.ensures
+    (less c) (roomy c) o.ensures.text_after o.ensures.length_le_text_room o.auto.1.1.1.1.1.1.1.0 c.line_end-end-in-loop-end.ensures
 
 pub slice_bounds-hold-count : goal.slice_bounds-hold-count
 slice_bounds-hold-count c = omega (arith, c.loop-end.invariant.next)
@@ -113,5 +113,5 @@ returns c =
     let l = c.loop-end in
     let n = c.kept_count-n in
     let st = rack_state a.bench a.m.now a.reply.now in
-    record { out_after = ends rack_program st (take n.result a.kept.now) a.s.now a.out.now (rack_state l.bench l.m l.reply) l.kept l.out l.n l.from l.at l.end l.invariant (take c.hold-rest.result c.hold-rest.new.kept) c.loop-end-test.false c.hold-rest.ensures.0
+    record { out_after = ends rack_program st (take n.result a.kept.now) a.s.now a.out.now (rack_state l.bench l.m l.reply) l.kept l.out l.n l.from l.at l.end l.invariant (take c.hold-rest.result c.hold-rest.new.kept) c.loop-end-test.false c.hold-rest.ensures.kept_after
           ∙ ap (λ (h : List ℕ). puts (piece_by rack_program (length a.out.now) st h a.s.now) a.out.now) (take_within a.kept.now a.have n.result n.ensures); used_in_bounds = (l.invariant.within, l.invariant.fits) }

@@ -12,7 +12,7 @@ returns-then-byte_at-eq1 c =
     
     
     
-    rw (← c.byte_at.ensures, eq-eqb _ 1 c.if-byte_at-eq1.taken, ← c.counted_dynamic-d.ensures, ← c.is_open_transfer-open.ensures) c.inventory.ensures
+    rw (← c.byte_at.ensures, eq-eqb _ 1 c.if-byte_at-eq1.true, ← c.counted_dynamic-d.ensures, ← c.is_open_transfer-open.ensures) c.inventory.ensures
 
 pub returns : goal.returns
 unfolding radio_of pick
@@ -20,4 +20,4 @@ returns c =
     
     
     
-    rw (← c.byte_at.ensures, ne_eqb _ 1 c.if-byte_at-eq1.left) c.request.ensures
+    rw (← c.byte_at.ensures, ne_eqb _ 1 c.if-byte_at-eq1.false) c.request.ensures

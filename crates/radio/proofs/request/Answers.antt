@@ -14,7 +14,7 @@ pub returns-in-Silence : goal.returns-in-Silence
 unfolding verdict_result answer_of buffer_of
 returns-in-Silence c =
     
-    rw (← verdict c, c.enum_told-1.given.1)
+    rw (← verdict c, c.in-Silence.is)
 
 pub returns-in-Error : goal.returns-in-Error
 unfolding verdict_result
@@ -25,7 +25,7 @@ returns-in-Error c =
     
     let a = c.args in
     said (verdict_result (verdict_of a.v a.u a.transfer a.programming a.f.now) a.v a.u a.vcc a.m.now a.f.now) a.out.now _ c.error.ensures
-    (rw (← verdict c, c.e-1.given.1))
+    (rw (← verdict c, c.in-Error.is))
 
 pub returns-in-Request : goal.returns-in-Request
 unfolding verdict_result
@@ -34,4 +34,4 @@ returns-in-Request c =
     
     
     
-    rw (← verdict c, c.enum_told-in-Request-1.given.1, ← c.fields.ensures) c.serve.ensures
+    rw (← verdict c, c.in-Request.is, ← c.fields.ensures) c.serve.ensures

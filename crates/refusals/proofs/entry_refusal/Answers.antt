@@ -10,7 +10,7 @@ returns-in-RefusedBy c =
     
     let a = c.args in
     let call = handed_in a.out.now a.code a.value a.frame.now in
-    sym (append_refused (call_rules a.m.now call) (later_rules a.t a.m.now call) _ (sym c.call_refusal-first.ensures ∙ c.first-1.given.1))
+    sym (append_refused (call_rules a.m.now call) (later_rules a.t a.m.now call) _ (sym c.call_refusal-first.ensures ∙ c.in-RefusedBy.is))
 
 pub returns-in-NoRefusal : goal.returns-in-NoRefusal
 returns-in-NoRefusal c =
@@ -18,4 +18,4 @@ returns-in-NoRefusal c =
     let a = c.args in
     let call = handed_in a.out.now a.code a.value a.frame.now in
     c.later_refusal.ensures
-    ∙ sym (append_none (call_rules a.m.now call) (later_rules a.t a.m.now call) (sym c.call_refusal-first.ensures ∙ c.enum_told-1.given.1))
+    ∙ sym (append_none (call_rules a.m.now call) (later_rules a.t a.m.now call) (sym c.call_refusal-first.ensures ∙ c.in-NoRefusal.is))

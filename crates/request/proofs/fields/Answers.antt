@@ -9,4 +9,4 @@ returns c =
     
     
     
-    rw (c.own_uid.ensures, c.option.ensures, c.param-2.ensures, c.param.ensures, c.command_of-command.ensures, c.command.ensures, c.param_place-at.ensures.0)
+    rw (c.own_uid.ensures, c.option.ensures, c.param-2.ensures, c.param.ensures, c.command_of-command.ensures, c.command.ensures, c.param_place-at.ensures.value)

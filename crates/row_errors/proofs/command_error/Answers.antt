@@ -5,72 +5,72 @@ use Rattle.row_errors.proofs.command_error.Goals as goal
 
 pub returns-in-StayQuiet : goal.returns-in-StayQuiet
 unfolding first_says first_applying command_errors
-returns-in-StayQuiet c dynamic busy = rw c.enum_told-1.given.1
+returns-in-StayQuiet c dynamic busy = rw c.in-StayQuiet.is
 
 pub returns-in-Select : goal.returns-in-Select
 unfolding first_says first_applying command_errors
-returns-in-Select c dynamic busy = rw c.enum_told-in-Select-1.given.1
+returns-in-Select c dynamic busy = rw c.in-Select.is
 
 pub returns-in-ResetToReady : goal.returns-in-ResetToReady
 unfolding first_says first_applying command_errors
-returns-in-ResetToReady c dynamic busy = rw c.enum_told-in-ResetToReady-1.given.1
+returns-in-ResetToReady c dynamic busy = rw c.in-ResetToReady.is
 
 pub returns-in-ReadSingleBlock : goal.returns-in-ReadSingleBlock
 unfolding command_errors
-returns-in-ReadSingleBlock c dynamic busy = rw c.enum_told-in-ReadSingleBlock-1.given.1 (c.read_error.ensures dynamic busy)
+returns-in-ReadSingleBlock c dynamic busy = rw c.in-ReadSingleBlock.is (c.read_error.ensures dynamic busy)
 
 pub returns-in-ReadMultipleBlocks : goal.returns-in-ReadMultipleBlocks
 unfolding command_errors
-returns-in-ReadMultipleBlocks c dynamic busy = rw c.enum_told-in-ReadMultipleBlocks-1.given.1 (c.read_error-in-ReadMultipleBlocks.ensures dynamic busy)
+returns-in-ReadMultipleBlocks c dynamic busy = rw c.in-ReadMultipleBlocks.is (c.read_error-in-ReadMultipleBlocks.ensures dynamic busy)
 
 pub returns-in-WriteSingleBlock : goal.returns-in-WriteSingleBlock
 unfolding command_errors
-returns-in-WriteSingleBlock c dynamic busy = rw c.enum_told-in-WriteSingleBlock-1.given.1 (c.write_error.ensures dynamic busy)
+returns-in-WriteSingleBlock c dynamic busy = rw c.in-WriteSingleBlock.is (c.write_error.ensures dynamic busy)
 
 pub returns-in-WriteMultipleBlocks : goal.returns-in-WriteMultipleBlocks
 unfolding command_errors
-returns-in-WriteMultipleBlocks c dynamic busy = rw c.enum_told-in-WriteMultipleBlocks-1.given.1 (c.write_error-in-WriteMultipleBlocks.ensures dynamic busy)
+returns-in-WriteMultipleBlocks c dynamic busy = rw c.in-WriteMultipleBlocks.is (c.write_error-in-WriteMultipleBlocks.ensures dynamic busy)
 
 pub returns-in-LockBlock : goal.returns-in-LockBlock
 unfolding command_errors
-returns-in-LockBlock c dynamic busy = rw c.enum_told-in-LockBlock-1.given.1 (c.lock_error.ensures dynamic busy)
+returns-in-LockBlock c dynamic busy = rw c.in-LockBlock.is (c.lock_error.ensures dynamic busy)
 
 pub returns-in-GetMultipleBlockSecurityStatus : goal.returns-in-GetMultipleBlockSecurityStatus
 unfolding command_errors
-returns-in-GetMultipleBlockSecurityStatus c dynamic busy = rw c.enum_told-in-GetMultipleBlockSecurityStatus-1.given.1 (c.status_error.ensures dynamic busy)
+returns-in-GetMultipleBlockSecurityStatus c dynamic busy = rw c.in-GetMultipleBlockSecurityStatus.is (c.status_error.ensures dynamic busy)
 
 pub returns-in-ReadConfiguration : goal.returns-in-ReadConfiguration
 unfolding command_errors
-returns-in-ReadConfiguration c dynamic busy = rw c.enum_told-in-ReadConfiguration-1.given.1 (c.read_config_error.ensures dynamic busy)
+returns-in-ReadConfiguration c dynamic busy = rw c.in-ReadConfiguration.is (c.read_config_error.ensures dynamic busy)
 
 pub returns-in-WriteConfiguration : goal.returns-in-WriteConfiguration
 unfolding command_errors
-returns-in-WriteConfiguration c dynamic busy = rw c.enum_told-in-WriteConfiguration-1.given.1 (c.write_config_error.ensures dynamic busy)
+returns-in-WriteConfiguration c dynamic busy = rw c.in-WriteConfiguration.is (c.write_config_error.ensures dynamic busy)
 
 pub returns-in-ReadDynamicConfiguration : goal.returns-in-ReadDynamicConfiguration
 unfolding command_errors
-returns-in-ReadDynamicConfiguration c dynamic busy = rw c.enum_told-in-ReadDynamicConfiguration-1.given.1 (c.dynamic_error.ensures dynamic busy)
+returns-in-ReadDynamicConfiguration c dynamic busy = rw c.in-ReadDynamicConfiguration.is (c.dynamic_error.ensures dynamic busy)
 
 pub returns-in-WriteDynamicConfiguration : goal.returns-in-WriteDynamicConfiguration
 unfolding command_errors
-returns-in-WriteDynamicConfiguration c dynamic busy = rw c.enum_told-in-WriteDynamicConfiguration-1.given.1 (c.dynamic_error-in-WriteDynamicConfiguration.ensures dynamic busy)
+returns-in-WriteDynamicConfiguration c dynamic busy = rw c.in-WriteDynamicConfiguration.is (c.dynamic_error-in-WriteDynamicConfiguration.ensures dynamic busy)
 
 pub returns-in-WriteMessage : goal.returns-in-WriteMessage
 unfolding command_errors
-returns-in-WriteMessage c dynamic busy = rw c.enum_told-in-WriteMessage-1.given.1 (c.write_message_error.ensures dynamic busy)
+returns-in-WriteMessage c dynamic busy = rw c.in-WriteMessage.is (c.write_message_error.ensures dynamic busy)
 
 pub returns-in-ReadMessageLength : goal.returns-in-ReadMessageLength
 unfolding command_errors
-returns-in-ReadMessageLength c dynamic busy = rw c.enum_told-in-ReadMessageLength-1.given.1 (c.length_error.ensures dynamic busy)
+returns-in-ReadMessageLength c dynamic busy = rw c.in-ReadMessageLength.is (c.length_error.ensures dynamic busy)
 
 pub returns-in-ReadMessage : goal.returns-in-ReadMessage
 unfolding command_errors
-returns-in-ReadMessage c dynamic busy = rw c.enum_told-in-ReadMessage-1.given.1 (c.read_message_error.ensures dynamic busy)
+returns-in-ReadMessage c dynamic busy = rw c.in-ReadMessage.is (c.read_message_error.ensures dynamic busy)
 
 pub returns-in-PresentPassword : goal.returns-in-PresentPassword
 unfolding command_errors
-returns-in-PresentPassword c dynamic busy = rw c.enum_told-in-PresentPassword-1.given.1 (c.present_error.ensures dynamic busy)
+returns-in-PresentPassword c dynamic busy = rw c.in-PresentPassword.is (c.present_error.ensures dynamic busy)
 
 pub returns-in-WritePassword : goal.returns-in-WritePassword
 unfolding command_errors
-returns-in-WritePassword c dynamic busy = rw c.enum_told-in-WritePassword-1.given.1 (c.write_password_error.ensures dynamic busy)
+returns-in-WritePassword c dynamic busy = rw c.in-WritePassword.is (c.write_password_error.ensures dynamic busy)

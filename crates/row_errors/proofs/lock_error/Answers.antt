@@ -18,7 +18,7 @@ returns-then-is_locked c dynamic busy =
     
     
     
-    let low : c.param-block.result < 2 = omega (arith, c.if-block-gt1.left) in
+    let low : c.param-block.result < 2 = omega (arith, c.if-block-gt1.false) in
     rw (← c.param-block.ensures, ← c.is_locked.ensures) (search (picks, low) depth 20)
 
 pub returns : goal.returns
@@ -27,5 +27,5 @@ returns c dynamic busy =
     
     
     
-    let low : c.param-block.result < 2 = omega (arith, c.if-block-gt1.left) in
+    let low : c.param-block.result < 2 = omega (arith, c.if-block-gt1.false) in
     rw (← c.param-block.ensures, ← c.is_locked.ensures) (search (picks, low) depth 20)

@@ -22,7 +22,7 @@ returns-then-first-ge-BLOCKS c dynamic busy =
     
     
     
-    let low : c.more_blocks_lem.result < 4 = omega (arith, c.if-more-gt3.left) in
+    let low : c.more_blocks_lem.result < 4 = omega (arith, c.if-more-gt3.false) in
     rw (← c.param-first.ensures, ← c.more_blocks_lem.ensures) (search (picks, low) depth 20)
 
 pub returns-then-leaves_area : goal.returns-then-leaves_area
@@ -32,7 +32,7 @@ returns-then-leaves_area c dynamic busy =
     
     
     
-    let low : c.more_blocks_lem.result < 4 = omega (arith, c.if-more-gt3.left) in
+    let low : c.more_blocks_lem.result < 4 = omega (arith, c.if-more-gt3.false) in
     rw (← c.param-first.ensures, ← c.more_blocks_lem.ensures, ← c.leaves_area.ensures) (search (picks, low) depth 20)
 
 pub returns-then-not-all_allowed : goal.returns-then-not-all_allowed
@@ -43,11 +43,11 @@ returns-then-not-all_allowed c dynamic busy =
     
     
     
-    let low : c.more_blocks_lem.result < 4 = omega (arith, c.if-more-gt3.left) in
+    let low : c.more_blocks_lem.result < 4 = omega (arith, c.if-more-gt3.false) in
     
     
     let v = c.args.v in
-    let within = inside _ _ _ (sym c.leaves_area.ensures ∙ c.if-leaves_area.left) in
+    let within = inside _ _ _ (sym c.leaves_area.ensures ∙ c.if-leaves_area.false) in
     let may =
     writes_by_verdict v.core v.air.session c.param-first.result (c.more_blocks_lem.result + 1) (omega (arith, within)) ∙ sym c.all_allowed.ensures in
     rw (← c.param-first.ensures, ← c.more_blocks_lem.ensures, ← c.leaves_area.ensures, may) (search (picks, low) depth 20)
@@ -60,11 +60,11 @@ returns c dynamic busy =
     
     
     
-    let low : c.more_blocks_lem.result < 4 = omega (arith, c.if-more-gt3.left) in
+    let low : c.more_blocks_lem.result < 4 = omega (arith, c.if-more-gt3.false) in
     
     
     let v = c.args.v in
-    let within = inside _ _ _ (sym c.leaves_area.ensures ∙ c.if-leaves_area.left) in
+    let within = inside _ _ _ (sym c.leaves_area.ensures ∙ c.if-leaves_area.false) in
     let may =
     writes_by_verdict v.core v.air.session c.param-first.result (c.more_blocks_lem.result + 1) (omega (arith, within)) ∙ sym c.all_allowed.ensures in
     rw (← c.param-first.ensures, ← c.more_blocks_lem.ensures, ← c.leaves_area.ensures, may) (search (picks, low) depth 20)

@@ -17,7 +17,7 @@ unfolding first_says error_applies first_applying
 returns-then-v-n c dynamic busy =
     
     
-    let low : c.param-n.result < 4 = omega (arith, c.if-n-gt3.left) in
+    let low : c.param-n.result < 4 = omega (arith, c.if-n-gt3.false) in
     rw (← c.param-n.ensures) (search (picks, low) depth 20)
 
 pub returns : goal.returns
@@ -25,5 +25,5 @@ unfolding first_says error_applies first_applying
 returns c dynamic busy =
     
     
-    let low : c.param-n.result < 4 = omega (arith, c.if-n-gt3.left) in
+    let low : c.param-n.result < 4 = omega (arith, c.if-n-gt3.false) in
     rw (← c.param-n.ensures) (search (picks, low) depth 20)

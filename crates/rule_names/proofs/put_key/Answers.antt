@@ -13,7 +13,7 @@ use Rattle.rule_names.proofs.put_key.Goals as goal
 
 pub returns-in-Unnumbered : goal.returns-in-Unnumbered
 unfolding key_text
-returns-in-Unnumbered c = rw c.enum_told-1.given.1 (nothing_stored _ _ (omega arith))
+returns-in-Unnumbered c = rw c.in-Unnumbered.is (nothing_stored _ _ (omega arith))
 
 pub returns-in-Numbered : goal.returns-in-Numbered
 unfolding key_text
@@ -25,5 +25,5 @@ returns-in-Numbered c =
     let o = a.text.now in
     let mark = c.put_mark-number in
     let room : length o ≤ last_place = omega arith in
-    rw c.key-1.given.1
+    rw c.in-Numbered.is
     (c.put_decimal.ensures ∙ behind o mark.last.0 (0x20 ∷ []) (decimal _) a.at mark.result room mark.ensures)

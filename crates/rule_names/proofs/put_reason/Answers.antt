@@ -26,7 +26,7 @@ returns-in-SessionNeeded c =
     let name = c.put_name-end in
     let words : name_at number.result ≡ string_bytes (reason_words a.reason) = ap name_at number.ensures ∙ reason_named a.reason in
     let room : length o ≤ last_place = omega arith in
-    rw (← words, c.reason-1.given.1)
+    rw (← words, c.in-SessionNeeded.is)
     (c.put_key.ensures ∙ behind o name.last.0 (name_at number.result) (key_text _) a.at name.result room name.ensures)
 
 pub returns-in_default : goal.returns-in_default
@@ -37,4 +37,4 @@ returns-in_default c =
     let a = c.args in
     let number = c.number in
     let words : name_at number.result ≡ string_bytes (reason_words a.reason) = ap name_at number.ensures ∙ reason_named a.reason in
-    rw (← words, nothing_after a.reason c.in_default.keys2, append-nil) c.put_name-end.ensures
+    rw (← words, nothing_after a.reason c.in_default.in_default-own.keys2, append-nil) c.put_name-end.ensures

@@ -11,10 +11,10 @@ pub returns-in-Allowed : goal.returns-in-Allowed
 unfolding verdict_text string_bytes bytes_at
 returns-in-Allowed c =
     
-    rw c.enum_told-1.given.1 c.put_part.ensures
+    rw c.in-Allowed.is c.put_part.ensures
 
 pub returns-in-Forbidden : goal.returns-in-Forbidden
 unfolding verdict_text
 returns-in-Forbidden c =
     
-    rw c.verdict-1.given.1 c.put_reason.ensures
+    rw c.in-Forbidden.is c.put_reason.ensures

@@ -46,7 +46,7 @@ returns-in-Bad c =
     let a = c.args in
     let s = a.s.now in
     let f = a.frame.now in
-    let e = said s _ _ c.read.ensures c.enum_told-1.given.1 in
+    let e = said s _ _ c.read.ensures c.in-Bad.is in
     record { frame_after = λ named b m o. ap (λ (x : ScriptLine). line_result named x b m o) (sym e); length_in_bounds = omega arith; frame_after_2 = ap (λ (x : ScriptLine). sets f 0 (closed_frame x)) (sym e) }
 
 pub returns-in-Signal : goal.returns-in-Signal
@@ -56,7 +56,7 @@ returns-in-Signal c =
     let a = c.args in
     let s = a.s.now in
     let f = a.frame.now in
-    let e = said s _ _ c.read.ensures c.code-1.given.1 in
+    let e = said s _ _ c.read.ensures c.in-Signal.is in
     record { frame_after = λ named b m o. ap (λ (x : ScriptLine). line_result named x b m o) (sym e); length_in_bounds = omega arith; frame_after_2 = ap (λ (x : ScriptLine). sets f 0 (closed_frame x)) (sym e) }
 
 pub returns-in-Frame : goal.returns-in-Frame
@@ -66,8 +66,8 @@ returns-in-Frame c =
     
     let a = c.args in
     let s = a.s.now in
-    let e = said s _ _ c.read.ensures c.enum_told-in-Frame-1.given.1 in
+    let e = said s _ _ c.read.ensures c.in-Frame.is in
     let t : take (length s - 2) (drop 2 s) ≡ drop 2 s = take_all (length s - 2) (drop 2 s) (omega (arith, length-drop 2 s)) in
-    let f : take c.put_frame.result c.put_frame.new.frame ≡ closed (hex_bytes (drop 2 s)) = rw t at c.put_frame.ensures.0 in
-    let g : c.put_frame.new.frame ≡ sets a.frame.now 0 (closed (hex_bytes (drop 2 s))) = rw t at c.put_frame.ensures.1.1 in
-    record { frame_after = λ named b m o. ap (λ (x : List ℕ). bench_call named b m o 8 0 x) f ∙ ap (λ (x : ScriptLine). line_result named x b m o) (sym e); length_in_bounds = c.put_frame.ensures.1.0; frame_after_2 = g ∙ ap (λ (x : ScriptLine). sets a.frame.now 0 (closed_frame x)) (sym e) }
+    let f : take c.put_frame.result c.put_frame.new.frame ≡ closed (hex_bytes (drop 2 s)) = rw t at c.put_frame.ensures.frame_after in
+    let g : c.put_frame.new.frame ≡ sets a.frame.now 0 (closed (hex_bytes (drop 2 s))) = rw t at c.put_frame.ensures.frame_after_2 in
+    record { frame_after = λ named b m o. ap (λ (x : List ℕ). bench_call named b m o 8 0 x) f ∙ ap (λ (x : ScriptLine). line_result named x b m o) (sym e); length_in_bounds = c.put_frame.ensures.upper_bound; frame_after_2 = g ∙ ap (λ (x : ScriptLine). sets a.frame.now 0 (closed_frame x)) (sym e) }

@@ -9,4 +9,4 @@ pub returns : goal.returns
 unfolding answer_text name_field pick
 returns c =
     
-    λ (m : List ℕ). rw (c.put_line-length.ensures.1, c.put_line-length.ensures.0, c.next_line-number.ensures)
+    λ (m : List ℕ). rw (c.put_line-length.ensures.text_after, c.put_line-length.ensures.value, c.next_line-number.ensures)

@@ -7,4 +7,4 @@ returns c =
     
     
     
-    rw (← c.step-o.ensures, c.put_line-length.ensures.1, c.put_line-length.ensures.0, c.next_line-number.ensures, c.rule_named-rule.ensures)
+    rw (← c.step-o.ensures, c.put_line-length.ensures.text_after, c.put_line-length.ensures.value, c.next_line-number.ensures, c.rule_named-rule.ensures)

@@ -23,16 +23,16 @@ returns-then-c c =
     let o = c.bad_line in
     let bad = bad_result a.bench a.m.now a.reply.now in
     let p : bad ≡ bench_of a.named a.bench a.m.now a.reply.now a.s.now =
-    pick_true bad (bench_call a.named a.bench a.m.now a.reply.now k.code k.value (take k.length g.last.1.0)) bad k.bad c.if-c.taken refl
-    ∙ g.ensures.0 a.named a.bench a.m.now a.reply.now in
+    pick_true bad (bench_call a.named a.bench a.m.now a.reply.now k.code k.value (take k.length g.last.1.0)) bad k.bad c.if-c.true refl
+    ∙ g.ensures.frame_after a.named a.bench a.m.now a.reply.now in
     let e : line_buffers o.result.bench o.result.length a.m.now a.reply.now o.new.1.1.0 ≡ put_line (bench_of a.named a.bench a.m.now a.reply.now a.s.now) a.text.now =
     o.ensures a.m.now ∙ ap (λ (x : LineResult). put_line x a.text.now) p in
-    record { text_after = e; length_le_longest_text = omega (arith, ap (λ (x : LineBuffers). x.length) e, text_fits a.named (bench_state a.bench a.m.now a.reply.now) a.s.now); frame_after = g.ensures.1.1 }
+    record { text_after = e; length_le_longest_text = omega (arith, ap (λ (x : LineBuffers). x.length) e, text_fits a.named (bench_state a.bench a.m.now a.reply.now) a.s.now); frame_after = g.ensures.frame_after_2 }
 
 pub slice_bounds-call-end : goal.slice_bounds-call-end
 slice_bounds-call-end c =
     
-    c.arguments_of-c.ensures.1.0
+    c.arguments_of-c.ensures.length_in_bounds
 
 pub returns : goal.returns
 returns c =
@@ -46,9 +46,9 @@ returns c =
     let said = bench_call a.named a.bench a.m.now a.reply.now k.code k.value (take k.length g.new.1.0) in
     let p : said ≡ bench_of a.named a.bench a.m.now a.reply.now a.s.now =
     pick_false (bad_result a.bench a.m.now a.reply.now) said said k.bad c.if-c.false refl
-    ∙ g.ensures.0 a.named a.bench a.m.now a.reply.now in
+    ∙ g.ensures.frame_after a.named a.bench a.m.now a.reply.now in
     let e : line_buffers o.result.bench o.result.length o.new.1.1.0 o.new.1.1.1.0 o.new.1.1.1.1.1.1.1.0 ≡ put_line (bench_of a.named a.bench a.m.now a.reply.now a.s.now) a.text.now =
     o.ensures
     ∙ ap (λ (n : ℕ). put_line (bench_call a.named a.bench a.m.now a.reply.now k.code k.value (take n g.new.1.0)) a.text.now) (sub-zero k.length)
     ∙ ap (λ (x : LineResult). put_line x a.text.now) p in
-    record { text_after = e; length_le_longest_text = omega (arith, ap (λ (x : LineBuffers). x.length) e, text_fits a.named (bench_state a.bench a.m.now a.reply.now) a.s.now); frame_after = g.ensures.1.1 }
+    record { text_after = e; length_le_longest_text = omega (arith, ap (λ (x : LineBuffers). x.length) e, text_fits a.named (bench_state a.bench a.m.now a.reply.now) a.s.now); frame_after = g.ensures.frame_after_2 }

@@ -15,7 +15,7 @@ use Rattle.script.proofs.put_frame.Goals as goal
 pub overflow_add-result : goal.overflow_add-result
 overflow_add-result c =
     
-    omega (arith, c.pre, c.decode-n.ensures.0, length_hex_bytes c.args.s.now)
+    omega (arith, c.requires, c.decode-n.ensures.value, length_hex_bytes c.args.s.now)
 
 pub returns : goal.returns
 returns c =
@@ -25,10 +25,10 @@ returns c =
     let s = a.s.now in
     let n = d.result in
     let l = length_hex_bytes s in
-    let p = c.pre in
+    let p = c.requires in
     let h : length a.frame.now ≡ 602 = search rules in
     let e : c.close.new.out ≡ sets a.frame.now 0 (closed (hex_bytes s)) =
     c.close.ensures
-    ∙ ap (λ (x : List ℕ). closed_at x n) d.ensures.1
-    ∙ closed_at_lem (hex_bytes s) a.frame.now n (sym d.ensures.0) (omega (arith, p, h, l, d.ensures.0)) in
-    record { frame_after = ap (λ (x : List ℕ). take (n + 2) x) e ∙ frame_stored (hex_bytes s) a.frame.now n (sym d.ensures.0) (omega (arith, p, h, l, d.ensures.0)); upper_bound = omega (arith, p, h, l, d.ensures.0, c.close.auto.out ∙ d.auto.1.0); frame_after_2 = e }
+    ∙ ap (λ (x : List ℕ). closed_at x n) d.ensures.out_after
+    ∙ closed_at_lem (hex_bytes s) a.frame.now n (sym d.ensures.value) (omega (arith, p, h, l, d.ensures.value)) in
+    record { frame_after = ap (λ (x : List ℕ). take (n + 2) x) e ∙ frame_stored (hex_bytes s) a.frame.now n (sym d.ensures.value) (omega (arith, p, h, l, d.ensures.value)); upper_bound = omega (arith, p, h, l, d.ensures.value, c.close.auto.out ∙ d.auto.1.0); frame_after_2 = e }

@@ -9,7 +9,7 @@ unfolding serve_code serve_of
 returns-in-Unknown c =
     
     let a = c.args in
-    silent (serve_of a.q a.v a.vcc a.m.now a.f.now) (rw c.enum_told-1.given.1)
+    silent (serve_of a.q a.v a.vcc a.m.now a.f.now) (rw c.in-Unknown.is)
 
 pub returns-in-Known : goal.returns-in-Known
 returns-in-Known c =
@@ -17,4 +17,4 @@ returns-in-Known c =
     
     
     let a = c.args in
-    rw (known_row a.q a.v a.vcc a.m.now a.f.now _ c.code-1.given.1) c.serve_command.ensures
+    rw (known_row a.q a.v a.vcc a.m.now a.f.now _ c.in-Known.is) c.serve_command.ensures

@@ -9,29 +9,29 @@ use Rattle.signal.proofs.start_at.Goals as goal
 
 pub returns-in-Idle : goal.returns-in-Idle
 unfolding start_at settle due_of
-returns-in-Idle c = rw (c.started-next.ensures, c.enum_told-1.given.1)
+returns-in-Idle c = rw (c.started-next.ensures, c.in-Idle.is)
 
 pub returns-in-Started : goal.returns-in-Started
 unfolding start_at settle due_of
-returns-in-Started c = rw (c.started-next.ensures, c.b-1.given.1)
+returns-in-Started c = rw (c.started-next.ensures, c.in-Started.is)
 
 pub returns-in-ReadLeg : goal.returns-in-ReadLeg
 unfolding start_at due_of
 returns-in-ReadLeg c =
     
-    rw (c.End-read.ensures, c.started-next.ensures, c.b-in-ReadLeg-1.given.1) (ap (λ (r : LegResult). wire_result Nothing r.side r.memory) (read_started _ _ _))
+    rw (c.End-read.ensures, c.started-next.ensures, c.in-ReadLeg.is) (ap (λ (r : LegResult). wire_result Nothing r.side r.memory) (read_started _ _ _))
 
 pub returns-in-WriteLeg : goal.returns-in-WriteLeg
 unfolding start_at settle due_of
-returns-in-WriteLeg c = rw (c.started-next.ensures, c.b-in-WriteLeg-1.given.1)
+returns-in-WriteLeg c = rw (c.started-next.ensures, c.in-WriteLeg.is)
 
 pub returns-in-LowAddress : goal.returns-in-LowAddress
 unfolding start_at settle due_of
-returns-in-LowAddress c = rw (c.started-next.ensures, c.b-in-LowAddress-1.given.1)
+returns-in-LowAddress c = rw (c.started-next.ensures, c.in-LowAddress.is)
 
 pub returns-in-DataLeg : goal.returns-in-DataLeg
 unfolding start_at due_of
 returns-in-DataLeg c =
     
     
-    rw c.b-in-DataLeg-1.given.1 (rw (c.started-next.ensures, c.b-in-DataLeg-1.given.1) at (ap (λ (r : LegResult). wire_result Nothing r.side r.memory) c.start_write.ensures))
+    rw c.in-DataLeg.is (rw (c.started-next.ensures, c.in-DataLeg.is) at (ap (λ (r : LegResult). wire_result Nothing r.side r.memory) c.start_write.ensures))

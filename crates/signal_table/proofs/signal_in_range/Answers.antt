@@ -5,8 +5,8 @@ use Rattle.signal_table.proofs.signal_in_range.Goals as goal
 
 pub returns-in-NoSignal : goal.returns-in-NoSignal
 unfolding is_found signal_in_range
-returns-in-NoSignal c = rw (sym c.signal_found-found.ensures ∙ c.enum_told-1.given.1)
+returns-in-NoSignal c = rw (sym c.signal_found-found.ensures ∙ c.in-NoSignal.is)
 
 pub returns-in-Found : goal.returns-in-Found
 unfolding is_found signal_in_range
-returns-in-Found c = rw (sym c.signal_found-found.ensures ∙ c.found-1.given.1)
+returns-in-Found c = rw (sym c.signal_found-found.ensures ∙ c.in-Found.is)

@@ -12,4 +12,4 @@ unfolding uid_differs
 returns c =
     
     
-    rw (c.own_uid-own.ensures, c.command-select.ensures, c.param_place-at.ensures.0, c.crc_place-end.ensures, ← c.byte_at.ensures, eq-eqb _ 1 c.if-byte_at-ne1.false)
+    rw (c.own_uid-own.ensures, c.command-select.ensures, c.param_place-at.ensures.value, c.crc_place-end.ensures, ← c.byte_at.ensures, eq-eqb _ 1 c.if-byte_at-ne1.false)

@@ -4,8 +4,8 @@ use Rattle.state_encode.proofs.space_number.Goals as goal
 
 pub returns-in-User : goal.returns-in-User
 unfolding space_number
-returns-in-User c = rw c.enum_told-1.given.1
+returns-in-User c = rw c.in-User.is
 
 pub returns-in-System : goal.returns-in-System
 unfolding space_number
-returns-in-System c = rw c.enum_told-in-System-1.given.1
+returns-in-System c = rw c.in-System.is

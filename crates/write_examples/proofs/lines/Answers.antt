@@ -8,7 +8,7 @@ loop-at-smaller c =
     
     
     let l = c.loop-at in
-    omega (arith, c.next_at-at.ensures, nearer c.args.s.now l.at l.r.written c.loop-at-test.taken)
+    omega (arith, c.next_at-at.ensures, nearer c.args.s.now l.at l.r.written c.loop-at-test.true)
 
 pub loop-at-preserved : goal.loop-at-preserved
 loop-at-preserved c =

@@ -5,9 +5,9 @@ use Rattle.commands.proofs.CommandCode.param_bytes.Goals as goal
 pub returns-in-Unknown : goal.returns-in-Unknown
 unfolding param_bytes
 returns-in-Unknown c =
-    record { value = rw c.enum_told-1.given.1; upper_bound = search rules }
+    record { value = rw c.in-Unknown.is; upper_bound = search rules }
 
 pub returns-in-Known : goal.returns-in-Known
 unfolding param_bytes
 returns-in-Known c =
-    record { value = rw c.self-1.given.1 c.size_of.ensures.0; upper_bound = search rules }
+    record { value = rw c.in-Known.is c.size_of.ensures.value; upper_bound = search rules }

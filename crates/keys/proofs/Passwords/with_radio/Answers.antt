@@ -5,20 +5,20 @@ use Rattle.keys.proofs.Passwords.with_radio.Goals as goal
 
 pub returns-in-0 : goal.returns-in-0
 unfolding with_radio_password pick
-returns-in-0 c = rw c.in_default.keys1
+returns-in-0 c = rw c.in-0.is
 
 pub returns-in-1 : goal.returns-in-1
 unfolding with_radio_password pick
-returns-in-1 c = rw c.in_default.keys2
+returns-in-1 c = rw c.in-1.is
 
 pub returns-in-2 : goal.returns-in-2
 unfolding with_radio_password pick
-returns-in-2 c = rw c.in_default.keys3
+returns-in-2 c = rw c.in-2.is
 
 pub returns-in-3 : goal.returns-in-3
 unfolding with_radio_password pick
-returns-in-3 c = rw c.in_default.keys4
+returns-in-3 c = rw c.in-3.is
 
 pub returns-in_default : goal.returns-in_default
 unfolding with_radio_password
-returns-in_default c = search (picks, c.in_default.rest.1, c.in_default.rest.0.1, c.in_default.rest.0.0.1, c.in_default.rest.0.0.0) depth 20
+returns-in_default c = search (picks, c.in_default.in_default-own.rest.1, c.in_default.in_default-own.rest.0.1, c.in_default.in_default-own.rest.0.0.1, c.in_default.in_default-own.rest.0.0.0) depth 20

@@ -7,4 +7,4 @@ pub returns : goal.returns
 unfolding control_byte
 returns c =
     
-    rw (c.weight-rf_current.ensures.0, c.weight-host_current.ensures.0, c.weight-rf_put.ensures.0, c.weight-host_put.ensures.0, c.weight-en.ensures.0)
+    rw (c.weight-rf_current.ensures.value, c.weight-host_current.ensures.value, c.weight-rf_put.ensures.value, c.weight-host_put.ensures.value, c.weight-en.ensures.value)

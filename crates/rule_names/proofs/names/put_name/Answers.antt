@@ -12,4 +12,4 @@ pub returns : goal.returns
 unfolding end_to_end starts_from lengths_of names all_rules rule_words silence_words error_words string_bytes
 returns c =
     
-    rw (← piece_is _ c.if-i-ge-COUNT.left) c.put_part.ensures
+    rw (← piece_is _ c.if-i-ge-COUNT.false) c.put_part.ensures

@@ -14,8 +14,8 @@ pub loop-i-init : goal.loop-i-init
 loop-i-init c =
     let k = c.digit_count-k in
     let a = c.args in
-    let e : digits_of k.result a.n ≡ decimal a.n = ap (λ (j : ℕ). digits_of j a.n) k.ensures.0 ∙ digits_enough 20 a.n in
-    (ap (λ (x : List ℕ). sets a.text.now a.at x) e, (ap length e ∙ sym k.ensures.0, (k.ensures.1, refl)))
+    let e : digits_of k.result a.n ≡ decimal a.n = ap (λ (j : ℕ). digits_of j a.n) k.ensures.value ∙ digits_enough 20 a.n in
+    (ap (λ (x : List ℕ). sets a.text.now a.at x) e, (ap length e ∙ sym k.ensures.value, (k.ensures.upper_bound, refl)))
 
 pub loop-i-preserved : goal.loop-i-preserved
 loop-i-preserved c =
@@ -25,7 +25,7 @@ loop-i-preserved c =
     let l = c.loop-i in
     let p = c.put_in in
     let at = c.args.at in
-    let e : l.i ≡ suc (l.i - 1) = omega (arith, c.loop-i-test.taken) in
+    let e : l.i ≡ suc (l.i - 1) = omega (arith, c.loop-i-test.true) in
     let d = digit_stored l.text at (l.i - 1) l.left (ap (λ (j : ℕ). length (digits_of j l.left)) (sym e) ∙ l.invariant.1.0 ∙ e) in (
       ap (λ (x : List ℕ). sets x at (digits_of (l.i - 1) (l.left / 10))) p.ensures
           ∙ d.0
@@ -47,4 +47,4 @@ returns c =
     let e : l.i ≡ 0 = omega (arith, c.loop-i-test.false) in
     let t : l.text ≡ sets a.text.now a.at (decimal a.n) = sym (ap (λ (j : ℕ). sets l.text a.at (digits_of j l.left)) e) ∙ l.invariant.0 in
     ap (λ (x : List ℕ). stored c.after.result x) t
-    ∙ ap (λ (i : ℕ). stored i (sets a.text.now a.at (decimal a.n))) (c.after.ensures ∙ ap (λ (j : ℕ). min (a.at + j) last_place) k.ensures.0)
+    ∙ ap (λ (i : ℕ). stored i (sets a.text.now a.at (decimal a.n))) (c.after.ensures ∙ ap (λ (j : ℕ). min (a.at + j) last_place) k.ensures.value)

@@ -4,8 +4,8 @@ use Rattle.write_reasons.proofs.WriteVerdict.is_allowed.Goals as goal
 
 pub returns-in-Allowed : goal.returns-in-Allowed
 unfolding is_allowed
-returns-in-Allowed c = rw c.enum_told-1.given.1
+returns-in-Allowed c = rw c.in-Allowed.is
 
 pub returns-in-Forbidden : goal.returns-in-Forbidden
 unfolding is_allowed
-returns-in-Forbidden c = rw c.enum_told-in-Forbidden-1.given.1
+returns-in-Forbidden c = rw c.in-Forbidden.is

@@ -2,19 +2,19 @@
 use mathlib.Core.Path.{◌≡◌, refl, sym, subst, ◌∙◌}
 use mathlib.Core.Bool.{Bool, true, false, ◌&&◌, ◌||◌}
 use mathlib.Core.Logic.{⊎_elim}
-use Prim.Native.Nat.{ℕ, ◌+◌, ◌*◌, ◌/◌, ◌%◌, ◌≤◌, ◌<◌}
+use Prim.Native.Nat.{ℕ, ◌+◌, ◌*◌, ◌/◌, ◌%◌, ◌≤◌}
 use native.Mathlib.Omega.{arith}
 use lib.Dec.{leb, ltb, eqb}
-use borrow.Author.Tests.{leb-true, leb-false, ltb-true, ltb-false, eqb-true, eqb-false, le-leb, lt-leb, lt-ltb, eq-eqb}
+use borrow.Author.Tests.{leb-true, leb-false, ltb-true, ltb-false, eqb-true, le-leb, lt-leb, lt-ltb, eq-eqb}
 use Rattle.parts.specs.Pick.{pick}
-use Rattle.parts.proofs.Bools.{and_left, and_right, and_both, or_first, or_second, or_cases}
+use Rattle.parts.proofs.Bools.{and_left, and_right, or_first, or_cases}
 use Rattle.parts.proofs.Picks.{picks}
 use Rattle.register_types.specs.declared.EndA.{EndA}
 use Rattle.registers.specs.declared.Ends.{Ends}
 use Rattle.register_types.specs.Types.{end_a}
 use Rattle.registers.specs.Map.{with_end}
 use Rattle.areas.specs.Claims.{EndKept, ByteInBlocksArea}
-use Rattle.areas.specs.Ends.{last_block, last_byte, area_of_block, area_of_byte, rises, ends_in_range, later_largest, exceeds_before, end_accepted}
+use Rattle.areas.specs.Ends.{last_byte, area_of_block, area_of_byte, rises, ends_in_range, later_largest, exceeds_before, end_accepted}
 
 -- ---- the range as facts
 pub record Rising (e : Ends) : Type 0 where

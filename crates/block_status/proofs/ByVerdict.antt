@@ -1,7 +1,6 @@
 -- The status byte is the verdict's yes or no. Assumes nothing.
-use mathlib.Core.Path.{◌≡◌, sym, ap}
+use mathlib.Core.Path.{sym, ap}
 use mathlib.Core.Bool.{Bool}
-use Prim.Native.Nat.{ℕ}
 use Rattle.parts.specs.Pick.{pick}
 use Rattle.write_rules.proofs.Sides.{block_allowed}
 use Rattle.block_status.specs.Status.{status_of}

@@ -2,25 +2,20 @@
 use mathlib.Core.Path.{◌≡◌, refl, sym, ap₂, ◌∙◌}
 use mathlib.Core.Bool.{Bool, true, false, not, ◌&&◌}
 use mathlib.Core.List.{List, []}
-use Prim.Native.Nat.{ℕ, zero, suc, ◌+◌, ◌*◌, ◌≤◌, ◌<◌}
+use Prim.Native.Nat.{ℕ, zero, suc, ◌+◌, ◌*◌, ◌<◌}
 use native.Mathlib.Omega.{arith}
-use lib.Dec.{leb, eqb}
+use lib.Dec.{leb}
 use lib.Seq.{sets}
 use borrow.Author.Tests.{leb-false, lt-leb}
 use Rattle.parts.specs.Pick.{pick}
 use Rattle.parts.specs.Bytes.{bytes_at}
-use Rattle.tag.specs.declared.Core.{Core}
 use Rattle.errors.specs.declared.RadioError.TheVariants.{NoSuchBlock, WriteForbidden}
 use Rattle.reply.specs.declared.RadioSide.{RadioSide}
 use Rattle.reply.specs.Reply.{good}
 use Rattle.reply.specs.Outcome.{CommandResult, command_result, fails}
-use Rattle.rights.specs.declared.Side.TheVariants.{Radio}
-use Rattle.rights.specs.Rights.{may_write}
-use Rattle.blocks.specs.Blocks.{leaves_area}
 use Rattle.write_reasons.specs.declared.WritePlace.TheVariants.{UserMemory}
 use Rattle.write_reasons.specs.declared.SessionKey.{SessionKey}
 use Rattle.write_reasons.specs.declared.WriteReason.TheVariants.{LockedBlock, AreaNeverWritable, SessionNeeded}
-use Rattle.write_reasons.specs.declared.WriteVerdict.{WriteVerdict}
 use Rattle.write_reasons.specs.declared.WriteVerdict.TheVariants.{Allowed, Forbidden}
 use Rattle.write_reasons.specs.Reasons.{is_allowed}
 use Rattle.write_rules.specs.Situation.{block_place, block_situation}

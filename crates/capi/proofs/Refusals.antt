@@ -9,7 +9,6 @@ use Rattle.tag.specs.declared.Tag.{Tag}
 use Rattle.keys.specs.declared.Uid.{Uid}
 use Rattle.keys.specs.Keys.{uid_at}
 use Rattle.state.specs.Layout.{tag_of}
-use Rattle.reply.specs.Reply.{nothing}
 use Rattle.refusals.proofs.Laws.{judged_case}
 use Rattle.model.proofs.Acts.{signal_of_call}
 use Rattle.model.proofs.Served.{act_served}

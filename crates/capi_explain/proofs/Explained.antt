@@ -1,19 +1,16 @@
 -- An explanation is refused as the step is, and is the tag's. Assumes nothing.
 use Prim.{tt}
-use mathlib.Core.Path.{◌≡◌, refl, sym, ap, subst, ◌∙◌}
-use mathlib.Core.Bool.{true, false, not, false≢true}
-use mathlib.Core.List.{List, [], ◌∷◌}
+use mathlib.Core.Path.{◌≡◌, sym, ap, subst, ◌∙◌}
+use mathlib.Core.Bool.{false, not, false≢true}
+use mathlib.Core.List.{[], ◌∷◌}
 use Prim.Native.Nat.{ℕ, ◌+◌, ◌≤◌, ◌<◌}
 use native.Mathlib.Omega.{arith}
-use lib.Dec.{eqb}
-use lib.ListN.{length}
 use Rattle.tag.specs.declared.Tag.{Tag}
-use Rattle.state.specs.Layout.{state_bytes, bytes_of, decodes, tag_of}
+use Rattle.state.specs.Layout.{bytes_of, tag_of}
 use Rattle.state.proofs.There.{decodes_encoded}
 use Rattle.refusals.specs.declared.Refusal.{Refusal}
 use Rattle.refusals.specs.declared.Judgement.{Judgement}
 use Rattle.refusals.specs.declared.Judgement.TheVariants.{NoRefusal, RefusedBy}
-use Rattle.refusals.specs.Call.{Call}
 use Rattle.refusals.specs.Refusals.{number, call_rules, later_rules, entry_rules, judgement, unless_refused}
 use Rattle.refusals.proofs.Laws.{judged_map, judgement_append, append_idle, NoneApplies}
 use Rattle.library_refusals.specs.Rules.{state_rule, decodes_rule, step_rules}
@@ -23,8 +20,7 @@ use Rattle.model.specs.declared.Answer.TheVariants.{Refused, Nothing, Ack, NoAck
 use Rattle.model.specs.Step.{StepResult, refused, is_refused, act_of, step_of}
 use Rattle.model.proofs.Acts.{signal_of_call}
 use Rattle.model.proofs.Served.{act_served}
-use Rattle.next_state.specs.After.{state_after}
-use Rattle.capi.specs.Interface.{answer_number, CallResult, call_result, step_call}
+use Rattle.capi.specs.Interface.{answer_number, CallResult, step_call}
 use Rattle.capi_explain.specs.Explain.{explain_of, explain_call}
 use Rattle.capi_explain.specs.Claims.{ExplainRefusesAlike, ExplainsTheTag}
 use Rattle.capi.proofs.Tags.{decodes_length, twice}

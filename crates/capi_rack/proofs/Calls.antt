@@ -1,8 +1,8 @@
 -- What the exported functions leave, from what their parts leave. Assumes nothing.
-use mathlib.Core.Path.{◌≡◌, refl, sym, ap, subst, ◌∙◌}
+use mathlib.Core.Path.{◌≡◌, sym, ap, ◌∙◌}
 use mathlib.Core.Bool.{Bool, true}
 use mathlib.Core.List.{List, []}
-use Prim.Native.Nat.{ℕ, ◌≤◌}
+use Prim.Native.Nat.{ℕ}
 use native.Mathlib.Omega.{arith}
 use lib.ListN.{length, take}
 use Rattle.parts.specs.Pick.{pick}
@@ -18,7 +18,7 @@ use Rattle.replies_fit.specs.Claims.{reply_fits}
 use Rattle.calls.specs.Calls.{call_answer}
 use Rattle.capi.specs.Interface.{answer_number, call_result}
 use Rattle.capi.proofs.Calls.{number_fits}
-use Rattle.rack.specs.Rack.{Rack, RackCall, rack_of, rack_call}
+use Rattle.rack.specs.Rack.{Rack, RackCall, rack_of}
 use Rattle.rack.specs.Step.{numbers_from, rack_answer, RackResult, rack_result, rack_entry}
 use Rattle.rack_search.specs.declared.SearchAnswer.{SearchAnswer}
 use Rattle.rack_search.specs.Search.{search_result, search_entry}
@@ -27,7 +27,7 @@ use Rattle.rack_states.proofs.States.{sixteen_first}
 use Rattle.library_rack_refusals.specs.Rules.{rack_at, rack_bytes_rules}
 use Rattle.capi_rack.specs.RackInterface.{mask_of, search_number, rack_call_result, rack_called, rack_step_call, search_called, rack_search_call}
 use Rattle.capi_rack.proofs.Says.{rack_short}
-use Rattle.capi_rack.proofs.Unrefused.{Judged, judged, steps_at, searches_at, step_refused, search_refused, stored_fit}
+use Rattle.capi_rack.proofs.Unrefused.{judged, steps_at, searches_at, step_refused, search_refused, stored_fit}
 
 pub refused_step : (n : ℕ) (s m : List ℕ) (c : RackCall) (x : Refusal) (k : ℕ) → judgement (rack_bytes_rules n s m c.handed) ≡ RefusedBy x → k ≡ number x
     → rack_call_result k 0 s m c.handed.buffer ≡ rack_step_call n s m c

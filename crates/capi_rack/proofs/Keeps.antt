@@ -1,28 +1,27 @@
 -- A refusal leaves every lent byte. Assumes nothing.
-use mathlib.Core.Path.{◌≡◌, refl, sym, ap, subst, ◌∙◌}
+use mathlib.Core.Path.{◌≡◌, refl, sym, ap, ◌∙◌}
 use mathlib.Core.Bool.{Bool, true, false, false≢true}
 use mathlib.Core.List.{List}
 use Prim.Native.Nat.{ℕ, zero, suc, ◌<◌}
 use native.Mathlib.Omega.{arith}
-use Rattle.parts.specs.Pick.{pick}
 use Rattle.parts.proofs.Picks.{pick_case}
 use Rattle.refusals.specs.declared.Refusal.{Refusal}
 use Rattle.refusals.specs.declared.Judgement.{Judgement}
-use Rattle.refusals.specs.declared.Judgement.TheVariants.{NoRefusal, RefusedBy}
+use Rattle.refusals.specs.declared.Judgement.TheVariants.{NoRefusal}
 use Rattle.refusals.specs.Refusals.{judgement, unless_refused}
 use Rattle.refusals.proofs.Laws.{NoneApplies, none_applies, no_refusal, judged_case}
 use Rattle.model.specs.Step.{is_refused}
 use Rattle.calls.specs.Calls.{entry}
-use Rattle.capi.specs.Interface.{answer_number, CallResult, call_result}
+use Rattle.capi.specs.Interface.{CallResult, call_result}
 use Rattle.capi.proofs.Refusals.{number_refused}
 use Rattle.rack.specs.Rack.{Rack, RackCall}
 use Rattle.rack.specs.Rules.{rack_rules}
-use Rattle.rack.specs.Step.{RackResult, RackStep, rack_result, rack_refused, rack_acts, rack_step, rack_entry}
+use Rattle.rack.specs.Step.{RackStep, rack_result, rack_refused, rack_acts, rack_step, rack_entry}
 use Rattle.rack_search.specs.declared.SearchAnswer.{SearchAnswer}
 use Rattle.rack_search.specs.declared.SearchAnswer.TheVariants.{Refused, NoCollision, Collision}
 use Rattle.rack_search.specs.Search.{slot_count, sends_frame, sends_next, collides, SearchResult, search_result, look, search_rules, search_of, search_entry}
 use Rattle.library_rack_refusals.specs.Rules.{rack_at, rack_step_rules, rack_search_rules}
-use Rattle.capi_rack.specs.RackInterface.{search_number, RackCallResult, rack_call_result, rack_called, rack_step_call, search_called, rack_search_call}
+use Rattle.capi_rack.specs.RackInterface.{search_number, RackCallResult, rack_call_result, rack_step_call, rack_search_call}
 use Rattle.capi_rack.specs.RackClaims.{RefusedRackStepKeeps, RefusedSearchKeeps}
 use Rattle.capi_rack.proofs.Says.{rack_served}
 

@@ -1,5 +1,5 @@
 -- What the rack answers is what a tag answers, or silence, or nothing. Assumes nothing.
-use mathlib.Core.Path.{◌≡◌, refl, sym, ap, ◌∙◌}
+use mathlib.Core.Path.{◌≡◌, refl, ap, ◌∙◌}
 use mathlib.Core.Bool.{true, false}
 use mathlib.Core.List.{List, [], ◌∷◌}
 use Prim.Native.Nat.{ℕ, zero, suc}
@@ -21,7 +21,6 @@ use Rattle.model.proofs.Served.{act_served}
 use Rattle.replies_fit.specs.Claims.{reply_fits}
 use Rattle.replies_fit.proofs.RepliesFit.{steps_fit}
 use Rattle.calls.specs.Calls.{CallAnswer, Device, DeviceResult, entry}
-use Rattle.calls.proofs.Laws.{Fits}
 use Rattle.rack.specs.Rack.{Rack, RackCall, devices, to_all, goes_to}
 use Rattle.rack.specs.Rules.{rack_rules}
 use Rattle.rack.specs.Step.{turn_of, turns_of, unreached, said_by, lowest_reply, no_reply, together, RackResult, rack_acts, rack_step, rack_entry}

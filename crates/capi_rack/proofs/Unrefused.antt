@@ -1,28 +1,26 @@
 -- What holds of a rack call whose bytes are not refused. Assumes nothing.
-use mathlib.Core.Path.{◌≡◌, refl, sym, ap, subst, ◌∙◌}
-use mathlib.Core.Bool.{Bool, true, false, not, ◌&&◌, ◌||◌, false≢true}
+use mathlib.Core.Path.{◌≡◌, refl, sym, ap, ◌∙◌}
+use mathlib.Core.Bool.{Bool, true, false, not, false≢true}
 use mathlib.Core.List.{List, [], ◌∷◌, ◌++◌, append-nil}
 use Prim.Native.Nat.{ℕ, zero, suc, ◌+◌, ◌*◌, ◌≤◌}
 use native.Mathlib.Omega.{arith}
-use borrow.Author.Tests.{eqb-true, not-false, ltb-false, ltb-true, lt-ltb}
+use borrow.Author.Tests.{eqb-true, not-false, ltb-false}
 use lib.Dec.{ltb, eqb}
-use lib.ListN.{length, take, drop, length-take, length-drop, take-append-drop, drop_of_length-le}
-use lib.Seq.{length-take-le}
+use lib.ListN.{length, take, drop, length-drop, take-append-drop, drop_of_length-le}
 use Rattle.parts.specs.Pick.{pick}
 use Rattle.parts.specs.Bytes.{are_bytes}
 use Rattle.parts.proofs.Bools.{and_left, and_right, or_second}
 use Rattle.tag.specs.declared.Tag.{Tag}
-use Rattle.state.specs.Layout.{state_bytes, bytes_of, decodes, tag_of}
+use Rattle.state.specs.Layout.{state_bytes, decodes}
 use Rattle.state.proofs.Again.{encodes_decoded}
 use Rattle.refusals.specs.declared.Refusal.{Refusal}
-use Rattle.refusals.specs.declared.Judgement.{Judgement}
 use Rattle.refusals.specs.declared.Judgement.TheVariants.{NoRefusal, RefusedBy}
 use Rattle.refusals.specs.Call.{Call, handed_in}
-use Rattle.refusals.specs.Refusals.{RefusalRule, reply_rule, signal_rule, judgement, unless_refused}
-use Rattle.refusals.proofs.Laws.{NoneApplies, none_applies, no_refusal, judgement_append, append_none, append_refused}
+use Rattle.refusals.specs.Refusals.{RefusalRule, reply_rule, signal_rule, judgement}
+use Rattle.refusals.proofs.Laws.{NoneApplies, none_applies, append_refused}
 use Rattle.signal_table.proofs.Laws.{frame_known}
-use Rattle.rack.specs.Rack.{Rack, RackCall, rack_of}
-use Rattle.rack.specs.Rules.{rack_memory_rule, rack_range_rule, most_tags, size_rule, named_rule, uids_rule}
+use Rattle.rack.specs.Rack.{Rack, RackCall}
+use Rattle.rack.specs.Rules.{rack_memory_rule, rack_range_rule, size_rule, named_rule, uids_rule}
 use Rattle.rack.specs.Step.{rack_entry}
 use Rattle.rack_search.specs.Search.{search_entry}
 use Rattle.rack_states.specs.States.{states_of, tags_at, all_decode, stored_tags}

@@ -1,8 +1,8 @@
 -- What one call of the entry point does to a tag in range: struck frames, what stays, and that refusals 1 and 4 do not come. Assumes nothing.
-use mathlib.Core.Path.{◌≡◌, refl, sym, ap, ◌∙◌}
+use mathlib.Core.Path.{◌≡◌, refl, sym, ap}
 use mathlib.Core.List.{List}
 use Prim.Native.Nat.{ℕ}
-use mathlib.Core.Bool.{Bool, true, false, not, ◌&&◌, false≢true}
+use mathlib.Core.Bool.{true, false, not, ◌&&◌, false≢true}
 use Rattle.parts.proofs.Bools.{and_left, and_right}
 use Rattle.wire_claims.specs.Claims.{side_counted}
 use Rattle.wire_claims.proofs.Line.{counted_stays}

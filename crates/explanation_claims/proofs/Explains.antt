@@ -2,11 +2,11 @@
 use mathlib.Core.Path.{◌≡◌, refl, sym, ap, subst, ◌∙◌}
 use mathlib.Core.Bool.{Bool, true, false, not}
 use mathlib.Core.List.{List, [], ◌∷◌}
-use Prim.Native.Nat.{ℕ, ◌+◌, ◌-◌, ◌<◌, ◌≤◌}
+use Prim.Native.Nat.{ℕ, ◌-◌, ◌<◌, ◌≤◌}
 use native.Mathlib.Omega.{arith}
 use lib.Dec.{eqb}
 use lib.ListN.{length, take, get_or, set}
-use lib.Seq.{sets, get_or-set_same, length-sets}
+use lib.Seq.{get_or-set_same, length-sets}
 use Rattle.parts.specs.Pick.{pick}
 use Rattle.parts.proofs.Picks.{pick_case, pick_same}
 use Rattle.parts.proofs.Lists.{get_d_sets_before}
@@ -18,9 +18,7 @@ use Rattle.bus.specs.declared.Bus.TheVariants.{Idle, Started, ReadLeg, WriteLeg,
 use Rattle.bus.specs.Bus.{transfer_at}
 use Rattle.tag.specs.declared.Tag.{Tag}
 use Rattle.tag.specs.Parts.{wire_side}
-use Rattle.refusals.specs.declared.Judgement.TheVariants.{NoRefusal}
-use Rattle.refusals.specs.Call.{Call}
-use Rattle.refusals.specs.Refusals.{tag_in_range, entry_rules, judgement}
+use Rattle.refusals.specs.Refusals.{tag_in_range}
 use Rattle.refusals.proofs.Ranges.{range_parts}
 use Rattle.signal.specs.declared.WireAnswer.{WireAnswer}
 use Rattle.signal.specs.declared.WireAnswer.TheVariants.{Nothing as WireNothing, Ack as WireAck, NoAck as WireNoAck, Byte as WireByte}
@@ -43,14 +41,13 @@ use Rattle.radio.specs.Radio.{radio_of, next_slot_of}
 use Rattle.radio.proofs.EveryCommand.{Shape, silent as shape-silent, served as shape-served, failed as shape-failed}
 use Rattle.radio_claims.proofs.Entry.{first_byte}
 use Rattle.radio_claims.proofs.Errors.{frame_leaves}
-use Rattle.model.specs.declared.Answer.{Answer}
-use Rattle.model.specs.Step.{StepResult, from_wire, from_radio, act_of, step_of}
+use Rattle.model.specs.Step.{StepResult, from_wire, from_radio, act_of}
 use Rattle.model.proofs.Acts.{room_of, range_of, acts}
 use Rattle.write_reasons.specs.declared.SessionKey.TheVariants.{Unnumbered}
 use Rattle.write_rules.specs.Verdict.{write_reasons}
 use Rattle.rule_names.specs.Rules.{Rule, byte_forbidden, noVcc, noStart, inReadLeg, otherSelectByte, programmingNow, silent, inventory_silence, own_silence, failed}
 use Rattle.explanation_rules.specs.Conditions.{rule_holds}
-use Rattle.explanation_rules.specs.Explanation.{frame_rules, data_byte_rules, other_byte_rules, byte_rules, wire_rules, rules_for, Explained, unexplained, explained_by, explained}
+use Rattle.explanation_rules.specs.Explanation.{frame_rules, data_byte_rules, other_byte_rules, byte_rules, wire_rules, rules_for, unexplained, explained_by, explained}
 use Rattle.explanation_claims.specs.Claims.{is_frame, asks_rule, code_in, is_explained, rule_code, explained_code, Explanation, Explains}
 use Rattle.explanation_claims.proofs.Laws.{same_says, explained_any, explained_first}
 use Rattle.explanation_claims.proofs.Sent.{is_no_ack, byte_says, has_vcc, not_programming}

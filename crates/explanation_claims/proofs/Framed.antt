@@ -1,8 +1,7 @@
 -- A frame is answered as the first rule of its list says: silence, or the error's code. Assumes nothing.
 use mathlib.Core.Path.{◌≡◌, refl, sym, ap, ◌∙◌}
-use mathlib.Core.Bool.{Bool, true, false, not, ◌&&◌, ◌||◌, false≢true}
-use mathlib.Core.List.{List, [], ◌∷◌, map}
-use mathlib.Core.Logic.{◌↔◌}
+use mathlib.Core.Bool.{Bool, true, false, ◌&&◌, ◌||◌, false≢true}
+use mathlib.Core.List.{List, [], ◌∷◌}
 use Prim.Native.Nat.{ℕ}
 use native.Mathlib.Omega.{arith}
 use lib.Dec.{ltb, eqb}
@@ -19,14 +18,13 @@ use Rattle.rule_list.proofs.Laws.{says_through, says_passes}
 use Rattle.rule_list.proofs.First.{by_none}
 use Rattle.register_types.specs.declared.RfMngt.{RfMngt}
 use Rattle.keys.specs.declared.Uid.{Uid}
-use Rattle.bus.specs.declared.Transfer.{Transfer}
-use Rattle.bus.specs.Bus.{is_open_transfer, counted_dynamic, transfer_at}
+use Rattle.bus.specs.Bus.{transfer_at}
 use Rattle.tag.specs.declared.Tag.{Tag}
 use Rattle.signal_table.specs.declared.Signal.TheVariants.{Frame}
 use Rattle.errors.specs.Errors.{error_code}
 use Rattle.reply.specs.declared.RadioSide.{RadioSide}
-use Rattle.reply.specs.Reply.{nothing, body, good, fault}
-use Rattle.reply.specs.Outcome.{CommandResult, command_result, fails, radio_side}
+use Rattle.reply.specs.Reply.{nothing, good}
+use Rattle.reply.specs.Outcome.{CommandResult, command_result, radio_side}
 use Rattle.commands.specs.declared.CommandCode.{CommandCode}
 use Rattle.commands.specs.declared.CommandCode.TheVariants.{Unknown, Known}
 use Rattle.commands.specs.Table.{CodedRow, command_table, command_of, is_known}
@@ -36,12 +34,12 @@ use Rattle.inventory_reply.specs.Answers.{slots_left, is_heard, inventory_of}
 use Rattle.silence_rules.specs.Silence.{silence_holds, reception_silences, request_silences, is_silent}
 use Rattle.judge.specs.declared.Verdict.{Verdict}
 use Rattle.judge.specs.declared.Verdict.TheVariants.{Silence, Error, Request}
-use Rattle.judge.specs.Judge.{ErrorRule, isUnknown, is_mute, error_of, error_holds, rule_error, error_rules, first_error, judge}
+use Rattle.judge.specs.Judge.{ErrorRule, is_mute, error_of, error_holds, rule_error, error_rules, first_error, judge}
 use Rattle.judge.proofs.Muted.{muted, judge_muted}
 use Rattle.request.specs.Request.{request_of}
 use Rattle.serve.specs.Commands.{serve_code, serve_of}
 use Rattle.radio.specs.Radio.{verdict_result, verdict_of, radio_of}
-use Rattle.commands.proofs.Codes.{code_of, differs, as_in_table, named}
+use Rattle.commands.proofs.Codes.{differs, as_in_table, named}
 use Rattle.row_rules.specs.RowErrors.{error_applies, row_errors, first_applying}
 use Rattle.rule_names.specs.Rules.{Rule, byte_forbidden, noVcc, noStart, inReadLeg, otherSelectByte, programmingNow, silent, inventory_silence, own_silence, failed}
 use Rattle.explanation_rules.specs.Conditions.{dynamic_of, is_busy, rule_holds}

@@ -4,10 +4,8 @@ use mathlib.Core.Bool.{Bool, true, false, not, ◌&&◌, ◌||◌}
 use mathlib.Core.List.{List}
 use Prim.Native.Nat.{ℕ}
 use lib.Dec.{leb, eqb}
-use borrow.Author.Tests.{not-true}
 use Rattle.parts.specs.Pick.{pick}
 use Rattle.parts.proofs.Bools.{and_left, and_right}
-use Rattle.parts.proofs.Picks.{pick_map}
 use Rattle.rule_list.specs.RuleList.{any_holds, first_says}
 use Rattle.rule_list.proofs.Laws.{any_says, says_through, says_map}
 use Rattle.bus.specs.declared.Space.{Space}
@@ -33,7 +31,6 @@ use Rattle.signal_table.specs.declared.Signal.TheVariants.{Wire}
 use Rattle.signal_table.specs.Table.{sent_byte}
 use Rattle.data_byte.specs.DataByte.{data_of}
 use Rattle.send.specs.Send.{select_by, send_at}
-use Rattle.write_reasons.specs.declared.WriteAsked.TheVariants.{DataByte}
 use Rattle.write_reasons.specs.declared.SessionKey.TheVariants.{Unnumbered}
 use Rattle.write_reasons.specs.declared.WriteVerdict.{WriteVerdict}
 use Rattle.write_reasons.specs.declared.WriteVerdict.TheVariants.{Allowed, Forbidden}

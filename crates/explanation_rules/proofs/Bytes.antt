@@ -1,5 +1,5 @@
 -- The number of the rule that explains the answer to a byte sent, as code finds it. Assumes nothing.
-use mathlib.Core.Path.{◌≡◌, refl, sym, ap, ◌∙◌}
+use mathlib.Core.Path.{◌≡◌, sym, ap, ◌∙◌}
 use mathlib.Core.Bool.{Bool, not, ◌&&◌}
 use mathlib.Core.List.{List}
 use Prim.Native.Nat.{ℕ}
@@ -20,7 +20,7 @@ use Rattle.write_reasons.specs.declared.WriteVerdict.TheVariants.{Allowed, Forbi
 use Rattle.write_reasons.specs.declared.SessionKey.TheVariants.{Unnumbered}
 use Rattle.write_rules.specs.Situation.{Situation, situation_of}
 use Rattle.write_rules.specs.Verdict.{forbids, write_reasons, session_key, write_verdict}
-use Rattle.rule_names.specs.Rules.{Rule, byte_forbidden, rule_number}
+use Rattle.rule_names.specs.Rules.{byte_forbidden, rule_number}
 use Rattle.explanation_rules.specs.Conditions.{is_idle, awaits_select, is_read_leg, is_select_byte, signal_byte, data_byte_in, rule_holds}
 use Rattle.explanation_rules.specs.Explanation.{data_byte_rules, other_byte_rules, byte_rules, wire_rules, rules_for, explained_by, unexplained, explained, explained_number}
 use Rattle.explanation_rules.specs.Numbers.{write_number}

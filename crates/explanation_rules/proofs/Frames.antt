@@ -1,7 +1,7 @@
 -- The number of the rule that explains a frame's answer, as code finds it. Assumes nothing.
-use mathlib.Core.Path.{◌≡◌, refl, sym, ap, ◌∙◌}
+use mathlib.Core.Path.{◌≡◌, sym, ap, ◌∙◌}
 use mathlib.Core.Bool.{Bool, true, false, ◌&&◌}
-use mathlib.Core.List.{List, [], ◌∷◌, ◌++◌, map}
+use mathlib.Core.List.{List, [], ◌∷◌, map}
 use Prim.Native.Nat.{ℕ}
 use lib.Dec.{eqb}
 use Rattle.parts.specs.Pick.{pick}
@@ -10,8 +10,6 @@ use Rattle.rule_list.proofs.Laws.{says_append, says_through, says_map, numbered_
 use Rattle.register_types.specs.declared.RfMngt.{RfMngt}
 use Rattle.tag.specs.declared.Tag.{Tag}
 use Rattle.signal_table.specs.declared.Signal.TheVariants.{Frame}
-use Rattle.errors.specs.declared.RadioError.{RadioError}
-use Rattle.errors.specs.Errors.{error_number}
 use Rattle.commands.specs.Table.{command_of}
 use Rattle.frame.specs.Fields.{command, inventory_flag}
 use Rattle.inventory.specs.Inventory.{inventory_silent}

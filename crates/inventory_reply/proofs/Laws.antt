@@ -3,10 +3,8 @@ use mathlib.Core.Path.{◌≡◌, refl}
 use mathlib.Core.Bool.{Bool, true, false, not, ◌&&◌, ◌||◌}
 use mathlib.Core.List.{List}
 use Prim.Native.Nat.{ℕ, ◌-◌}
-use native.Mathlib.Omega.{arith}
 use lib.Dec.{ltb, eqb}
 use lib.ListN.{length}
-use Rattle.parts.specs.Pick.{pick}
 use Rattle.parts.specs.Bits.{is_set}
 use Rattle.parts.proofs.Bools.{and_left}
 use Rattle.parts.proofs.Picks.{pick_case, pick_false}

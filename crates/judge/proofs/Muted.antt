@@ -1,5 +1,5 @@
 -- The judge's verdict from the first error: on it a Stay Quiet, or a Select of another UID, is silent. Assumes nothing.
-use mathlib.Core.Path.{◌≡◌, ap}
+use mathlib.Core.Path.{◌≡◌}
 use mathlib.Core.Bool.{Bool}
 use mathlib.Core.List.{List}
 use Prim.Native.Nat.{ℕ}

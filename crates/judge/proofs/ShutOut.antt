@@ -1,9 +1,6 @@
 -- While shut out a frame's verdict is silence or 0Fh, from the frame, the air side, the UID and RF_MNGT_Dyn. Assumes nothing.
 use mathlib.Core.Path.{◌≡◌, refl}
-use mathlib.Core.Bool.{Bool, true, false, ◌||◌}
-use mathlib.Core.List.{List}
 use mathlib.Core.Logic.{◌⊎◌, inl, inr}
-use Prim.Native.Nat.{ℕ}
 use Rattle.parts.specs.Pick.{pick}
 use Rattle.parts.proofs.Picks.{pick_case}
 use Rattle.errors.specs.declared.RadioError.TheVariants.{ShutOut}

@@ -1,12 +1,11 @@
 -- The memories of tags that stand end to end. Assumes nothing.
-use mathlib.Core.Path.{◌≡◌, refl, sym, ap, ◌∙◌}
+use mathlib.Core.Path.{◌≡◌, refl, ap, ◌∙◌}
 use mathlib.Core.List.{List, [], ◌∷◌}
-use Prim.Native.Nat.{ℕ, zero, suc, ◌+◌, ◌*◌}
+use Prim.Native.Nat.{ℕ, suc, ◌+◌, ◌*◌}
 use native.Mathlib.Omega.{arith}
-use lib.ListN.{length, drop}
+use lib.ListN.{length}
 use Rattle.tag.specs.declared.Tag.{Tag}
 use Rattle.tag.specs.Layout.{memory_bytes}
-use Rattle.state.specs.Layout.{state_bytes}
 use Rattle.rack.specs.Rack.{memory_size, memory_sizes}
 use Rattle.rack_states.specs.States.{tags_at}
 use Rattle.rack_states.proofs.States.{tags_number}

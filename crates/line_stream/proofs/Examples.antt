@@ -1,6 +1,6 @@
 -- Worked examples of lines: no byte, a line feed alone, a last line without line feed, an empty line in between.
 use mathlib.Core.Path.{◌≡◌, refl}
-use mathlib.Core.List.{List, [], ◌∷◌}
+use mathlib.Core.List.{[], ◌∷◌}
 use Rattle.parts.specs.Pick.{pick}
 use Rattle.line_stream.specs.Lines.{byte_before, lines_of, byte_before_full, full_lines_of}
 

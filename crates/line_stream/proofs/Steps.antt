@@ -1,6 +1,6 @@
 -- Laws of a call: its cases, its bounds, a line of the piece, and where it stops. Assumes nothing.
 use mathlib.Core.Path.{◌≡◌, refl, sym, ap, ◌∙◌}
-use mathlib.Core.Bool.{Bool, true, false}
+use mathlib.Core.Bool.{true, false}
 use mathlib.Core.List.{List, [], ◌∷◌, ◌++◌, append_assoc, append-nil}
 use Prim.Native.Nat.{ℕ, zero, suc, ◌+◌, ◌-◌, ◌≤◌, ◌<◌}
 use native.Mathlib.Omega.{arith}
@@ -8,7 +8,6 @@ use lib.Dec.{eqb, ltb}
 use borrow.Author.Tests.{ltb-true, ltb-false}
 use lib.ListN.{length, take, drop, length-append, length-take}
 use lib.Seq.{take_all, append_snoc}
-use Rattle.parts.specs.Pick.{pick}
 use Rattle.parts.proofs.Picks.{pick_case}
 use Rattle.lines.specs.Line.{line_length}
 use Rattle.line_stream.specs.Step.{LineAnswer, LineProgram, PieceResult, piece_result, ahead, text_room, no_room, piece_by}

@@ -7,8 +7,8 @@ use native.Mathlib.Omega.{arith}
 use native.Mathlib.Nat.{add-zero}
 use lib.Dec.{ltb}
 use borrow.Author.Tests.{ltb-true, ltb-false}
-use lib.ListN.{length, take, drop, get_or, set, length-append, length-set, length-drop, length-take, drop_of_length-le, get_or-append, get_or-eq_default}
-use lib.Seq.{sets, sets-eq, length-sets, take-suc, get_or-drop, get_or-set_other, get_or_at}
+use lib.ListN.{length, take, drop, get_or, set, length-append, length-set, length-drop, drop_of_length-le, get_or-append, get_or-eq_default}
+use lib.Seq.{sets, sets-eq, take-suc, get_or-drop, get_or-set_other, get_or_at}
 use Rattle.parts.specs.Bytes.{bytes_at, copied}
 
 -- a run with one byte more

@@ -5,14 +5,14 @@ use mathlib.Core.List.{List, [], ◌∷◌}
 use Prim.Native.Nat.{ℕ, ◌+◌, ◌-◌, ◌*◌, ◌≤◌, ◌<◌}
 use native.Mathlib.Omega.{arith}
 use native.Mathlib.Numerals.{add-one}
-use lib.Dec.{leb, ltb}
+use lib.Dec.{leb}
 use borrow.Author.Tests.{leb-true}
 use lib.ListN.{length, drop, get_or}
 use lib.Seq.{drop-cons}
 use Rattle.parts.specs.Pick.{pick}
 use Rattle.parts.proofs.Bools.{and_left, and_right}
 use Rattle.parts.proofs.Picks.{pick_case, pick_true, pick_false, pick_lt, pick_not_lt}
-use Rattle.rack_reading.specs.Line.{RackLine, bad_rack_line, name_line, is_digit, all_digits, number_from, number_of, most_number, badly_begun, number_sent}
+use Rattle.rack_reading.specs.Line.{bad_rack_line, name_line, is_digit, all_digits, number_from, number_of, most_number, badly_begun, number_sent}
 
 -- a character more
 pub digits_step : (s : List ℕ) (i : ℕ) → i < length s → all_digits (drop i s) ≡ (is_digit (get_or s i 0) && all_digits (drop (i + 1) s))

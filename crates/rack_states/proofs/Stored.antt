@@ -4,8 +4,8 @@ use mathlib.Core.List.{List, [], ◌∷◌, ◌++◌, append-nil, append_assoc}
 use Prim.Native.Nat.{ℕ, zero, suc, ◌+◌, ◌*◌, ◌-◌, ◌<◌, ◌≤◌}
 use native.Mathlib.Omega.{arith}
 use borrow.Author.Tests.{lt-ltb, le-ltb}
-use lib.ListN.{length, get_or, take, drop, length-append, length-drop, drop_of_length-le}
-use lib.Seq.{drop-drop, drop-length, drop-cons, take-suc, take_at, drop_at}
+use lib.ListN.{length, get_or, take, drop, length-drop}
+use lib.Seq.{drop-drop, take-suc, take_at, drop_at}
 use borrow.Rule.Slice.PartMut.{put_mid}
 use Rattle.parts.proofs.Picks.{pick_true, pick_false}
 use Rattle.tag.specs.declared.Tag.{Tag}

@@ -1,5 +1,5 @@
 -- A slice's tags past those of the rack hear nothing. Assumes nothing.
-use mathlib.Core.Path.{◌≡◌, refl, sym, ◌∙◌, ap, subst}
+use mathlib.Core.Path.{◌≡◌, refl, sym, ◌∙◌, ap}
 use mathlib.Core.Bool.{not, ◌&&◌}
 use mathlib.Core.List.{List}
 use mathlib.Core.Logic.{◌⊎◌, inl, inr}
@@ -11,7 +11,7 @@ use lib.ListN.{length}
 use Rattle.parts.proofs.Picks.{pick_case}
 use Rattle.tag.specs.declared.Tag.{Tag}
 use Rattle.rack_hear.specs.declared.Heard.{Heard}
-use Rattle.rack_hear.specs.Hear.{HeardResult, act_at, hear_of, HeardAll, hear_one_of, hear_onward, hear_all_of}
+use Rattle.rack_hear.specs.Hear.{HeardResult, act_at, hear_of, hear_one_of, hear_all_of}
 use Rattle.rack_hear.proofs.Claims.{past}
 use Rattle.rack_walk.proofs.Bound.{ended}
 

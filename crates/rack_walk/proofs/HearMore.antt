@@ -1,8 +1,7 @@
 -- One more tag of `all_of`. Written by tools/walks. Assumes nothing.
-use mathlib.Core.Path.{◌≡◌, refl, sym, ◌∙◌, ap}
+use mathlib.Core.Path.{◌≡◌, sym, ◌∙◌, ap}
 use Prim.Native.Nat.{ℕ, ◌+◌}
 use native.Mathlib.Numerals.{add-one}
-use mathlib.Core.Bool.{Bool}
 use mathlib.Core.List.{List}
 use Rattle.tag.specs.declared.Tag.{Tag}
 use Rattle.rack_hear.specs.declared.Heard.{Heard}

@@ -23,7 +23,6 @@ use Rattle.rack_hear.specs.contracts.HeardTag as O
 use Rattle.rack_hear.proofs.HeardTag.TheLaws as O'
 use Rattle.rack_walk.specs.declared.HeardRack.{HeardRack}
 use Rattle.rack_walk.specs.contracts.HeardRack as B
-use Rattle.rack_walk.proofs.HeardRack.TheLaws as B'
 
 -- a struct's fields but the first
 abbrev fields_of : Val → Vals

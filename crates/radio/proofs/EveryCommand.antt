@@ -6,10 +6,10 @@ use mathlib.Core.List.{List, []}
 use mathlib.Core.Logic.{◌⊎◌, inl, inr, ⊎_elim}
 use Prim.Native.Nat.{ℕ, ◌+◌, ◌*◌, ◌-◌, ◌≤◌, ◌<◌}
 use native.Mathlib.Omega.{arith}
-use lib.Dec.{leb, ltb, eqb}
+use lib.Dec.{ltb, eqb}
 use lib.ListN.{length}
 use lib.Seq.{sets, length-sets}
-use borrow.Author.Tests.{le-leb, leb-true, eqb-true, not-true, not-false}
+use borrow.Author.Tests.{le-leb, leb-true, not-true}
 use Rattle.parts.specs.Pick.{pick}
 use Rattle.parts.specs.Bits.{is_set}
 use Rattle.parts.specs.Bytes.{bytes_at}
@@ -17,7 +17,6 @@ use Rattle.parts.proofs.Below.{Below, run_below, sets_below}
 use Rattle.parts.proofs.Bools.{and_left, and_right, or_first, or_second}
 use Rattle.parts.proofs.Lists.{length_bytes_at}
 use Rattle.parts.proofs.Picks.{pick_case}
-use Rattle.rule_list.specs.RuleList.{any_holds}
 use Rattle.rule_list.proofs.Laws.{says_passes}
 use Rattle.register_types.specs.declared.RfMngt.{RfMngt}
 use Rattle.register_types.specs.declared.MbMode.{MbMode}

@@ -1,13 +1,8 @@
 -- While shut out a frame changes nothing, and its answer is silence or 0Fh. Assumes nothing.
 use mathlib.Core.Path.{◌≡◌, sym, ap, ◌∙◌}
-use mathlib.Core.Bool.{Bool}
-use mathlib.Core.List.{List}
 use mathlib.Core.Logic.{◌⊎◌, inl, inr, ⊎_elim}
-use Prim.Native.Nat.{ℕ}
 use Rattle.parts.proofs.Picks.{pick_case}
-use Rattle.keys.specs.declared.Uid.{Uid}
 use Rattle.errors.specs.declared.RadioError.TheVariants.{ShutOut}
-use Rattle.reply.specs.declared.RadioSide.{RadioSide}
 use Rattle.reply.specs.Reply.{nothing, fault}
 use Rattle.reply.specs.Outcome.{CommandResult, command_result}
 use Rattle.frame.specs.Fields.{inventory_flag}

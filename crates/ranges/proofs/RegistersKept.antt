@@ -24,7 +24,7 @@ use Rattle.registers.specs.Map.{register_bytes, registers_of, with_end, with_dyn
 use Rattle.register_table.proofs.Rows.{row_test}
 use Rattle.registers.proofs.Bytes.{bytes_count, bytes_of, put_count}
 use Rattle.defined_bits.proofs.Defined.{only, put_kept, defined_at}
-use Rattle.areas.specs.Ends.{ends_in_range, end_accepted, rule_allows, end_allows}
+use Rattle.areas.specs.Ends.{ends_in_range, rule_allows, end_allows}
 use Rattle.areas.proofs.Kept.{end_kept}
 use Rattle.ranges.specs.Ranges.{registers_in_range}
 

@@ -1,6 +1,6 @@
 -- A reply that has room is there whole. Assumes nothing.
 use mathlib.Core.Path.{◌≡◌, refl, sym, ap, ◌∙◌}
-use mathlib.Core.List.{List, [], ◌∷◌, ◌++◌, append_assoc}
+use mathlib.Core.List.{List, [], ◌∷◌, ◌++◌}
 use Prim.Native.Nat.{ℕ, ◌+◌, ◌≤◌}
 use native.Mathlib.Omega.{arith}
 use lib.Dec.{leb}
@@ -9,7 +9,7 @@ use lib.Seq.{sets, sets-eq, length-sets, take-append_seam, drop-append-add, drop
 use borrow.Author.Tests.{le-leb}
 use Rattle.parts.proofs.Picks.{pick_true}
 use Rattle.crc.specs.Crc.{crc_bytes, closed, closed_at}
-use Rattle.reply.specs.Reply.{body, buffer_of}
+use Rattle.reply.specs.Reply.{buffer_of}
 use Rattle.reply.specs.Claims.{ReplyWhole}
 
 take_none : (o : List ℕ) → take 0 o ≡ []

@@ -1,27 +1,22 @@
 -- Each command's reply says the code of the first error of its row that applies. Assumes nothing.
 use mathlib.Core.Path.{◌≡◌, refl, sym, ap, ◌∙◌}
 use mathlib.Core.Bool.{Bool, true, false, not, ◌&&◌, ◌||◌}
-use mathlib.Core.List.{List, [], ◌∷◌}
-use Prim.Native.Nat.{ℕ, ◌+◌}
+use mathlib.Core.List.{List, []}
+use Prim.Native.Nat.{ℕ}
 use native.Mathlib.Omega.{arith}
-use lib.Dec.{leb, eqb}
-use lib.ListN.{get_or}
+use lib.Dec.{eqb}
 use Rattle.parts.specs.Pick.{pick}
 use Rattle.parts.proofs.Picks.{pick_map}
 use Rattle.rule_list.specs.RuleList.{first_says}
 use Rattle.rule_list.proofs.Laws.{says_passes}
 use Rattle.register_types.specs.declared.RfMngt.{RfMngt}
 use Rattle.keys.specs.declared.Uid.{Uid}
-use Rattle.errors.specs.declared.RadioError.{RadioError}
-use Rattle.errors.specs.Errors.{error_code}
 use Rattle.reply.specs.declared.RadioSide.{RadioSide}
-use Rattle.reply.specs.Reply.{ReplyBody, nothing, body}
 use Rattle.reply.specs.Outcome.{CommandResult}
 use Rattle.commands.specs.declared.Command.{Command}
 use Rattle.commands.specs.declared.Command.TheVariants.{StayQuiet, Select, ResetToReady, ReadSingleBlock, ReadMultipleBlocks, WriteSingleBlock, WriteMultipleBlocks, LockBlock, GetMultipleBlockSecurityStatus, ReadConfiguration, WriteConfiguration, ReadDynamicConfiguration, WriteDynamicConfiguration, WriteMessage, ReadMessageLength, ReadMessage, PresentPassword, WritePassword}
 use Rattle.frame.specs.Fields.{command, own_uid, param}
 use Rattle.judge.specs.declared.Verdict.{Verdict}
-use Rattle.judge.specs.declared.Verdict.TheVariants.{Silence, Error, Request}
 use Rattle.judge.specs.Judge.{is_mute}
 use Rattle.blocks.specs.Blocks.{read_of}
 use Rattle.block_status.specs.Status.{status_reply}
@@ -39,7 +34,7 @@ use Rattle.commands.specs.declared.CommandCode.{CommandCode}
 use Rattle.commands.specs.declared.CommandCode.TheVariants.{Unknown, Known}
 use Rattle.commands.specs.Table.{CodedRow, command_table, command_of}
 use Rattle.commands.proofs.Codes.{code_of, differs, as_in_table, named}
-use Rattle.row_rules.specs.Claims.{Said, hushed, spoke, said_of, verdict_said, RowsSay}
+use Rattle.row_rules.specs.Claims.{hushed, spoke, said_of, verdict_said, RowsSay}
 use Rattle.row_rules.specs.RowErrors.{more_blocks, error_applies, command_errors, first_applying}
 
 said_pick : (b : Bool) (x y : CommandResult) → said_of (pick b x y).reply ≡ pick b (said_of x.reply) (said_of y.reply)

@@ -1,9 +1,8 @@
 -- What the first rule that holds says, and back. Assumes nothing.
-use Prim.{Unit, tt}
+use Prim.{tt}
 use mathlib.Core.Path.{◌≡◌, refl, sym, ap}
 use mathlib.Core.Bool.{Bool, true, false}
 use mathlib.Core.List.{List, [], ◌∷◌, ◌++◌}
-use mathlib.Core.Logic.{◌↔◌}
 use Rattle.parts.specs.Pick.{pick}
 use Rattle.rule_list.specs.RuleList.{first_says, NoneHolds, IsFirst}
 use Rattle.rule_list.specs.Claims.{SaidByFirst, SaidByNone}

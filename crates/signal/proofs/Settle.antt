@@ -1,13 +1,13 @@
 -- The end of a leg by what is due. Assumes nothing.
-use mathlib.Core.Path.{◌≡◌, refl, sym, ap, ◌∙◌}
+use mathlib.Core.Path.{◌≡◌, refl}
 use mathlib.Core.Bool.{Bool, true, false}
 use mathlib.Core.List.{List}
 use Prim.Native.Nat.{ℕ}
 use Rattle.parts.specs.Pick.{pick}
-use Rattle.parts.proofs.Picks.{pick_true, pick_false}
+use Rattle.parts.proofs.Picks.{pick_true}
 use Rattle.bus.specs.declared.Space.{Space}
 use Rattle.tag.specs.declared.WireSide.{WireSide}
-use Rattle.effect.specs.Effect.{LegResult, leg_result}
+use Rattle.effect.specs.Effect.{leg_result}
 use Rattle.leg.specs.Leg.{End, stopped, started, power_lost, Due, nothing_due, clears, writes, last_fetched, acts_at_start, leg_written, settle}
 
 -- the end of a read leg, at a Start and at a Stop

@@ -5,7 +5,7 @@ use native.Mathlib.Omega.{arith}
 use Prim.Native.Nat.{◌<◌}
 use Rattle.reading.specs.Line.{ScriptLine, longest}
 use Rattle.reading.proofs.LineLaws.{line_cut}
-use Rattle.script.specs.Bench.{LineResult, line_result, bench_of}
+use Rattle.script.specs.Bench.{line_result, bench_of}
 use Rattle.script.specs.Lines.{bench_after}
 use Rattle.script.proofs.Fits.{text_fits}
 use Rattle.unfinished.specs.Kept.{kept_most}

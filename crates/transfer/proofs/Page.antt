@@ -1,19 +1,13 @@
 -- The page after stores onto it. Assumes nothing.
 use mathlib.Core.Path.{◌≡◌, refl, sym, ap, ◌∙◌}
-use mathlib.Core.Bool.{Bool, true}
 use mathlib.Core.List.{List, [], ◌∷◌, ◌++◌, append_assoc}
 use Prim.Native.Nat.{ℕ, zero, suc, ◌+◌, ◌≤◌, ◌<◌}
 use native.Mathlib.Omega.{arith}
-use borrow.Author.Tests.{ltb-true}
 use lib.ListN.{length, take, get_or, set, get_or-append}
 use lib.Seq.{sets, sets-eq, take-suc, take-length, length-take-le, get_or-set_same, get_or-append-add}
 use Rattle.parts.specs.Bytes.{bytes_at}
-use Rattle.parts.proofs.Bools.{and_left}
 use Rattle.parts.proofs.Lists.{bytes_at_after}
-use Rattle.bus.specs.declared.Space.{Space}
-use Rattle.tag.specs.declared.Core.{Core}
 use Rattle.tag.specs.Layout.{page}
-use Rattle.rule.specs.Rule.{acked}
 
 -- one byte more
 pub page_set : (m : List ℕ) (k x : ℕ) → length m ≡ 1024 → k < 256 → page (suc k) (set m (768 + k) x) ≡ page k m ++ x ∷ []

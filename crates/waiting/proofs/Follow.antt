@@ -5,7 +5,6 @@ use mathlib.Core.List.{List, [], ◌∷◌, ◌++◌, append_assoc}
 use Prim.Native.Nat.{ℕ}
 use native.Mathlib.Omega.{arith}
 use lib.ListN.{length, length-append}
-use Rattle.parts.specs.Pick.{pick}
 use Rattle.parts.proofs.Picks.{pick_case}
 use Rattle.register_types.specs.declared.RfMngt.{RfMngt}
 use Rattle.air.specs.declared.Air.{Air}
@@ -13,7 +12,6 @@ use Rattle.bus.specs.declared.Transfer.{Transfer}
 use Rattle.bus.specs.declared.Bus.{Bus}
 use Rattle.bus.specs.declared.Bus.TheVariants.{Started}
 use Rattle.tag.specs.declared.Host.{Host}
-use Rattle.tag.specs.declared.WireSide.{WireSide}
 use Rattle.bus.specs.Bus.{transfer_at, is_open}
 use Rattle.air.specs.Radio.{field_at}
 use Rattle.tag.specs.Parts.{wire_side, with_wire, with_tag_air}

@@ -20,7 +20,6 @@ use Rattle.tag.specs.Parts.{with_programming, with_host}
 use Rattle.select.specs.declared.Choice.{Choice}
 use Rattle.select.specs.declared.Choice.TheVariants.{NotAcked, Reading, Writing}
 use Rattle.select.specs.Select.{select_of, choose}
-use Rattle.leg.specs.Leg.{started}
 use Rattle.signal_table.specs.declared.WireSignal.{WireSignal}
 use Rattle.signal_table.specs.declared.WireSignal.TheVariants.{Start as SignalStart, Send, Fetch, Stop as SignalStop, Vcc, ProgrammingEnd}
 use Rattle.signal.specs.declared.WireAnswer.TheVariants.{Nothing}

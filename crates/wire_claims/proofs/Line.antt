@@ -32,7 +32,7 @@ use Rattle.signal.specs.Signal.{WireResult, side_bus, due_of, start_at, start_of
 use Rattle.signal.proofs.Ended.{start_case, start_host, start_registers, stop_line, stop_shut}
 use Rattle.data_byte.specs.DataByte.{data_of}
 use Rattle.send.specs.Send.{select_by, send_at}
-use Rattle.wire.specs.Wire.{fetch_at, signal_of}
+use Rattle.wire.specs.Wire.{fetch_at}
 use Rattle.wire_claims.specs.Claims.{KeepsCounter, is_start, LengthStays, OthersStay, RegistersStay, OnlyAtStart, side_counted, CountedStays}
 use Rattle.wire_claims.proofs.Cases.{signal_case}
 use Rattle.wire_claims.proofs.Kept.{inactive}

@@ -1,36 +1,31 @@
 -- Which reasons each side can be given, and that a block by radio is allowed as its rights say. Assumes nothing.
-use mathlib.Core.Path.{◌≡◌, refl, sym, ap, ◌∙◌}
+use mathlib.Core.Path.{◌≡◌, refl, ap}
 use mathlib.Core.Bool.{Bool, true, false, not, ◌&&◌, ◌||◌}
 use mathlib.Core.List.{List}
-use Prim.Native.Nat.{ℕ, ◌+◌, ◌*◌, ◌%◌, ◌<◌}
+use Prim.Native.Nat.{ℕ, ◌*◌, ◌<◌}
 use native.Mathlib.Omega.{arith}
-use lib.Dec.{leb, ltb, eqb}
+use lib.Dec.{ltb, eqb}
 use borrow.Author.Tests.{lt-leb, le-leb, ltb-true, ltb-false, eqb-true, eqb-false}
 use Rattle.parts.specs.Pick.{pick}
 use Rattle.parts.proofs.Picks.{pick_case}
-use Rattle.register_types.specs.declared.RfaSs.{RfaSs}
-use Rattle.register_table.specs.Table.{is_pointer, is_writable}
+use Rattle.register_table.specs.Table.{is_pointer}
 use Rattle.areas.specs.Ends.{area_of_block}
 use Rattle.rights.specs.declared.Side.TheVariants.{Radio}
-use Rattle.rights.specs.Rights.{security_of, session_opens, setting, radio_writes, is_locked, write_right, may_write}
-use Rattle.bus.specs.declared.Space.{Space}
-use Rattle.bus.specs.declared.Space.TheVariants.{User, System}
+use Rattle.rights.specs.Rights.{security_of, setting, radio_writes, is_locked, write_right, may_write}
 use Rattle.tag.specs.declared.Core.{Core}
 use Rattle.tag.specs.Layout.{page}
 use Rattle.write_reasons.specs.declared.WritePlace.{WritePlace}
 use Rattle.write_reasons.specs.declared.WritePlace.TheVariants.{Unmapped, UserMemory, DynamicByte, MailboxByte, SystemRegister, PasswordByte}
 use Rattle.write_reasons.specs.declared.WriteReason.{WriteReason}
 use Rattle.write_reasons.specs.declared.WriteVerdict.{WriteVerdict}
-use Rattle.write_reasons.specs.declared.WriteVerdict.TheVariants.{Allowed, Forbidden}
-use Rattle.write_reasons.specs.declared.WriteAsked.{WriteAsked}
+use Rattle.write_reasons.specs.declared.WriteVerdict.TheVariants.{Forbidden}
 use Rattle.write_reasons.specs.declared.WriteAsked.TheVariants.{DataByte, Block, Pointer, PasswordOf}
 use Rattle.write_reasons.specs.Reasons.{is_allowed}
 use Rattle.write_reasons.proofs.Laws.{allowed_pick, allowed}
-use Rattle.write_rules.specs.Situation.{byte_at, radio_at, byte_place, block_place, block_situation, pointer_place, password_place, situation_of}
+use Rattle.write_rules.specs.Situation.{byte_at, radio_at, byte_place, block_place, block_situation, pointer_place, password_place}
 use Rattle.write_rules.specs.Conditions.{needs_session}
 use Rattle.write_rules.specs.Verdict.{write_verdict}
 use Rattle.write_rules.specs.Claims.{of_radio, of_wire, gives_only, side_gives, EachSideItsReasons, BlockAllowed}
-use Rattle.write_rules.proofs.Rows.{pointer_writable}
 use Rattle.write_rules.proofs.Chain.{spoiled_chain, unmapped_chain, memory_chain, dynamic_chain, mailbox_chain, register_chain, password_chain, radio_unmapped, block_chain, pointer_chain, password_number_chain}
 
 -- a choice between a reason that passes and what passes

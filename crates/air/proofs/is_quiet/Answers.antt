@@ -1,5 +1,4 @@
 use Rattle.air.specs.Radio.{is_quiet}
-use borrow.Author.Rules.{rules}
 use Rattle.air.proofs.is_quiet.Goals as goal
 
 pub returns-in-Ready : goal.returns-in-Ready

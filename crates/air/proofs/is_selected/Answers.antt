@@ -1,5 +1,4 @@
 use Rattle.air.specs.Radio.{is_selected}
-use borrow.Author.Rules.{rules}
 use Rattle.air.proofs.is_selected.Goals as goal
 
 pub returns-in-Ready : goal.returns-in-Ready

@@ -1,6 +1,5 @@
 use Rattle.parts.proofs.Picks.{picks}
 use Rattle.areas.specs.Ends.{area_of_block}
-use borrow.Author.Rules.{rules}
 use Rattle.areas.proofs.area_of_block.Goals as goal
 
 pub returns-then-block-e : goal.returns-then-block-e

@@ -1,6 +1,5 @@
 use Rattle.parts.proofs.Picks.{picks}
 use Rattle.areas.specs.Ends.{area_of_byte}
-use borrow.Author.Rules.{rules}
 use Rattle.areas.proofs.area_of_byte.Goals as goal
 
 pub returns-then-at-e : goal.returns-then-at-e

@@ -1,5 +1,4 @@
 use Rattle.areas.specs.Ends.{end_accepted}
-use borrow.Author.Rules.{rules}
 use Rattle.areas.proofs.end_accepted.Goals as goal
 
 pub returns : goal.returns

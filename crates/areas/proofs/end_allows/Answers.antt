@@ -1,5 +1,4 @@
 use Rattle.areas.specs.Ends.{end_allows}
-use borrow.Author.Rules.{rules}
 use Rattle.areas.proofs.end_allows.Goals as goal
 
 pub returns-in-Plain : goal.returns-in-Plain

@@ -1,10 +1,7 @@
-use borrow.Author.Rules.{rules}
 use borrow.Author.Tests.{ltb-true}
 use native.Mathlib.Omega.{arith}
-use mathlib.Core.Path.{◌≡◌, refl, ◌∙◌}
-use Prim.Native.Nat.{◌<◌}
+use mathlib.Core.Path.{refl, ◌∙◌}
 use lib.Dec.{ltb}
-use lib.ListN.{length}
 use Rattle.parts.proofs.Bools.{and_right}
 use Rattle.bench_run.proofs.all.Goals as goal
 

@@ -1,11 +1,5 @@
-use borrow.Author.Rules.{rules}
-use borrow.Author.Tests.{ltb-true}
-use native.Mathlib.Omega.{arith}
-use mathlib.Core.Path.{◌≡◌, refl, ◌∙◌}
-use Prim.Native.Nat.{◌<◌}
-use lib.Dec.{ltb}
+use mathlib.Core.Path.{◌≡◌}
 use lib.ListN.{length}
-use Rattle.parts.proofs.Bools.{and_right}
 use Rattle.bench_run.proofs.all.Given as goal
 
 abbrev pub invariant-loop-r : goal.invariant-loop-r

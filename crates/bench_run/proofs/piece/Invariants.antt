@@ -1,13 +1,8 @@
-use borrow.Author.Rules.{rules}
-use native.Mathlib.Omega.{arith}
-use mathlib.Core.Path.{◌≡◌, refl, ◌∙◌}
-use mathlib.Core.Bool.{true}
 use Prim.Native.Nat.{◌-◌}
-use lib.ListN.{length, take, drop, length-take}
+use lib.ListN.{length, take}
 use Rattle.script.specs.Lines.{bench_state}
-use Rattle.line_stream.specs.Step.{stream_buffers}
 use Rattle.stream.specs.Program.{bench_program}
-use Rattle.line_stream.proofs.Going.{Going, never, used_some, goes, all_used}
+use Rattle.line_stream.proofs.Going.{Going}
 use Rattle.bench_run.proofs.piece.Given as goal
 
 abbrev pub invariant-loop-at : goal.invariant-loop-at

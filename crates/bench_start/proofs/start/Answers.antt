@@ -1,4 +1,4 @@
-use Rattle.std.proofs.Common.{◌-◌, rules}
+use Rattle.std.proofs.Common.{◌-◌}
 use Rattle.bench_start.specs.Start.{bench_start_of}
 use Rattle.bench_start.proofs.start.Goals as goal
 

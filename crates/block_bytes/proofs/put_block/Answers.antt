@@ -1,7 +1,6 @@
 use mathlib.Core.Path.{sym, ap, ◌∙◌}
 use lib.Seq.{sets}
 use Rattle.block_bytes.proofs.Block.{block_with, block_plain, length_with, length_plain}
-use borrow.Author.Rules.{rules}
 use Rattle.block_bytes.proofs.put_block.Goals as goal
 
 pub returns-then-option : goal.returns-then-option

@@ -6,7 +6,6 @@ use borrow.Rule.Slice.PartMut.{put_mid}
 use Rattle.block_bytes.specs.Block.{block_of}
 use Rattle.block_bytes.proofs.Part.{sets_past, part_sets}
 use Rattle.block_bytes.proofs.Block.{length_with, length_plain}
-use borrow.Author.Rules.{rules}
 use Rattle.block_bytes.proofs.put_block_at.Goals as goal
 
 pub returns-then-option : goal.returns-then-option

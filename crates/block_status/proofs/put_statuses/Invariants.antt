@@ -1,13 +1,8 @@
-use mathlib.Core.Path.{◌≡◌, refl, sym, ap, ◌∙◌}
-use Prim.Native.Nat.{ℕ, ◌+◌, ◌-◌, ◌≤◌}
-use native.Mathlib.Omega.{arith}
-use borrow.Author.Rules.{rules}
-use mathlib.Core.List.{List}
-use lib.ListN.{length, set}
+use mathlib.Core.Path.{◌≡◌}
+use Prim.Native.Nat.{◌-◌, ◌≤◌}
+use lib.ListN.{length}
 use lib.Seq.{sets}
-use Rattle.parts.proofs.Lists.{sets_snoc}
-use Rattle.block_status.specs.Status.{status_of, statuses_of}
-use Rattle.block_status.proofs.Statuses.{statuses_more, length_statuses}
+use Rattle.block_status.specs.Status.{statuses_of}
 use Rattle.block_status.proofs.put_statuses.Given as goal
 
 abbrev pub invariant-loop-k : goal.invariant-loop-k

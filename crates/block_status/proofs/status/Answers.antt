@@ -8,7 +8,6 @@ use mathlib.Core.Path.{sym, ap, ◌∙◌}
 use mathlib.Core.List.{List}
 use Prim.Native.Nat.{ℕ, ◌+◌}
 use lib.Seq.{sets}
-use borrow.Author.Rules.{rules}
 use Rattle.block_status.proofs.status.Goals as goal
 
 pub returns-then-first-ge-BLOCKS : goal.returns-then-first-ge-BLOCKS

@@ -2,7 +2,6 @@ use mathlib.Core.Path.{refl, sym, ap, ◌∙◌}
 use Rattle.parts.proofs.Picks.{pick_true, pick_false}
 use Rattle.write_reasons.specs.Reasons.{is_allowed}
 use Rattle.block_status.proofs.ByVerdict.{status_by_verdict}
-use borrow.Author.Rules.{rules}
 use Rattle.block_status.proofs.status_of.Goals as goal
 
 pub returns-then-is_allowed : goal.returns-then-is_allowed

@@ -1,9 +1,5 @@
-use mathlib.Core.Path.{◌≡◌, refl, ap, ◌∙◌}
-use Prim.Native.Nat.{◌+◌, ◌-◌, ◌≤◌}
-use native.Mathlib.Omega.{arith}
-use borrow.Author.Rules.{rules}
-use native.Mathlib.Numerals.{add-one}
-use Rattle.write_reasons.specs.Reasons.{is_allowed}
+use mathlib.Core.Path.{◌≡◌}
+use Prim.Native.Nat.{◌-◌, ◌≤◌}
 use Rattle.block_writes.specs.Claims.{all_allowed}
 use Rattle.block_writes.proofs.all_allowed.Given as goal
 

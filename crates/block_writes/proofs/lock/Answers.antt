@@ -4,7 +4,6 @@ use Rattle.errors.specs.declared.RadioError.TheVariants.{NotLockable, AlreadyLoc
 use Rattle.reply.specs.Reply.{good, fault}
 use Rattle.reply.proofs.Finish.{said}
 use Rattle.block_writes.specs.Writes.{lock_of}
-use borrow.Author.Rules.{rules}
 use Rattle.block_writes.proofs.lock.Goals as goal
 
 pub returns-then-block-gt1 : goal.returns-then-block-gt1

@@ -9,7 +9,6 @@ use Prim.Native.Nat.{◌+◌}
 use native.Mathlib.Omega.{arith}
 use Rattle.block_writes.proofs.Inside.{inside}
 use Rattle.block_writes.proofs.ByVerdict.{writes_by_verdict}
-use borrow.Author.Rules.{rules}
 use Rattle.block_writes.proofs.write.Goals as goal
 
 pub returns-then-more-gt3 : goal.returns-then-more-gt3

@@ -1,5 +1,4 @@
 use Rattle.blocks.specs.Blocks.{leaves_area}
-use borrow.Author.Rules.{rules}
 use Rattle.blocks.proofs.leaves_area.Goals as goal
 
 pub returns : goal.returns

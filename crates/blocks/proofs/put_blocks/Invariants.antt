@@ -1,15 +1,8 @@
-use mathlib.Core.Path.{◌≡◌, refl, sym, ap, subst, ◌∙◌}
-use Prim.Native.Nat.{ℕ, ◌+◌, ◌-◌, ◌≤◌}
-use native.Mathlib.Omega.{arith}
-use borrow.Author.Rules.{rules}
-use mathlib.Core.List.{List}
+use mathlib.Core.Path.{◌≡◌}
+use Prim.Native.Nat.{◌+◌, ◌-◌, ◌≤◌}
 use lib.ListN.{length}
 use lib.Seq.{sets}
-use Rattle.parts.proofs.Lists.{sets_append}
-use Rattle.block_bytes.specs.Block.{block_of}
 use Rattle.blocks.specs.Blocks.{blocks_of}
-use Rattle.block_bytes.proofs.Block.{block_le}
-use Rattle.blocks.proofs.Runs.{blocks_more, blocks_length, blocks_le}
 use Rattle.blocks.proofs.put_blocks.Given as goal
 
 abbrev pub invariant-loop-k : goal.invariant-loop-k

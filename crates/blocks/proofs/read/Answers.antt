@@ -7,7 +7,6 @@ use Rattle.errors.specs.declared.RadioError.TheVariants.{NoSuchBlock, ReadLeaves
 use Rattle.reply.specs.Reply.{good, fault}
 use Rattle.reply.proofs.Finish.{said, good_run}
 use Rattle.blocks.specs.Blocks.{blocks_of, read_of}
-use borrow.Author.Rules.{rules}
 use Rattle.blocks.proofs.read.Goals as goal
 
 pub returns-then-above : goal.returns-then-above

@@ -1,5 +1,4 @@
 use Rattle.bus.specs.Bus.{counted_dynamic}
-use Rattle.std.proofs.Common.{rules}
 use Rattle.bus.proofs.counted_dynamic.Goals as goal
 
 pub returns-in-Closed : goal.returns-in-Closed

@@ -1,5 +1,4 @@
 use Rattle.bus.specs.Bus.{is_active}
-use Rattle.std.proofs.Common.{rules}
 use Rattle.bus.proofs.is_active.Goals as goal
 
 pub returns-in-Idle : goal.returns-in-Idle

@@ -1,5 +1,4 @@
 use Rattle.bus.specs.Bus.{is_open}
-use Rattle.std.proofs.Common.{rules}
 use Rattle.bus.proofs.is_open.Goals as goal
 
 pub returns : goal.returns

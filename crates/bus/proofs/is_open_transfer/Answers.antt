@@ -1,5 +1,4 @@
 use Rattle.bus.specs.Bus.{is_open_transfer}
-use Rattle.std.proofs.Common.{rules}
 use Rattle.bus.proofs.is_open_transfer.Goals as goal
 
 pub returns-in-Closed : goal.returns-in-Closed

@@ -1,5 +1,4 @@
 use Rattle.bus.specs.Bus.{kept_of}
-use Rattle.std.proofs.Common.{rules}
 use Rattle.bus.proofs.kept_of.Goals as goal
 
 pub returns-in-Closed : goal.returns-in-Closed

@@ -1,5 +1,4 @@
 use Rattle.bus.specs.Bus.{page_bytes}
-use Rattle.std.proofs.Common.{rules}
 use Rattle.bus.proofs.page_bytes.Goals as goal
 
 pub returns-in-Idle : goal.returns-in-Idle

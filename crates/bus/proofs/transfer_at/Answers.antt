@@ -1,5 +1,4 @@
 use Rattle.bus.specs.Bus.{transfer_at}
-use Rattle.std.proofs.Common.{rules}
 use Rattle.bus.proofs.transfer_at.Goals as goal
 
 pub returns-in-Idle : goal.returns-in-Idle

@@ -1,7 +1,6 @@
 use Rattle.parts.specs.Pick.{pick}
 use Rattle.replies_fit.specs.Claims.{reply_fits}
 use Rattle.capi.specs.Interface.{answer_number}
-use borrow.Author.Rules.{rules}
 use Rattle.capi.proofs.answer_number.Goals as goal
 
 pub returns-in-Refused : goal.returns-in-Refused

@@ -1,5 +1,4 @@
 use Rattle.parts.proofs.Picks.{picks}
-use borrow.Author.Rules.{rules}
 use Rattle.capi.proofs.reply_number.Goals as goal
 
 pub returns-then-n-le-REPLY_BYTES : goal.returns-then-n-le-REPLY_BYTES

@@ -5,7 +5,6 @@ use Rattle.replies_fit.specs.Claims.{reply_fits}
 use Rattle.replies_fit.proofs.RepliesFit.{fresh_reply_fits}
 use Rattle.capi.specs.Interface.{fresh_call}
 use Rattle.capi.proofs.Calls.{number_fits, freshened}
-use borrow.Author.Rules.{rules}
 use Rattle.capi.proofs.st25dv_fresh.Goals as goal
 
 pub returns-in-RefusedBy : goal.returns-in-RefusedBy

@@ -6,7 +6,6 @@ use Rattle.replies_fit.specs.Claims.{reply_fits}
 use Rattle.replies_fit.proofs.RepliesFit.{steps_fit}
 use Rattle.capi.specs.Interface.{step_call}
 use Rattle.capi.proofs.Calls.{number_fits, stepped}
-use borrow.Author.Rules.{rules}
 use Rattle.capi.proofs.st25dv_step.Goals as goal
 
 pub returns-in-RefusedBy : goal.returns-in-RefusedBy

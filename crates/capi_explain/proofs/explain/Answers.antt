@@ -1,7 +1,6 @@
-use mathlib.Core.Path.{sym, ap, ◌∙◌}
+use mathlib.Core.Path.{sym, ◌∙◌}
 use Rattle.refusals.specs.Refusals.{unless_refused}
 use Rattle.capi_explain.specs.Explain.{explain_of}
-use borrow.Author.Rules.{rules}
 use Rattle.capi_explain.proofs.explain.Goals as goal
 
 pub returns-in-RefusedBy : goal.returns-in-RefusedBy

@@ -3,7 +3,7 @@ use mathlib.Core.Bool.{false}
 use Prim.Native.Nat.{ℕ, ◌-◌, ◌≤◌}
 use native.Mathlib.Omega.{arith}
 use lib.ListN.{length}
-use Rattle.capi_rack.proofs.Masking.{Masking, small, picked, masking_starts, masking_more, masking_ends}
+use Rattle.capi_rack.proofs.Masking.{small, picked, masking_starts, masking_more, masking_ends}
 use borrow.Author.Rules.{rules}
 use Rattle.capi_rack.proofs.mask.Goals as goal
 

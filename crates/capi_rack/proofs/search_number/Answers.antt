@@ -1,5 +1,4 @@
 use Rattle.capi_rack.specs.RackInterface.{search_number}
-use borrow.Author.Rules.{rules}
 use Rattle.capi_rack.proofs.search_number.Goals as goal
 
 pub returns-in-Refused : goal.returns-in-Refused

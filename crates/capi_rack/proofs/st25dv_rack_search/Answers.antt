@@ -8,7 +8,6 @@ use Rattle.tag.specs.contracts.Tag as tag-type
 use Rattle.rack.specs.Rack.{rack_of}
 use Rattle.rack_search.specs.Search.{search_entry}
 use Rattle.capi_rack.proofs.Calls.{refused_search, searched}
-use borrow.Author.Rules.{rules}
 use Rattle.capi_rack.proofs.st25dv_rack_search.Goals as goal
 
 sixteen : (c : tie.After-search) → length c.search.result.tags ≡ 16

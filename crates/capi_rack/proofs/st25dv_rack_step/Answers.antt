@@ -9,7 +9,6 @@ use Rattle.refusals.specs.Call.{handed_in}
 use Rattle.rack.specs.Rack.{rack_of, rack_call}
 use Rattle.rack.specs.Step.{rack_entry}
 use Rattle.capi_rack.proofs.Calls.{refused_step, stepped}
-use borrow.Author.Rules.{rules}
 use Rattle.capi_rack.proofs.st25dv_rack_step.Goals as goal
 
 sixteen : (c : tie.After-step) → length c.step.result.tags ≡ 16

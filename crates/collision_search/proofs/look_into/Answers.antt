@@ -10,7 +10,7 @@ use Rattle.parts.proofs.Below.{are_below}
 use Rattle.rack.specs.Rack.{rack_of}
 use Rattle.rack.specs.Step.{rack_entry}
 use Rattle.rack_search.specs.declared.SearchAnswer.{SearchAnswer}
-use Rattle.rack_search.specs.declared.SearchAnswer.TheVariants.{NoCollision, Collision}
+use Rattle.rack_search.specs.declared.SearchAnswer.TheVariants.{Collision}
 use Rattle.rack_search.specs.Search.{sends_frame, search_result, look}
 use Rattle.rack_search.proofs.Search.{formed_of}
 use Rattle.collision_search.proofs.Slots.{count, Counted, none_counted, on_silence, on_first, on_second, at_end, Looking, looking_first, none_left, collided, looking_next}

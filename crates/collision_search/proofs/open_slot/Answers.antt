@@ -3,7 +3,6 @@ use mathlib.Core.List.{[]}
 use Rattle.rack_hear.specs.Hear.{hear_all_of}
 use Rattle.collision_search.specs.Slot.{hears_call}
 use Rattle.collision_search.proofs.Slots.{first_slot, later_slot}
-use borrow.Author.Rules.{rules}
 use Rattle.collision_search.proofs.open_slot.Goals as goal
 
 pub returns-then-slot-eq0 : goal.returns-then-slot-eq0

@@ -1,5 +1,4 @@
 use Rattle.rack_search.specs.Search.{opens_sixteen}
-use borrow.Author.Rules.{rules}
 use Rattle.collision_search.proofs.opens_sixteen.Goals as goal
 
 pub returns : goal.returns

@@ -1,5 +1,4 @@
 use Rattle.parts.proofs.Picks.{picks}
-use borrow.Author.Rules.{rules}
 use Rattle.collision_search.proofs.slot_count.Goals as goal
 
 pub returns-then-opens_sixteen : goal.returns-then-opens_sixteen

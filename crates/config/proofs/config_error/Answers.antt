@@ -1,7 +1,6 @@
 use Rattle.config.specs.Claims.{config_error}
 use Rattle.parts.specs.Pick.{pick}
 use Rattle.config.proofs.ByVerdict.{closed}
-use borrow.Author.Rules.{rules}
 use Rattle.config.proofs.config_error.Goals as goal
 
 pub returns-in-OutsideMap : goal.returns-in-OutsideMap

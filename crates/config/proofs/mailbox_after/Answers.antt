@@ -1,6 +1,5 @@
 use Rattle.parts.proofs.Picks.{picks}
 use Rattle.config.specs.Config.{mailbox_after_write}
-use borrow.Author.Rules.{rules}
 use Rattle.config.proofs.mailbox_after.Goals as goal
 
 pub returns-then-x-eq1 : goal.returns-then-x-eq1

@@ -1,5 +1,4 @@
 use mathlib.Core.List.{[], ◌∷◌}
-use borrow.Author.Rules.{rules}
 use mathlib.Core.Path.{ap}
 use Rattle.register_table.specs.declared.RegisterRow.{RegisterRow}
 use Rattle.parts.proofs.Picks.{picks}

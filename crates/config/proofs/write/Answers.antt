@@ -4,7 +4,6 @@ use Rattle.reply.proofs.Finish.{said}
 use Rattle.config.specs.Config.{write_config_of}
 use Rattle.config.specs.Claims.{config_by}
 use Rattle.config.proofs.ByVerdict.{config_by_verdict}
-use borrow.Author.Rules.{rules}
 use Rattle.config.proofs.write.Goals as goal
 
 pub returns-in-Allowed : goal.returns-in-Allowed

@@ -1,4 +1,3 @@
-use borrow.Author.Rules.{rules}
 use Rattle.config.specs.Config.{written_core}
 use Rattle.config.proofs.written_core.Goals as goal
 

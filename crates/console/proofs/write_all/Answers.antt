@@ -1,10 +1,9 @@
 use borrow.Author.Rules.{rules}
 use borrow.Author.Tests.{ltb-true, eq-eqb}
 use native.Mathlib.Omega.{arith}
-use mathlib.Core.Path.{◌≡◌}
 use Prim.Native.Nat.{◌+◌, ◌-◌, ◌≤◌, ◌<◌}
 use lib.Dec.{ltb}
-use lib.ListN.{length, drop, take, length-take, length-drop}
+use lib.ListN.{length, drop, length-take, length-drop}
 use Rattle.parts.proofs.Bools.{and_left, and_right}
 use Rattle.console.proofs.write_all.Goals as goal
 

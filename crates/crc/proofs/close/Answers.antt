@@ -4,7 +4,6 @@ use native.Mathlib.Nat.{sub-zero}
 use native.Mathlib.Numerals.{add-one}
 use native.Mathlib.Omega.{arith}
 use lib.ListN.{take, length-set}
-use borrow.Author.Rules.{rules}
 use Rattle.crc.specs.Crc.{crc_of}
 use Rattle.crc.proofs.Frames.{closed_fits, closed_past}
 use Rattle.crc.proofs.close.Goals as goal

@@ -1,5 +1,4 @@
-use borrow.Author.Rules.{rules}
-use Rattle.crc.specs.Crc.{bits, byte}
+use Rattle.crc.specs.Crc.{byte}
 use Rattle.crc.proofs.Nibbles.{by_two_lem}
 use Rattle.crc.proofs.feed.Goals as goal
 

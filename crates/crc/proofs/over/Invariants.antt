@@ -1,11 +1,7 @@
-use borrow.Author.Rules.{rules}
-use mathlib.Core.Path.{◌≡◌, refl, sym, ap, ◌∙◌}
-use Prim.Native.Nat.{ℕ, ◌+◌, ◌≤◌, ◌-◌}
-use native.Mathlib.Omega.{arith}
+use mathlib.Core.Path.{◌≡◌}
+use Prim.Native.Nat.{◌≤◌, ◌-◌}
 use lib.ListN.{length, drop}
-use lib.Bits.{bit_xor}
-use Rattle.crc.specs.Crc.{crc_of, run}
-use Rattle.crc.proofs.Run.{run_on, run_end}
+use Rattle.crc.specs.Crc.{run}
 use Rattle.crc.proofs.over.Given as goal
 
 -- what is left to run from here gives what the whole gives from the start

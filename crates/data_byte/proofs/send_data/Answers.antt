@@ -1,8 +1,7 @@
-use mathlib.Core.Path.{sym, ◌∙◌}
+use mathlib.Core.Path.{◌∙◌}
 use native.Mathlib.Omega.{arith}
 use native.Mathlib.Numerals.{add-one}
 use Rattle.data_byte.proofs.Data.{judged, room, taken, in_spoiled, spoils}
-use borrow.Author.Rules.{rules}
 use Rattle.data_byte.proofs.send_data.Goals as goal
 
 pub overflow_add-count : goal.overflow_add-count

@@ -1,12 +1,10 @@
-use mathlib.Core.Path.{◌≡◌, refl, ap, ◌∙◌}
-use Prim.Native.Nat.{ℕ, ◌-◌, ◌≤◌}
+use mathlib.Core.Path.{◌≡◌, refl, ◌∙◌}
+use Prim.Native.Nat.{◌-◌}
 use native.Mathlib.Numerals.{add-one}
 use native.Mathlib.Omega.{arith}
 use Rattle.register_table.specs.Table.{register_count, place_bits}
 use Rattle.register_table.proofs.Rows.{masked}
-use Rattle.registers.specs.Map.{register_bytes}
 use Rattle.defined_bits.specs.Defined.{defined_to, defined_only}
-use borrow.Author.Rules.{rules}
 use Rattle.defined_bits.proofs.is_defined.Goals as goal
 
 pub loop-i-init : goal.loop-i-init

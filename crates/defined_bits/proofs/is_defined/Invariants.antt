@@ -1,12 +1,7 @@
-use mathlib.Core.Path.{◌≡◌, refl, ap, ◌∙◌}
-use Prim.Native.Nat.{ℕ, ◌-◌, ◌≤◌}
-use native.Mathlib.Numerals.{add-one}
-use native.Mathlib.Omega.{arith}
-use Rattle.register_table.specs.Table.{register_count, place_bits}
-use Rattle.register_table.proofs.Rows.{masked}
-use Rattle.registers.specs.Map.{register_bytes}
-use Rattle.defined_bits.specs.Defined.{defined_to, defined_only}
-use borrow.Author.Rules.{rules}
+use mathlib.Core.Path.{◌≡◌}
+use Prim.Native.Nat.{◌-◌, ◌≤◌}
+use Rattle.register_table.specs.Table.{register_count}
+use Rattle.defined_bits.specs.Defined.{defined_to}
 use Rattle.defined_bits.proofs.is_defined.Given as goal
 
 abbrev pub invariant-loop-i : goal.invariant-loop-i

@@ -4,7 +4,6 @@ use Prim.Native.Nat.{ℕ, ◌-◌}
 use lib.ListN.{take, drop}
 use Rattle.lines.specs.Line.{line_length}
 use Rattle.example_lines.proofs.Laws.{line_within, no_line}
-use borrow.Author.Rules.{rules}
 use Rattle.example_lines.proofs.line_at.Goals as goal
 
 pub returns-then-s-at : goal.returns-then-s-at

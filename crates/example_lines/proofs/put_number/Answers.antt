@@ -1,12 +1,11 @@
 use native.Mathlib.Omega.{arith}
-use mathlib.Core.Path.{◌≡◌, ◌∙◌}
+use mathlib.Core.Path.{◌∙◌}
 use mathlib.Core.List.{[], ◌∷◌}
 use Prim.Native.Nat.{◌≤◌}
 use lib.ListN.{length}
 use Rattle.text.specs.Decimal.{decimal}
 use Rattle.text.specs.Place.{last_place}
 use Rattle.text.proofs.PlaceLaws.{behind}
-use borrow.Author.Rules.{rules}
 use Rattle.example_lines.proofs.put_number.Goals as goal
 
 pub returns : goal.returns

@@ -1,10 +1,9 @@
-use mathlib.Core.Path.{◌≡◌, refl, sym, ap, ◌∙◌}
+use mathlib.Core.Path.{refl, sym, ap, ◌∙◌}
 use mathlib.Core.Bool.{true}
 use borrow.Author.Tests.{not-true, not-false}
 use Rattle.parts.proofs.Picks.{pick_true, pick_false}
 use Rattle.example_states.specs.States.{patch_outcome, patch_by}
 use Rattle.example_states.proofs.States.{encoded, patched_by}
-use borrow.Author.Rules.{rules}
 use Rattle.example_states.proofs.patch.Goals as goal
 
 pub returns-then-not-store : goal.returns-then-not-store

@@ -1,4 +1,4 @@
-use mathlib.Core.Path.{◌≡◌, refl, ap, ◌∙◌}
+use mathlib.Core.Path.{refl, ap, ◌∙◌}
 use mathlib.Core.List.{List}
 use Prim.Native.Nat.{ℕ}
 use lib.ListN.{take}
@@ -6,7 +6,6 @@ use Rattle.text.specs.Place.{text_at}
 use Rattle.hexadecimal.specs.Hex.{hex_text}
 use Rattle.state.specs.Layout.{state_bytes}
 use Rattle.example_states.proofs.States.{encoded, all_bytes}
-use borrow.Author.Rules.{rules}
 use Rattle.example_states.proofs.put_state.Goals as goal
 
 pub returns : goal.returns

@@ -1,6 +1,5 @@
 use Rattle.parts.proofs.Picks.{picks}
 use Rattle.example_states.specs.Store.{store_of}
-use borrow.Author.Rules.{rules}
 use Rattle.example_states.proofs.store.Goals as goal
 
 pub returns-then-s-lt2 : goal.returns-then-s-lt2

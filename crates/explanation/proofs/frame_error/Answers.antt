@@ -1,4 +1,3 @@
-use borrow.Author.Rules.{rules}
 use Rattle.explanation_rules.proofs.Frames.{on_request, error_append}
 use Rattle.explanation.proofs.frame_error.Goals as goal
 

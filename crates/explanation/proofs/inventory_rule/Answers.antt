@@ -1,7 +1,6 @@
 use borrow.Author.Tests.{eq-eqb, ne_eqb}
 use Rattle.parts.specs.Pick.{pick}
 use Rattle.explanation_rules.proofs.Frames.{inventory_number}
-use borrow.Author.Rules.{rules}
 use Rattle.explanation.proofs.inventory_rule.Goals as goal
 
 pub returns-then-silent-ne0 : goal.returns-then-silent-ne0

@@ -1,4 +1,3 @@
-use borrow.Author.Rules.{rules}
 use Rattle.parts.proofs.Picks.{picks}
 use Rattle.explanation_rules.specs.Conditions.{is_select_byte}
 use Rattle.explanation.proofs.other_byte.Goals as goal

@@ -1,4 +1,3 @@
-use borrow.Author.Rules.{rules}
 use borrow.Author.Tests.{eq-eqb, ne_eqb}
 use Rattle.parts.specs.Pick.{pick}
 use Rattle.explanation_rules.proofs.Frames.{frame_number}

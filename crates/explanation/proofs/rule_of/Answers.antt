@@ -1,4 +1,3 @@
-use borrow.Author.Rules.{rules}
 use Rattle.rule_list.specs.RuleList.{first_says}
 use Rattle.explanation_rules.specs.Explanation.{rules_for, explained, explained_number, rule_at}
 use Rattle.explanation.proofs.rule_of.Goals as goal

@@ -1,4 +1,3 @@
-use borrow.Author.Rules.{rules}
 use mathlib.Core.Path.{refl, sym, ap, ◌∙◌}
 use Rattle.write_reasons.specs.declared.WriteAsked.{WriteAsked}
 use Rattle.write_rules.specs.Situation.{situation_of}

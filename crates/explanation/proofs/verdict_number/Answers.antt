@@ -1,4 +1,3 @@
-use borrow.Author.Rules.{rules}
 use Rattle.explanation_rules.specs.Numbers.{verdict_number}
 use Rattle.explanation.proofs.verdict_number.Goals as goal
 

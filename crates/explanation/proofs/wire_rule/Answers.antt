@@ -1,4 +1,3 @@
-use borrow.Author.Rules.{rules}
 use Rattle.rule_list.specs.RuleList.{first_says}
 use Rattle.explanation_rules.specs.Explanation.{wire_rules, rules_for, explained, explained_number}
 use Rattle.explanation.proofs.wire_rule.Goals as goal

@@ -1,4 +1,3 @@
-use borrow.Author.Rules.{rules}
 use Rattle.explanation_rules.specs.Numbers.{write_number}
 use Rattle.explanation.proofs.write_number.Goals as goal
 

@@ -1,5 +1,4 @@
 use Rattle.fetch.specs.Fetch.{fetched}
-use borrow.Author.Rules.{rules}
 use Rattle.fetch.proofs.fetched.Goals as goal
 
 pub returns-in-User : goal.returns-in-User

@@ -1,5 +1,4 @@
 use Rattle.fetch.specs.Fetch.{is_last}
-use borrow.Author.Rules.{rules}
 use Rattle.fetch.proofs.is_last.Goals as goal
 
 pub returns-in-User : goal.returns-in-User

@@ -1,6 +1,5 @@
 use Rattle.parts.proofs.Picks.{picks}
 use Rattle.fetch.specs.Fetch.{mailbox_byte}
-use borrow.Author.Rules.{rules}
 use Rattle.fetch.proofs.mailbox_byte.Goals as goal
 
 pub returns-then-mailbox-i : goal.returns-then-mailbox-i

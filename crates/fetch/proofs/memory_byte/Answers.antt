@@ -1,7 +1,6 @@
 use mathlib.Core.Path.{sym, ◌∙◌}
 use Rattle.parts.proofs.Picks.{picks}
 use Rattle.fetch.specs.Fetch.{memory_byte}
-use borrow.Author.Rules.{rules}
 use Rattle.fetch.proofs.memory_byte.Goals as goal
 
 pub returns-then-may_read : goal.returns-then-may_read

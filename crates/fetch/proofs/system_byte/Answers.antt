@@ -3,7 +3,6 @@ use borrow.Author.Tests.{leb-true}
 use Rattle.parts.proofs.Bools.{and_left}
 use Rattle.parts.proofs.Picks.{picks}
 use Rattle.fetch.specs.Fetch.{system_byte}
-use borrow.Author.Rules.{rules}
 use Rattle.fetch.proofs.system_byte.Goals as goal
 
 pub overflow_sub-address : goal.overflow_sub-address

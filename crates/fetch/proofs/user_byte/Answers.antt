@@ -1,6 +1,5 @@
 use Rattle.parts.proofs.Picks.{picks}
 use Rattle.fetch.specs.Fetch.{user_byte}
-use borrow.Author.Rules.{rules}
 use Rattle.fetch.proofs.user_byte.Goals as goal
 
 pub returns-then-address-lt512 : goal.returns-then-address-lt512

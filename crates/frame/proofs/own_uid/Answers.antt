@@ -1,4 +1,3 @@
-use borrow.Author.Rules.{rules}
 use Rattle.frame.specs.Fields.{own_uid}
 use Rattle.frame.proofs.own_uid.Goals as goal
 

@@ -1,4 +1,3 @@
-use borrow.Author.Rules.{rules}
 use Rattle.frame.specs.Fields.{param}
 use Rattle.frame.proofs.param.Goals as goal
 

@@ -1,9 +1,8 @@
-use borrow.Author.Rules.{rules}
 use native.Mathlib.Omega.{arith}
-use mathlib.Core.Path.{◌≡◌, refl, sym, ap, ◌∙◌}
+use mathlib.Core.Path.{refl, sym, ap, ◌∙◌}
 use mathlib.Core.Bool.{Bool, ◌&&◌}
-use Prim.Native.Nat.{◌+◌, ◌-◌, ◌≤◌}
-use lib.ListN.{length, drop}
+use Prim.Native.Nat.{◌+◌, ◌-◌}
+use lib.ListN.{drop}
 use Rattle.hexadecimal.specs.Hex.{all_hex}
 use Rattle.hexadecimal.proofs.HexLaws.{all_hex_more, all_hex_end}
 use Rattle.hexadecimal.proofs.all_hex.Goals as goal

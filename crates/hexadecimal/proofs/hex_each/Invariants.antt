@@ -1,13 +1,9 @@
-use borrow.Author.Rules.{rules}
-use native.Mathlib.Omega.{arith}
-use mathlib.Core.Path.{◌≡◌, ap, ◌∙◌}
-use mathlib.Core.List.{List, [], ◌∷◌}
-use Prim.Native.Nat.{ℕ, ◌+◌, ◌-◌, ◌≤◌, min}
-use lib.ListN.{take, get_or}
+use mathlib.Core.Path.{◌≡◌}
+use mathlib.Core.List.{[]}
+use Prim.Native.Nat.{◌-◌, ◌≤◌}
+use lib.ListN.{take}
 use Rattle.hexadecimal.specs.Hex.{hex_text}
-use Rattle.text.specs.Place.{stored, last_place, text_at}
-use Rattle.hexadecimal.proofs.HexLaws.{hex_text_more}
-use Rattle.text.proofs.PlaceLaws.{behind, same_room}
+use Rattle.text.specs.Place.{stored, text_at}
 use Rattle.hexadecimal.proofs.hex_each.Given as goal
 
 abbrev pub invariant-loop-i : goal.invariant-loop-i

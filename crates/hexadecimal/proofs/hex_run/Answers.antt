@@ -1,8 +1,7 @@
-use borrow.Author.Rules.{rules}
 use native.Mathlib.Omega.{arith}
 use mathlib.Core.Path.{◌≡◌, refl, ap, ◌∙◌}
-use Prim.Native.Nat.{ℕ, ◌+◌, ◌-◌, ◌*◌, ◌≤◌}
-use lib.ListN.{length, take, length-set}
+use Prim.Native.Nat.{ℕ, ◌-◌}
+use lib.ListN.{take, length-set}
 use lib.Seq.{sets}
 use Rattle.hexadecimal.specs.Hex.{hex_text}
 use Rattle.hexadecimal.proofs.HexLaws.{hex_text_stored}

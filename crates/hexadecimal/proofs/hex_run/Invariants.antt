@@ -1,11 +1,8 @@
-use borrow.Author.Rules.{rules}
-use native.Mathlib.Omega.{arith}
-use mathlib.Core.Path.{◌≡◌, refl, ap, ◌∙◌}
-use Prim.Native.Nat.{ℕ, ◌+◌, ◌-◌, ◌*◌, ◌≤◌}
-use lib.ListN.{length, take, length-set}
+use mathlib.Core.Path.{◌≡◌}
+use Prim.Native.Nat.{◌-◌, ◌≤◌}
+use lib.ListN.{length, take}
 use lib.Seq.{sets}
 use Rattle.hexadecimal.specs.Hex.{hex_text}
-use Rattle.hexadecimal.proofs.HexLaws.{hex_text_stored}
 use Rattle.hexadecimal.proofs.hex_run.Given as goal
 
 abbrev pub invariant-loop-i : goal.invariant-loop-i

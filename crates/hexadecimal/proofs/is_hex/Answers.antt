@@ -1,5 +1,4 @@
 use mathlib.Core.Path.{refl}
-use Prim.Native.Nat.{◌-◌}
 use Rattle.hexadecimal.specs.Hex.{is_hex}
 use Rattle.hexadecimal.proofs.is_hex.Goals as goal
 

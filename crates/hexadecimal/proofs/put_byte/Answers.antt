@@ -1,4 +1,3 @@
-use borrow.Author.Rules.{rules}
 use native.Mathlib.Numerals.{add-one}
 use Rattle.hexadecimal.specs.Hex.{hex_text}
 use Rattle.hexadecimal.proofs.put_byte.Goals as goal

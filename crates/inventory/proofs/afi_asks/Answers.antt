@@ -1,4 +1,3 @@
-use borrow.Author.Rules.{rules}
 use borrow.Author.Tests.{eq-eqb, ne_eqb}
 use Rattle.inventory.specs.Inventory.{afi_asks}
 use Rattle.parts.proofs.Picks.{picks}

@@ -1,5 +1,4 @@
 use Rattle.inventory.specs.Inventory.{answers_now}
-use borrow.Author.Rules.{rules}
 use Rattle.inventory.proofs.answers_now.Goals as goal
 
 pub returns : goal.returns

@@ -1,6 +1,5 @@
 use native.Mathlib.Omega.{arith}
 use Rattle.inventory.specs.Inventory.{bit_at}
-use borrow.Author.Rules.{rules}
 use Rattle.inventory.proofs.bit_at.Goals as goal
 
 pub returns : goal.returns

@@ -1,5 +1,4 @@
 use Rattle.inventory.specs.Inventory.{inventory_silent}
-use borrow.Author.Rules.{rules}
 use Rattle.inventory.proofs.inventory_silent.Goals as goal
 
 pub returns : goal.returns

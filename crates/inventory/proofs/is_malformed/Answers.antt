@@ -1,5 +1,4 @@
 use Rattle.inventory.specs.Inventory.{is_malformed}
-use borrow.Author.Rules.{rules}
 use Rattle.inventory.proofs.is_malformed.Goals as goal
 
 pub returns : goal.returns

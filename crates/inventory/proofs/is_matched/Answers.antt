@@ -1,5 +1,4 @@
 use Rattle.inventory.specs.Inventory.{is_matched}
-use borrow.Author.Rules.{rules}
 use Rattle.inventory.proofs.is_matched.Goals as goal
 
 pub returns : goal.returns

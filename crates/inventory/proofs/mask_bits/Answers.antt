@@ -1,5 +1,4 @@
 use Rattle.inventory.specs.Inventory.{mask_bits}
-use borrow.Author.Rules.{rules}
 use Rattle.inventory.proofs.mask_bits.Goals as goal
 
 pub returns : goal.returns

@@ -1,7 +1,6 @@
 use native.Mathlib.Omega.{arith}
 use Rattle.inventory.specs.Inventory.{mask_length_place}
 use Rattle.parts.proofs.Picks.{picks}
-use borrow.Author.Rules.{rules}
 use Rattle.inventory.proofs.mask_length_place.Goals as goal
 
 pub returns-then-byte_at-eq1 : goal.returns-then-byte_at-eq1

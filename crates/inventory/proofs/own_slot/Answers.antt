@@ -1,6 +1,5 @@
 use Rattle.inventory.specs.Inventory.{own_slot}
 use Rattle.parts.proofs.Picks.{picks}
-use borrow.Author.Rules.{rules}
 use Rattle.inventory.proofs.own_slot.Goals as goal
 
 pub returns-then-byte_at-eq1 : goal.returns-then-byte_at-eq1

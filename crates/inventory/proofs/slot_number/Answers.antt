@@ -1,6 +1,5 @@
 use native.Mathlib.Omega.{arith}
 use Rattle.inventory.specs.Inventory.{slot_number}
-use borrow.Author.Rules.{rules}
 use Rattle.inventory.proofs.slot_number.Goals as goal
 
 pub returns : goal.returns

@@ -1,6 +1,5 @@
 use Rattle.inventory.specs.Inventory.{slots_after}
 use Rattle.parts.proofs.Picks.{picks}
-use borrow.Author.Rules.{rules}
 use Rattle.inventory.proofs.slots_after.Goals as goal
 
 pub returns-then-is_matched : goal.returns-then-is_matched

@@ -1,5 +1,4 @@
 use Rattle.inventory.specs.Inventory.{takes_part}
-use borrow.Author.Rules.{rules}
 use Rattle.inventory.proofs.takes_part.Goals as goal
 
 pub returns : goal.returns

@@ -2,7 +2,6 @@ use Rattle.parts.proofs.Picks.{picks}
 use Rattle.reply.proofs.Finish.{silent}
 use Rattle.inventory_reply.specs.Answers.{end_of_frame_of}
 use Rattle.parts.specs.Pick.{pick}
-use borrow.Author.Rules.{rules}
 use Rattle.inventory_reply.proofs.end_of_frame.Goals as goal
 
 pub returns-then-takes_part : goal.returns-then-takes_part

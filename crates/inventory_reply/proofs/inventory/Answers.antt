@@ -2,7 +2,6 @@ use Rattle.parts.proofs.Picks.{picks}
 use Rattle.reply.proofs.Finish.{silent}
 use Rattle.inventory_reply.specs.Answers.{inventory_of}
 use Rattle.parts.specs.Pick.{pick}
-use borrow.Author.Rules.{rules}
 use Rattle.inventory_reply.proofs.inventory.Goals as goal
 
 pub returns-then-is_heard : goal.returns-then-is_heard

@@ -1,9 +1,5 @@
-use mathlib.Core.Bool.{◌&&◌}
-use lib.Dec.{leb}
-use lib.ListN.{length}
 use borrow.Author.Tests.{not-true, not-false}
 use Rattle.inventory_reply.specs.Answers.{is_heard}
-use borrow.Author.Rules.{rules}
 use Rattle.inventory_reply.proofs.is_heard.Goals as goal
 
 pub returns-then-not-takes_part : goal.returns-then-not-takes_part

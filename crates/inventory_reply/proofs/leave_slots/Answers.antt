@@ -1,7 +1,6 @@
 use Rattle.parts.proofs.Picks.{picks}
 use Rattle.reply.proofs.Finish.{said, silent}
 use Rattle.inventory_reply.specs.Answers.{inventory_reply, slots_left}
-use borrow.Author.Rules.{rules}
 use Rattle.inventory_reply.proofs.leave_slots.Goals as goal
 
 pub returns-then-answers : goal.returns-then-answers

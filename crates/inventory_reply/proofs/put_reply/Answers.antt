@@ -4,7 +4,6 @@ use native.Mathlib.Omega.{arith}
 use Rattle.parts.specs.Bytes.{bytes_at}
 use Rattle.parts.proofs.Lists.{length_bytes_at}
 use Rattle.reply.proofs.Finish.{good_run}
-use borrow.Author.Rules.{rules}
 use Rattle.inventory_reply.proofs.put_reply.Goals as goal
 
 pub returns : goal.returns

@@ -1,4 +1,3 @@
-use borrow.Author.Rules.{rules}
 use Rattle.judge.specs.Judge.{bad_flags}
 use Rattle.judge.proofs.bad_flags.Goals as goal
 

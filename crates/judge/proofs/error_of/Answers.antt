@@ -1,4 +1,3 @@
-use borrow.Author.Rules.{rules}
 use Rattle.parts.proofs.Picks.{picks}
 use Rattle.judge.specs.Judge.{error_of}
 use Rattle.judge.proofs.error_of.Goals as goal

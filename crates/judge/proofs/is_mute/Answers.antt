@@ -1,4 +1,3 @@
-use borrow.Author.Rules.{rules}
 use Rattle.judge.specs.Judge.{is_mute}
 use Rattle.judge.proofs.is_mute.Goals as goal
 

@@ -1,4 +1,3 @@
-use borrow.Author.Rules.{rules}
 use Rattle.parts.proofs.Picks.{picks}
 use Rattle.judge.specs.Judge.{shut_out}
 use Rattle.judge.proofs.shut_out.Goals as goal

@@ -1,4 +1,3 @@
-use borrow.Author.Rules.{rules}
 use Rattle.judge.specs.Judge.{wrong_length}
 use Rattle.judge.proofs.wrong_length.Goals as goal
 

@@ -1,5 +1,4 @@
 use Rattle.leg.specs.Leg.{acts_at_start}
-use borrow.Author.Rules.{rules}
 use Rattle.leg.proofs.acts_at_start.Goals as goal
 
 pub returns-in-User : goal.returns-in-User

@@ -1,4 +1,3 @@
-use borrow.Author.Rules.{rules}
 use Rattle.leg.proofs.last_fetched.Goals as goal
 
 pub returns : goal.returns

@@ -1,5 +1,4 @@
 use Rattle.leg.specs.Leg.{leg_written}
-use borrow.Author.Rules.{rules}
 use Rattle.leg.proofs.leg_written.Goals as goal
 
 pub returns-in-User : goal.returns-in-User

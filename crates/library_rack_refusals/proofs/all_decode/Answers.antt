@@ -1,13 +1,9 @@
-use mathlib.Core.Path.{◌≡◌, refl, ap}
-use mathlib.Core.Bool.{◌&&◌}
-use Prim.Native.Nat.{ℕ, ◌+◌, ◌*◌, ◌-◌, ◌≤◌}
+use mathlib.Core.Path.{refl, ap}
+use Prim.Native.Nat.{ℕ, ◌+◌, ◌-◌}
 use native.Mathlib.Omega.{arith}
 use native.Mathlib.Nat.{sub-zero}
-use lib.ListN.{drop}
-use Rattle.state.specs.Layout.{state_bytes}
 use Rattle.rack_states.specs.States.{all_decode}
 use Rattle.library_rack_refusals.proofs.Loops.{decodes_more, all_done}
-use borrow.Author.Rules.{rules}
 use Rattle.library_rack_refusals.proofs.all_decode.Goals as goal
 
 pub loop-i-init : goal.loop-i-init

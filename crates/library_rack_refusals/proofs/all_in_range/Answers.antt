@@ -1,19 +1,15 @@
-use mathlib.Core.Path.{◌≡◌, refl, ap}
-use mathlib.Core.Bool.{◌&&◌}
+use mathlib.Core.Path.{refl, ap}
 use mathlib.Core.List.{List}
-use Prim.Native.Nat.{ℕ, ◌+◌, ◌*◌, ◌-◌, ◌≤◌}
+use Prim.Native.Nat.{ℕ, ◌+◌, ◌-◌}
 use native.Mathlib.Omega.{arith}
 use native.Mathlib.Nat.{sub-zero}
-use lib.ListN.{get_or, drop}
+use lib.ListN.{get_or}
 use Rattle.tag.specs.declared.Tag.{Tag}
-use Rattle.tag.specs.Layout.{memory_bytes}
-use Rattle.state.specs.Layout.{state_bytes}
 use Rattle.rack.specs.Rack.{devices_of}
 use Rattle.rack.specs.Rules.{all_in_range}
 use Rattle.rack_states.specs.States.{tags_at}
 use Rattle.rack_states.proofs.States.{first_tag}
 use Rattle.library_rack_refusals.proofs.Loops.{ranges_more, all_ranged}
-use borrow.Author.Rules.{rules}
 use Rattle.library_rack_refusals.proofs.all_in_range.Goals as goal
 
 pub loop-i-init : goal.loop-i-init

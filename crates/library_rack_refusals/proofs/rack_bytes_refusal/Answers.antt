@@ -9,7 +9,6 @@ use Rattle.rule_list.specs.RuleList.{first_says}
 use Rattle.refusals.specs.Refusals.{judgement}
 use Rattle.rack_states.proofs.States.{tags_number}
 use Rattle.library_rack_refusals.proofs.Sizes.{sizes_at}
-use borrow.Author.Rules.{rules}
 use Rattle.library_rack_refusals.proofs.rack_bytes_refusal.Goals as goal
 
 pub returns-then-m-n : goal.returns-then-m-n

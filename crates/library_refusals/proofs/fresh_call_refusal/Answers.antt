@@ -5,7 +5,6 @@ use Rattle.rule_list.specs.RuleList.{first_says}
 use Rattle.refusals.specs.Refusals.{fresh_rules, judgement}
 use Rattle.refusals.proofs.Laws.{append_none, append_refused}
 use Rattle.library_refusals.specs.Rules.{state_rule, uid_rule}
-use borrow.Author.Rules.{rules}
 use Rattle.library_refusals.proofs.fresh_call_refusal.Goals as goal
 
 pub returns-then-s-ne-STATE_BYTES : goal.returns-then-s-ne-STATE_BYTES

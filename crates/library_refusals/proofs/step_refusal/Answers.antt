@@ -6,7 +6,6 @@ use Rattle.refusals.specs.Call.{handed_in}
 use Rattle.refusals.specs.Refusals.{call_rules, judgement}
 use Rattle.refusals.proofs.Laws.{append_none, append_refused}
 use Rattle.library_refusals.specs.Rules.{state_rule, decodes_rule}
-use borrow.Author.Rules.{rules}
 use Rattle.library_refusals.proofs.step_refusal.Goals as goal
 
 pub returns-then-s-ne-STATE_BYTES : goal.returns-then-s-ne-STATE_BYTES

@@ -1,8 +1,7 @@
-use borrow.Author.Rules.{rules}
 use native.Mathlib.Omega.{arith}
-use mathlib.Core.Path.{◌≡◌, sym, ap, ◌∙◌}
-use mathlib.Core.List.{List, []}
-use Prim.Native.Nat.{ℕ, ◌-◌}
+use mathlib.Core.Path.{◌≡◌, sym, ap}
+use mathlib.Core.List.{[]}
+use Prim.Native.Nat.{◌-◌}
 use lib.ListN.{length, take, drop, length-drop}
 use lib.Seq.{sets, take_all}
 use Rattle.hexadecimal.specs.Hex.{hex_bytes}

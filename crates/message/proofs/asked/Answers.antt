@@ -1,4 +1,3 @@
-use borrow.Author.Rules.{rules}
 use Rattle.parts.proofs.Picks.{picks}
 use Rattle.message.specs.Message.{asked}
 use Rattle.message.proofs.asked.Goals as goal

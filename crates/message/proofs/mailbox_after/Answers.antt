@@ -1,4 +1,3 @@
-use borrow.Author.Rules.{rules}
 use Rattle.parts.proofs.Picks.{picks}
 use Rattle.message.specs.Message.{mailbox_after_read}
 use Rattle.message.proofs.mailbox_after.Goals as goal

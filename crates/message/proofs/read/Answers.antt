@@ -1,6 +1,5 @@
 use Prim.Native.Nat.{◌+◌}
 use native.Mathlib.Omega.{arith}
-use borrow.Author.Rules.{rules}
 use Rattle.parts.specs.Bytes.{bytes_at}
 use Rattle.parts.proofs.Picks.{picks}
 use Rattle.parts.proofs.Lists.{length_bytes_at}
@@ -8,7 +7,7 @@ use Rattle.tag.specs.Layout.{mailbox_place}
 use Rattle.errors.specs.declared.RadioError.TheVariants.{MailboxDisabled, PastMessage}
 use Rattle.reply.specs.Reply.{good, fault}
 use Rattle.reply.proofs.Finish.{said, good_run}
-use Rattle.message.specs.Message.{asked, read_message_of}
+use Rattle.message.specs.Message.{read_message_of}
 use Rattle.message.proofs.read.Goals as goal
 
 pub returns-then-not-b : goal.returns-then-not-b

@@ -1,11 +1,5 @@
 use mathlib.Core.Path.{ap}
 use Rattle.model.specs.Step.{FreshResult, step_result, act_of}
-use borrow.Author.Rules.{rules}
-use Rattle.model.proofs.act.Reads as reads
-use Rattle.model.proofs.act.Lts as lts
-use Rattle.model.proofs.by_field.Reads as by-field-reads
-use Rattle.model.proofs.by_frame.Reads as by-frame-reads
-use Rattle.model.proofs.by_wire.Reads as by-wire-reads
 use Rattle.model.proofs.act.Goals as goal
 
 -- src/lib.rt:159:1

@@ -1,7 +1,6 @@
 use mathlib.Core.Path.{ap}
 use Rattle.reply.specs.Outcome.{RadioResult, with_radio}
 use Rattle.model.specs.Step.{step_result, from_radio, act_of}
-use borrow.Author.Rules.{rules}
 use Rattle.model.proofs.by_end_of_frame.Goals as goal
 
 pub returns : goal.returns

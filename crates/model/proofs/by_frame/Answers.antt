@@ -1,12 +1,6 @@
 use mathlib.Core.Path.{ap}
 use Rattle.reply.specs.Outcome.{RadioResult, with_radio}
 use Rattle.model.specs.Step.{step_result, from_radio, act_of}
-use borrow.Author.Rules.{rules}
-use Rattle.model.proofs.by_frame.Reads as reads
-use Rattle.model.proofs.by_frame.Lts as lts
-use Rattle.model.proofs.from_radio.Reads as from-radio-reads
-use Rattle.radio.proofs.radio.Reads as radio-reads
-use Rattle.bus.proofs.transfer_at.Reads as transfer-at-reads
 use Rattle.model.proofs.by_frame.Goals as goal
 
 -- src/lib.rt:128:1

@@ -1,12 +1,7 @@
 use mathlib.Core.Path.{ap}
 use Rattle.signal.specs.Signal.{WireResult}
 use Rattle.model.specs.Step.{fresh_result, from_wire}
-use borrow.Author.Rules.{rules}
 use Rattle.tag.specs.Parts.{with_wire}
-use Rattle.model.proofs.by_wire.Reads as reads
-use Rattle.model.proofs.by_wire.Lts as lts
-use Rattle.model.proofs.from_wire.Reads as from-wire-reads
-use Rattle.wire.proofs.step.Reads as step-reads
 use Rattle.model.proofs.by_wire.Goals as goal
 
 -- src/lib.rt:98:1

@@ -3,7 +3,6 @@ use Rattle.refusals.specs.Refusals.{unless_refused}
 use Rattle.model.specs.Step.{fresh_of}
 use Rattle.model.proofs.Acts.{fresh_size}
 use Rattle.model.proofs.Clear.{cleared}
-use borrow.Author.Rules.{rules}
 use Rattle.model.proofs.fresh.Goals as goal
 
 pub returns-in-RefusedBy : goal.returns-in-RefusedBy

@@ -1,7 +1,4 @@
 use Rattle.model.specs.Step.{from_radio}
-use borrow.Author.Rules.{rules}
-use Rattle.model.proofs.from_radio.Reads as reads
-use Rattle.model.proofs.from_radio.Lts as lts
 use Rattle.model.proofs.from_radio.Goals as goal
 
 -- src/lib.rt:88:1

@@ -1,7 +1,4 @@
 use Rattle.model.specs.Step.{from_wire}
-use borrow.Author.Rules.{rules}
-use Rattle.model.proofs.from_wire.Reads as reads
-use Rattle.model.proofs.from_wire.Lts as lts
 use Rattle.model.proofs.from_wire.Goals as goal
 
 -- src/lib.rt:77:1

@@ -1,7 +1,6 @@
 use mathlib.Core.Path.{sym, ◌∙◌}
 use Rattle.refusals.specs.Refusals.{unless_refused}
 use Rattle.model.specs.Step.{step_of}
-use borrow.Author.Rules.{rules}
 use Rattle.model.proofs.step.Goals as goal
 
 pub returns-in-RefusedBy : goal.returns-in-RefusedBy

@@ -1,5 +1,4 @@
 use Rattle.model.specs.Step.{is_refused}
-use borrow.Author.Rules.{rules}
 use Rattle.next_state.proofs.is_refused.Goals as goal
 
 pub returns-in-Refused : goal.returns-in-Refused

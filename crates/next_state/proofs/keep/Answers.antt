@@ -4,7 +4,6 @@ use Rattle.parts.proofs.Picks.{pick_true, pick_false}
 use Rattle.state.specs.Layout.{bytes_of}
 use Rattle.next_state.specs.After.{state_after, kept_state}
 use Rattle.parts.proofs.Lists.{replaced}
-use borrow.Author.Rules.{rules}
 use Rattle.next_state.proofs.keep.Goals as goal
 
 pub returns-then-s-ne-STATE_BYTES : goal.returns-then-s-ne-STATE_BYTES

@@ -1,8 +1,7 @@
-use mathlib.Core.Path.{sym, ap, ◌∙◌}
+use mathlib.Core.Path.{ap, ◌∙◌}
 use mathlib.Core.Bool.{false}
 use Rattle.write_reasons.specs.Reasons.{is_allowed}
 use Rattle.rule.proofs.Agree.{byte_agrees}
-use borrow.Author.Rules.{rules}
 use Rattle.page.proofs.allowed.Goals as goal
 
 pub returns : goal.returns

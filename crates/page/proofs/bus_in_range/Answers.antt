@@ -1,4 +1,3 @@
-use borrow.Author.Rules.{rules}
 use Rattle.page.specs.PageRange.{bus_in_range}
 use Rattle.page.proofs.bus_in_range.Goals as goal
 

@@ -1,4 +1,3 @@
-use borrow.Author.Rules.{rules}
 use Rattle.page.proofs.page_acked.Goals as goal
 
 pub returns-in-User : goal.returns-in-User

@@ -1,12 +1,11 @@
 use mathlib.Core.Path.{◌≡◌, refl, sym, ap, ◌∙◌}
-use mathlib.Core.Bool.{Bool, true, false}
-use Prim.Native.Nat.{ℕ, ◌-◌, ◌≤◌, ◌<◌}
+use mathlib.Core.Bool.{true, false}
+use Prim.Native.Nat.{◌-◌}
 use native.Mathlib.Omega.{arith}
 use native.Mathlib.Numerals.{add-one}
-use borrow.Author.Rules.{rules}
 use borrow.Author.Tests.{not-true, not-false}
 use Rattle.parts.proofs.Bools.{and_both}
-use Rattle.page.proofs.User.{acked_at, asked_to, asked_places, refused, accepted, no_byte}
+use Rattle.page.proofs.User.{acked_at, asked_to, refused, accepted, no_byte}
 use Rattle.page.proofs.user_page.Goals as goal
 
 pub returns-then-k-eq0 : goal.returns-then-k-eq0

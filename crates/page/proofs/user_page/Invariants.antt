@@ -1,12 +1,7 @@
-use mathlib.Core.Path.{◌≡◌, refl, sym, ap, ◌∙◌}
-use mathlib.Core.Bool.{Bool, true, false}
-use Prim.Native.Nat.{ℕ, ◌-◌, ◌≤◌, ◌<◌}
-use native.Mathlib.Omega.{arith}
-use native.Mathlib.Numerals.{add-one}
-use borrow.Author.Rules.{rules}
-use borrow.Author.Tests.{not-true, not-false}
-use Rattle.parts.proofs.Bools.{and_both}
-use Rattle.page.proofs.User.{acked_at, asked_to, asked_places, refused, accepted, no_byte}
+use mathlib.Core.Path.{◌≡◌}
+use mathlib.Core.Bool.{true}
+use Prim.Native.Nat.{◌-◌, ◌≤◌}
+use Rattle.page.proofs.User.{asked_to}
 use Rattle.page.proofs.user_page.Given as goal
 
 abbrev pub invariant-loop-i : goal.invariant-loop-i

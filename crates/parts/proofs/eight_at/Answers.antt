@@ -1,5 +1,4 @@
 use Rattle.parts.specs.Bytes.{bytes_at}
-use borrow.Author.Rules.{rules}
 use Rattle.parts.proofs.eight_at.Goals as goal
 
 pub returns : goal.returns

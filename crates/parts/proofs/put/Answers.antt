@@ -1,6 +1,5 @@
 use mathlib.Core.Path.{sym}
 use lib.Seq.{set_out}
-use borrow.Author.Rules.{rules}
 use Rattle.parts.proofs.put.Goals as goal
 
 pub returns-else-i-m : goal.returns-else-i-m

@@ -1,7 +1,6 @@
 use mathlib.Core.Path.{sym, ◌∙◌}
 use borrow.Author.Tests.{leb-true}
 use Rattle.parts.proofs.Bools.{and_left, and_right}
-use borrow.Author.Rules.{rules}
 use Rattle.parts.proofs.put_bytes.Goals as goal
 
 pub put_run-requires : goal.put_run-requires

@@ -1,6 +1,5 @@
 use mathlib.Core.Path.{refl}
 use Rattle.parts.specs.Bytes.{agree}
-use borrow.Author.Rules.{rules}
 use Rattle.parts.proofs.same_eight.Goals as goal
 
 pub returns : goal.returns

@@ -1,7 +1,6 @@
 use Rattle.password.specs.Claims.{password_error}
 use Rattle.parts.specs.Pick.{pick}
 use Rattle.password.proofs.ByVerdict.{closed}
-use borrow.Author.Rules.{rules}
 use Rattle.password.proofs.password_error.Goals as goal
 
 pub returns-in-OutsideMap : goal.returns-in-OutsideMap

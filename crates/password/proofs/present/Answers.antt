@@ -1,5 +1,4 @@
 use mathlib.Core.List.{[]}
-use borrow.Author.Rules.{rules}
 use Rattle.parts.proofs.Picks.{picks}
 use Rattle.errors.specs.declared.RadioError.TheVariants.{NoSuchPassword, WrongPassword}
 use Rattle.reply.specs.Reply.{good, fault}

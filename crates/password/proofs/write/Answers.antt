@@ -4,7 +4,6 @@ use Rattle.reply.proofs.Finish.{said}
 use Rattle.password.specs.Password.{write_password_of}
 use Rattle.password.specs.Claims.{password_by}
 use Rattle.password.proofs.ByVerdict.{password_by_verdict}
-use borrow.Author.Rules.{rules}
 use Rattle.password.proofs.write.Goals as goal
 
 pub returns-in-Forbidden : goal.returns-in-Forbidden

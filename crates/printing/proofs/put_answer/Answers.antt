@@ -1,4 +1,3 @@
-use borrow.Author.Rules.{rules}
 use Rattle.printing.specs.Text.{answer_text}
 use Rattle.printing.proofs.put_answer.Goals as goal
 

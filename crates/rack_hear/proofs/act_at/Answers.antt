@@ -4,12 +4,6 @@ use native.Mathlib.Omega.{arith}
 use Rattle.parts.proofs.Picks.{pick_true, pick_false}
 use Rattle.model.specs.Step.{StepResult}
 use Rattle.rack_hear.specs.Hear.{acted_at, act_at}
-use borrow.Author.Rules.{rules}
-use Rattle.rack_hear.proofs.act_at.Reads as reads
-use Rattle.rack_hear.proofs.act_at.Lts as lts
-use Rattle.model.proofs.act.Reads as act-reads
-use Rattle.rack_hear.proofs.noted.Reads as noted-reads
-use Rattle.signal_table.proofs.signal_by.Reads as signal-by-reads
 use Rattle.rack_hear.proofs.act_at.Goals as goal
 
 -- src/lib.rt:154:9

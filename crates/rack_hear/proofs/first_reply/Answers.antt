@@ -1,6 +1,4 @@
 use Rattle.parts.proofs.Picks.{picks}
-use Rattle.rack_hear.proofs.first_reply.Reads as reads
-use Rattle.rack_hear.proofs.first_reply.Lts as lts
 use Rattle.rack_hear.proofs.first_reply.Goals as goal
 
 -- src/lib.rt:105:9

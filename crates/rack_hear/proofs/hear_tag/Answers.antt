@@ -2,12 +2,6 @@ use Rattle.parts.proofs.Picks.{picks, pick_true, pick_not_le, pick_not_lt}
 use Rattle.rack_hear.specs.Hear.{hear_of}
 use Prim.Native.Nat.{◌-◌}
 use lib.ListN.{length}
-use borrow.Author.Rules.{rules}
-use Rattle.rack_hear.proofs.hear_tag.Reads as reads
-use Rattle.rack_hear.proofs.hear_tag.Lts as lts
-use Rattle.rack_hear.proofs.act_at.Reads as act-at-reads
-use Rattle.rack_hear.proofs.passed.Reads as Passed-reads
-use Rattle.rack_judge.proofs.to_all.Reads as to-all-reads
 use Rattle.rack_hear.proofs.hear_tag.Goals as goal
 
 -- src/lib.rt:175:9

@@ -1,6 +1,5 @@
 use Rattle.refusals.specs.Refusals.{unless_refused}
 use Rattle.rack_hear.specs.Hear.{hearing_of}
-use borrow.Author.Rules.{rules}
 use Rattle.rack_hear.proofs.hearing.Goals as goal
 
 pub returns-in-RefusedBy : goal.returns-in-RefusedBy

@@ -1,7 +1,4 @@
 use Rattle.model.specs.Step.{is_reply}
-use borrow.Author.Rules.{rules}
-use Rattle.rack_hear.proofs.is_reply.Reads as reads
-use Rattle.rack_hear.proofs.is_reply.Lts as lts
 use Rattle.rack_hear.proofs.is_reply.Goals as goal
 
 -- src/lib.rt:35:1

@@ -1,7 +1,5 @@
 use Rattle.parts.proofs.Picks.{picks}
 use Rattle.rack_hear.specs.Hear.{no_reply_answer}
-use Rattle.rack_hear.proofs.no_reply.Reads as reads
-use Rattle.rack_hear.proofs.no_reply.Lts as lts
 use Rattle.rack_hear.proofs.no_reply.Goals as goal
 
 -- src/lib.rt:54:9

@@ -1,9 +1,8 @@
 use mathlib.Core.Path.{◌≡◌, refl}
-use Prim.Native.Nat.{◌+◌, ◌*◌, ◌-◌, ◌≤◌}
+use Prim.Native.Nat.{◌+◌, ◌-◌}
 use native.Mathlib.Omega.{arith}
 use native.Mathlib.Numerals.{add-one}
-use lib.ListN.{length, take}
-use Rattle.tag.specs.Layout.{memory_bytes}
+use lib.ListN.{length}
 use Rattle.rack.specs.Rack.{devices_of}
 use Rattle.rack.specs.Rules.{all_in_range}
 use Rattle.rack_judge.proofs.Ranges.{ranges_more}

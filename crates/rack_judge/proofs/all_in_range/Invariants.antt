@@ -1,13 +1,9 @@
-use mathlib.Core.Path.{◌≡◌, refl}
-use Prim.Native.Nat.{◌+◌, ◌*◌, ◌-◌, ◌≤◌}
-use native.Mathlib.Omega.{arith}
-use native.Mathlib.Numerals.{add-one}
-use lib.ListN.{length, take}
+use mathlib.Core.Path.{◌≡◌}
+use Prim.Native.Nat.{◌*◌, ◌-◌, ◌≤◌}
+use lib.ListN.{take}
 use Rattle.tag.specs.Layout.{memory_bytes}
 use Rattle.rack.specs.Rack.{devices_of}
 use Rattle.rack.specs.Rules.{all_in_range}
-use Rattle.rack_judge.proofs.Ranges.{ranges_more}
-use borrow.Author.Rules.{rules}
 use Rattle.rack_judge.proofs.all_in_range.Given as goal
 
 abbrev pub invariant-loop-i : goal.invariant-loop-i

@@ -1,10 +1,10 @@
 use mathlib.Core.Path.{◌≡◌, refl}
-use Prim.Native.Nat.{◌-◌, ◌<◌, ◌≤◌}
+use Prim.Native.Nat.{◌-◌, ◌<◌}
 use native.Mathlib.Omega.{arith}
 use native.Mathlib.Numerals.{add-one}
-use lib.ListN.{length, take}
+use lib.ListN.{length}
 use Rattle.rack.specs.Rules.{equal_uids}
-use Rattle.rack_judge.proofs.Uids.{uids_of, gathered, gathered_next, equal_next}
+use Rattle.rack_judge.proofs.Uids.{uids_of, gathered_next, equal_next}
 use borrow.Author.Rules.{rules}
 use Rattle.rack_judge.proofs.equal_uids.Goals as goal
 

@@ -1,11 +1,8 @@
-use mathlib.Core.Path.{◌≡◌, refl}
-use Prim.Native.Nat.{◌-◌, ◌<◌, ◌≤◌}
-use native.Mathlib.Omega.{arith}
-use native.Mathlib.Numerals.{add-one}
-use lib.ListN.{length, take}
+use mathlib.Core.Path.{◌≡◌}
+use Prim.Native.Nat.{◌-◌, ◌≤◌}
+use lib.ListN.{take}
 use Rattle.rack.specs.Rules.{equal_uids}
-use Rattle.rack_judge.proofs.Uids.{uids_of, gathered, gathered_next, equal_next}
-use borrow.Author.Rules.{rules}
+use Rattle.rack_judge.proofs.Uids.{gathered}
 use Rattle.rack_judge.proofs.equal_uids.Given as goal
 
 abbrev pub invariant-loop-i : goal.invariant-loop-i

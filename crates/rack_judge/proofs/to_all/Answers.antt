@@ -1,7 +1,5 @@
 use mathlib.Core.Path.{refl}
 use Rattle.rack.specs.Rack.{to_all}
-use Rattle.rack_judge.proofs.to_all.Reads as reads
-use Rattle.rack_judge.proofs.to_all.Lts as lts
 use Rattle.rack_judge.proofs.to_all.Goals as goal
 
 -- src/lib.rt:106:1

@@ -1,4 +1,3 @@
-use borrow.Author.Rules.{rules}
 use Rattle.rack_printing.specs.Text.{search_text}
 use Rattle.rack_printing.proofs.put_found.Goals as goal
 

@@ -10,7 +10,7 @@ use Rattle.text.specs.Decimal.{decimal}
 use Rattle.text.specs.Place.{Stored, stored, last_place, text_at}
 use Rattle.text.proofs.PlaceLaws.{behind, same_room}
 use Rattle.rack.specs.Step.{numbers_from}
-use Rattle.rack_printing.specs.Text.{numbers_text, report_text}
+use Rattle.rack_printing.specs.Text.{numbers_text}
 use Rattle.rack_printing.proofs.TextLaws.{report_more}
 use Rattle.rack_printing.proofs.put_report.Goals as goal
 

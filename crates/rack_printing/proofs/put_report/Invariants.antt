@@ -1,17 +1,10 @@
-use borrow.Author.Rules.{rules}
-use native.Mathlib.Omega.{arith}
-use mathlib.Core.Path.{◌≡◌, refl, sym, ap, ◌∙◌}
-use mathlib.Core.Bool.{Bool, false}
-use mathlib.Core.List.{List, [], ◌∷◌}
-use Prim.Native.Nat.{ℕ, ◌+◌, ◌-◌, ◌≤◌, min}
-use lib.ListN.{length, drop, get_or, drop_of_length-le}
-use Rattle.parts.specs.Pick.{pick}
-use Rattle.text.specs.Decimal.{decimal}
-use Rattle.text.specs.Place.{Stored, stored, last_place, text_at}
-use Rattle.text.proofs.PlaceLaws.{behind, same_room}
+use mathlib.Core.Path.{◌≡◌}
+use mathlib.Core.List.{[]}
+use Prim.Native.Nat.{◌-◌, ◌≤◌}
+use lib.ListN.{length, drop}
+use Rattle.text.specs.Place.{last_place, text_at}
 use Rattle.rack.specs.Step.{numbers_from}
 use Rattle.rack_printing.specs.Text.{numbers_text, report_text}
-use Rattle.rack_printing.proofs.TextLaws.{report_more}
 use Rattle.rack_printing.proofs.put_report.Given as goal
 
 -- stored behind what stands, what is left gives the whole

@@ -1,4 +1,3 @@
-use borrow.Author.Rules.{rules}
 use Rattle.parts.proofs.Picks.{picks}
 use Rattle.rack_reading.specs.Line.{add_sent, rack_line_by}
 use Rattle.rack_reading.proofs.add_sent.Goals as goal

@@ -1,8 +1,5 @@
-use borrow.Author.Rules.{rules}
-use mathlib.Core.Path.{◌≡◌}
 use Prim.Native.Nat.{◌-◌}
 use borrow.Author.Tests.{le-ltb, ne_eqb}
-use lib.ListN.{length}
 use Rattle.parts.specs.Pick.{pick}
 use Rattle.parts.proofs.Picks.{picks}
 use Rattle.rack_reading.specs.Line.{own_line, rack_line_by}

@@ -1,11 +1,10 @@
-use borrow.Author.Rules.{rules}
 use mathlib.Core.Path.{◌≡◌, sym, ap, ◌∙◌}
 use mathlib.Core.List.{List}
 use Prim.Native.Nat.{ℕ}
 use lib.ListN.{drop}
 use Rattle.reading.specs.declared.Reading.{Reading}
 use Rattle.reading.specs.Line.{ScriptLine, line_of, line_by}
-use Rattle.rack_reading.specs.Line.{RackLine, or_own, rack_line_of, rack_line_by}
+use Rattle.rack_reading.specs.Line.{or_own, rack_line_of, rack_line_by}
 use Rattle.rack_reading.proofs.read.Goals as goal
 
 -- a line that `bench` reads so

@@ -1,4 +1,3 @@
-use borrow.Author.Rules.{rules}
 use Rattle.parts.proofs.Picks.{picks}
 use Rattle.rack_reading.specs.Line.{search_sent, rack_line_by}
 use Rattle.rack_reading.proofs.search_sent.Goals as goal

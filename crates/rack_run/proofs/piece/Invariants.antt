@@ -1,12 +1,7 @@
-use borrow.Author.Rules.{rules}
-use native.Mathlib.Omega.{arith}
-use mathlib.Core.Path.{◌≡◌, refl, ◌∙◌}
-use mathlib.Core.Bool.{true}
 use Prim.Native.Nat.{◌-◌}
-use lib.ListN.{length, take, drop, length-take}
-use Rattle.line_stream.specs.Step.{stream_buffers}
+use lib.ListN.{length, take}
 use Rattle.rack_script.specs.Script.{rack_state, rack_program}
-use Rattle.line_stream.proofs.Going.{Going, never, used_some, goes, all_used}
+use Rattle.line_stream.proofs.Going.{Going}
 use Rattle.rack_run.proofs.piece.Given as goal
 
 abbrev pub invariant-loop-at : goal.invariant-loop-at

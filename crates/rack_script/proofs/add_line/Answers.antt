@@ -1,4 +1,4 @@
-use Rattle.std.proofs.Common.{◌≡◌, sym, refl, ap, ◌∙◌, rules}
+use Rattle.std.proofs.Common.{sym, refl, ap, ◌∙◌}
 use borrow.Author.Tests.{not-true, not-false}
 use Rattle.keys.specs.declared.Uid.{Uid}
 use Rattle.parts.proofs.Picks.{pick_true, pick_false}

@@ -1,4 +1,4 @@
-use Rattle.std.proofs.Common.{arith, length-take, rules}
+use Rattle.std.proofs.Common.{arith, length-take}
 use Rattle.rack_script.proofs.Stored.{call_stored}
 use Rattle.rack_script.proofs.call_line.Goals as goal
 

@@ -1,4 +1,4 @@
-use Rattle.std.proofs.Common.{◌≡◌, ℕ, List, drop, refl, ap, ◌∙◌, arith, length-drop, length-take, rules}
+use Rattle.std.proofs.Common.{ℕ, List, drop, refl, ap, ◌∙◌, arith, length-drop, length-take}
 use Rattle.reading.proofs.LineLaws.{Framed}
 use Rattle.line_stream.specs.Step.{line_stored, stores_line}
 use Rattle.rack_reading.specs.declared.RackReading.TheVariants.{Bad, Signal, Frame, Add, Name, Search}

@@ -1,5 +1,4 @@
 use Rattle.rack_script.specs.Script.{name_answered}
-use Rattle.std.proofs.Common.{rules}
 use Rattle.rack_script.proofs.name_line.Goals as goal
 
 pub returns : goal.returns

@@ -1,6 +1,6 @@
 use Rattle.rack_script.specs.Script.{none_text}
 use Rattle.rack_script.proofs.Stored.{numbered_stored}
-use Rattle.std.proofs.Common.{ℕ, List, rules}
+use Rattle.std.proofs.Common.{ℕ, List}
 use Rattle.parts.specs.Pick.{pick}
 use Rattle.rack.specs.Step.{numbers_from}
 use Rattle.printing.specs.Text.{answer_text}

@@ -1,4 +1,4 @@
-use Rattle.std.proofs.Common.{◌≡◌, ℕ, ◌+◌, ◌-◌, ◌/◌, List, length, take, sym, ap, ◌∙◌, arith, rules}
+use Rattle.std.proofs.Common.{◌≡◌, ℕ, ◌+◌, ◌-◌, List, length, take, sym, ap, ◌∙◌, arith, rules}
 use lib.Seq.{sets}
 use Rattle.hexadecimal.specs.Hex.{hex_bytes}
 use Rattle.hexadecimal.proofs.HexLaws.{length_hex_bytes}

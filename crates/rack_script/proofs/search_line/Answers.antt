@@ -1,4 +1,4 @@
-use Rattle.std.proofs.Common.{arith, length-take, rules}
+use Rattle.std.proofs.Common.{arith, length-take}
 use Rattle.rack_script.proofs.Stored.{search_stored}
 use Rattle.rack_script.proofs.search_line.Goals as goal
 

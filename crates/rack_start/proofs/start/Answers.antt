@@ -1,5 +1,4 @@
 use Rattle.rack_start.specs.Start.{rack_start}
-use borrow.Author.Rules.{rules}
 use Rattle.rack_start.proofs.start.Goals as goal
 
 pub returns : goal.returns

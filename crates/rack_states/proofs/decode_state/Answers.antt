@@ -1,5 +1,4 @@
 use Rattle.parts.proofs.Picks.{picks}
-use borrow.Author.Rules.{rules}
 use Rattle.rack_states.proofs.decode_state.Goals as goal
 
 pub returns-then-s-ne-STATE_BYTES : goal.returns-then-s-ne-STATE_BYTES

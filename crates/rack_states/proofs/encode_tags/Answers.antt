@@ -7,7 +7,7 @@ use lib.Dec.{ltb, leb}
 use lib.ListN.{length}
 use Rattle.parts.proofs.Bools.{and_left, and_right}
 use Rattle.state.specs.Layout.{state_bytes}
-use Rattle.rack_states.proofs.Encoding.{Encoding, encoding_starts, encoding_more, encoding_ends}
+use Rattle.rack_states.proofs.Encoding.{encoding_starts, encoding_more, encoding_ends}
 use borrow.Author.Rules.{rules}
 use Rattle.rack_states.proofs.encode_tags.Goals as goal
 

@@ -9,8 +9,8 @@ use lib.ListN.{length, take}
 use Rattle.parts.proofs.Bools.{and_left, and_right}
 use Rattle.line_stream.specs.Step.{piece_by, puts}
 use Rattle.unfinished.proofs.Held.{take_within}
-use Rattle.line_stream.proofs.Turn.{Goes, begins, turns, ends}
-use Rattle.rack_script.specs.Script.{RackState, rack_state, rack_program}
+use Rattle.line_stream.proofs.Turn.{begins, turns, ends}
+use Rattle.rack_script.specs.Script.{rack_state, rack_program}
 use Rattle.rack_script.proofs.Fits.{rack_tells}
 use Rattle.rack_stream.proofs.step.Goals as goal
 

@@ -1,5 +1,4 @@
 use Rattle.radio.specs.Radio.{next_slot_of}
-use borrow.Author.Rules.{rules}
 use Rattle.radio.proofs.end_of_frame.Goals as goal
 
 pub returns : goal.returns

@@ -1,7 +1,6 @@
 use borrow.Author.Tests.{eq-eqb, ne_eqb}
 use Rattle.parts.specs.Pick.{pick}
 use Rattle.radio.specs.Radio.{radio_of}
-use borrow.Author.Rules.{rules}
 use Rattle.radio.proofs.radio.Goals as goal
 
 pub returns-then-byte_at-eq1 : goal.returns-then-byte_at-eq1

@@ -1,9 +1,7 @@
-use Rattle.reply.specs.Reply.{fault, answer_of, buffer_of}
-use Rattle.reply.specs.Outcome.{command_result}
+use Rattle.reply.specs.Reply.{answer_of, buffer_of}
 use mathlib.Core.Path.{◌≡◌}
 use Rattle.reply.proofs.Finish.{said}
 use Rattle.radio.specs.Radio.{verdict_result, verdict_of}
-use borrow.Author.Rules.{rules}
 use Rattle.radio.proofs.request.Goals as goal
 
 verdict : (c : tie.After-judge) → let a = c.before.before.before.before.before.before.before.args in

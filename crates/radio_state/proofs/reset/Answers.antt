@@ -1,5 +1,4 @@
 use mathlib.Core.List.{[]}
-use borrow.Author.Rules.{rules}
 use Rattle.reply.specs.Reply.{good}
 use Rattle.reply.proofs.Finish.{said}
 use Rattle.radio_state.specs.RadioState.{reset_to_ready_of}

@@ -1,5 +1,4 @@
 use mathlib.Core.List.{[]}
-use borrow.Author.Rules.{rules}
 use Rattle.parts.proofs.Picks.{picks}
 use Rattle.reply.specs.Reply.{good}
 use Rattle.reply.proofs.Finish.{said, silent}

@@ -1,4 +1,3 @@
-use borrow.Author.Rules.{rules}
 use Rattle.reply.proofs.Finish.{silent}
 use Rattle.radio_state.specs.RadioState.{stay_quiet_of}
 use Rattle.radio_state.proofs.stay_quiet.Goals as goal

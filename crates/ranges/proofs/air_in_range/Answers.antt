@@ -1,5 +1,4 @@
 use Rattle.ranges.specs.Ranges.{air_in_range}
-use borrow.Author.Rules.{rules}
 use Rattle.ranges.proofs.air_in_range.Goals as goal
 
 pub returns : goal.returns

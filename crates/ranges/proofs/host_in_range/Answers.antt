@@ -1,5 +1,4 @@
 use Rattle.ranges.specs.Ranges.{host_in_range}
-use borrow.Author.Rules.{rules}
 use Rattle.ranges.proofs.host_in_range.Goals as goal
 
 pub returns : goal.returns

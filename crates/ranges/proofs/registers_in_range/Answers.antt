@@ -1,5 +1,4 @@
 use Rattle.ranges.specs.Ranges.{registers_in_range}
-use borrow.Author.Rules.{rules}
 use Rattle.ranges.proofs.registers_in_range.Goals as goal
 
 pub returns : goal.returns

@@ -1,5 +1,4 @@
 use Rattle.ranges.specs.Ranges.{transfer_in_range}
-use borrow.Author.Rules.{rules}
 use Rattle.ranges.proofs.transfer_in_range.Goals as goal
 
 pub returns-in-Closed : goal.returns-in-Closed

@@ -1,4 +1,3 @@
-use borrow.Author.Rules.{rules}
 use Prim.Native.Nat.{◌-◌}
 use Rattle.parts.proofs.Picks.{picks}
 use Rattle.reading.specs.Line.{line_by, frame_sent}

@@ -2,7 +2,6 @@ use mathlib.Core.Path.{sym, ◌∙◌}
 use Rattle.refusals.specs.Call.{handed_in}
 use Rattle.refusals.specs.Refusals.{call_rules, later_rules}
 use Rattle.refusals.proofs.Laws.{append_none, append_refused}
-use borrow.Author.Rules.{rules}
 use Rattle.refusals.proofs.entry_refusal.Goals as goal
 
 pub returns-in-RefusedBy : goal.returns-in-RefusedBy

@@ -1,7 +1,6 @@
 use Rattle.parts.proofs.Picks.{picks}
 use Rattle.rule_list.specs.RuleList.{first_says}
 use Rattle.refusals.specs.Refusals.{judgement}
-use borrow.Author.Rules.{rules}
 use Rattle.refusals.proofs.later_refusal.Goals as goal
 
 pub returns-then-not-in_range : goal.returns-then-not-in_range

@@ -1,7 +1,6 @@
 use mathlib.Core.Path.{refl}
 use Rattle.register_table.specs.Table.{place_bits}
 use Rattle.register_table.proofs.Rows.{masked}
-use borrow.Author.Rules.{rules}
 use Rattle.register_table.proofs.keep_defined.Goals as goal
 
 pub returns : goal.returns

@@ -1,7 +1,6 @@
 use Rattle.parts.specs.Pick.{pick}
 use Rattle.parts.proofs.Picks.{picks}
 use Rattle.register_table.specs.Table.{row_in, row_of}
-use borrow.Author.Rules.{rules}
 use Rattle.register_table.proofs.row_of.Goals as goal
 
 pub returns-in-3 : goal.returns-in-3

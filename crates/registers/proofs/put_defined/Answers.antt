@@ -1,5 +1,4 @@
 use Rattle.registers.specs.Map.{put_defined}
-use borrow.Author.Rules.{rules}
 use Rattle.registers.proofs.put_defined.Goals as goal
 
 pub returns : goal.returns

@@ -1,4 +1,3 @@
-use borrow.Author.Rules.{rules}
 use Rattle.reply.proofs.close.Goals as goal
 
 pub returns : goal.returns

@@ -1,6 +1,5 @@
 use mathlib.Core.Path.{◌∙◌}
 use Rattle.reply.specs.Reply.{answer_of, buffer_of}
-use borrow.Author.Rules.{rules}
 use Rattle.reply.proofs.error.Goals as goal
 
 pub returns : goal.returns

@@ -1,5 +1,4 @@
 use Rattle.rights.specs.Rights.{may_read}
-use borrow.Author.Rules.{rules}
 use Rattle.rights.proofs.may_read.Goals as goal
 
 pub returns : goal.returns

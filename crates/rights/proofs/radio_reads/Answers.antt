@@ -1,6 +1,5 @@
 use Rattle.parts.proofs.Picks.{picks}
 use Rattle.rights.specs.Rights.{radio_reads}
-use borrow.Author.Rules.{rules}
 use Rattle.rights.proofs.radio_reads.Goals as goal
 
 pub returns-then-area-eq1 : goal.returns-then-area-eq1

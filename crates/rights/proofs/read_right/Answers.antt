@@ -1,5 +1,4 @@
 use Rattle.rights.specs.Rights.{read_right}
-use borrow.Author.Rules.{rules}
 use Rattle.rights.proofs.read_right.Goals as goal
 
 pub returns-in-Wire : goal.returns-in-Wire

@@ -1,6 +1,5 @@
 use mathlib.Core.Path.{refl}
 use Rattle.rights.specs.Rights.{session_opens}
-use borrow.Author.Rules.{rules}
 use Rattle.rights.proofs.session_opens.Goals as goal
 
 pub returns : goal.returns

@@ -1,5 +1,4 @@
 use Rattle.rights.specs.Rights.{wire_reads}
-use borrow.Author.Rules.{rules}
 use Rattle.rights.proofs.wire_reads.Goals as goal
 
 pub returns : goal.returns

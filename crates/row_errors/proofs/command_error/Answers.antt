@@ -1,4 +1,3 @@
-use borrow.Author.Rules.{rules}
 use Rattle.rule_list.specs.RuleList.{first_says}
 use Rattle.row_rules.specs.RowErrors.{command_errors, first_applying}
 use Rattle.row_errors.proofs.command_error.Goals as goal

@@ -1,4 +1,3 @@
-use borrow.Author.Rules.{rules}
 use Rattle.parts.proofs.Picks.{picks}
 use Rattle.row_rules.specs.RowErrors.{more_blocks}
 use Rattle.row_errors.proofs.more_blocks.Goals as goal

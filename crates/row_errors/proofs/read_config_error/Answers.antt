@@ -1,6 +1,5 @@
 use mathlib.Core.Path.{ap}
 use Rattle.register_table.specs.declared.RegisterRow.{RegisterRow}
-use borrow.Author.Rules.{rules}
 use Rattle.parts.proofs.Picks.{picks}
 use Rattle.rule_list.specs.RuleList.{first_says}
 use Rattle.row_rules.specs.RowErrors.{error_applies, first_applying}

@@ -1,4 +1,3 @@
-use borrow.Author.Rules.{rules}
 use Rattle.parts.proofs.Picks.{picks}
 use Rattle.rule_list.specs.RuleList.{first_says}
 use Rattle.row_rules.specs.RowErrors.{error_applies, first_applying}

@@ -3,7 +3,6 @@ use native.Mathlib.Omega.{arith}
 use mathlib.Core.Path.{sym, ◌∙◌}
 use Rattle.block_writes.proofs.Inside.{inside}
 use Rattle.block_writes.proofs.ByVerdict.{writes_by_verdict}
-use borrow.Author.Rules.{rules}
 use Rattle.parts.proofs.Picks.{picks}
 use Rattle.rule_list.specs.RuleList.{first_says}
 use Rattle.row_rules.specs.RowErrors.{error_applies, first_applying}

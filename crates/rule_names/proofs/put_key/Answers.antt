@@ -8,7 +8,6 @@ use Rattle.text.specs.Place.{last_place}
 use Rattle.text.proofs.PlaceLaws.{behind}
 use Rattle.rule_names.specs.Text.{key_text}
 use Rattle.rule_names.proofs.Table.{nothing_stored}
-use borrow.Author.Rules.{rules}
 use Rattle.rule_names.proofs.put_key.Goals as goal
 
 pub returns-in-Unnumbered : goal.returns-in-Unnumbered

@@ -10,7 +10,6 @@ use Rattle.rule_names.specs.Names.{string_bytes, name_at}
 use Rattle.rule_names.specs.Text.{after_words, key_text, reason_text}
 use Rattle.rule_names.proofs.Named.{reason_named}
 use Rattle.rule_names.proofs.Reasons.{nothing_after}
-use borrow.Author.Rules.{rules}
 use Rattle.rule_names.proofs.put_reason.Goals as goal
 
 pub returns-in-SessionNeeded : goal.returns-in-SessionNeeded

@@ -1,4 +1,3 @@
-use borrow.Author.Rules.{rules}
 use mathlib.Core.Path.{refl}
 use Rattle.parts.proofs.Picks.{pick_true, pick_false}
 use Rattle.script.proofs.rule_named.Goals as goal

@@ -1,6 +1,5 @@
 use Rattle.parts.proofs.Picks.{picks}
 use Rattle.select.specs.Select.{choose}
-use Rattle.std.proofs.Common.{rules}
 use Rattle.select.proofs.choose.Goals as goal
 
 pub returns-then-programming-vcc : goal.returns-then-programming-vcc

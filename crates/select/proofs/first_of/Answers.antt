@@ -1,4 +1,4 @@
-use Rattle.std.proofs.Common.{arith, rules}
+use Rattle.std.proofs.Common.{arith}
 use Rattle.select.specs.Select.{first_of}
 use Rattle.select.proofs.first_of.Goals as goal
 

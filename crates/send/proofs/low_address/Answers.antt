@@ -1,4 +1,3 @@
-use borrow.Author.Rules.{rules}
 use Rattle.send.proofs.low_address.Goals as goal
 
 pub returns : goal.returns

@@ -1,6 +1,5 @@
 use mathlib.Core.Path.{sym, ◌∙◌}
 use Rattle.send.specs.Send.{select_by}
-use borrow.Author.Rules.{rules}
 use Rattle.send.proofs.select.Goals as goal
 
 pub returns-in-NotAcked : goal.returns-in-NotAcked

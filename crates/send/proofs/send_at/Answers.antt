@@ -1,4 +1,3 @@
-use borrow.Author.Rules.{rules}
 use Rattle.send.specs.Send.{send_at}
 use Rattle.send.proofs.send_at.Goals as goal
 

@@ -1,7 +1,6 @@
 use Rattle.reply.proofs.Finish.{silent}
 use Rattle.serve.specs.Commands.{serve_code, serve_of}
 use Rattle.serve.proofs.Rows.{known_row}
-use borrow.Author.Rules.{rules}
 use Rattle.serve.proofs.serve.Goals as goal
 
 pub returns-in-Unknown : goal.returns-in-Unknown

@@ -1,5 +1,4 @@
 use Rattle.serve.specs.Commands.{serve_command}
-use borrow.Author.Rules.{rules}
 use Rattle.serve.proofs.serve_command.Goals as goal
 
 pub returns-in-StayQuiet : goal.returns-in-StayQuiet

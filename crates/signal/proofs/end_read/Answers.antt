@@ -1,5 +1,4 @@
 use Rattle.parts.proofs.Picks.{picks}
-use borrow.Author.Rules.{rules}
 use Rattle.signal.proofs.end_read.Goals as goal
 
 pub returns-then-last : goal.returns-then-last

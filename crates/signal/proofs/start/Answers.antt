@@ -2,7 +2,6 @@ use mathlib.Core.Path.{refl}
 use borrow.Author.Tests.{not-true, not-false}
 use Rattle.parts.proofs.Picks.{pick_true, pick_false}
 use Rattle.signal.specs.Signal.{start_of}
-use borrow.Author.Rules.{rules}
 use Rattle.signal.proofs.start.Goals as goal
 
 pub returns-then-not-w : goal.returns-then-not-w

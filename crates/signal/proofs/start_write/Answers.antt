@@ -1,6 +1,5 @@
 use mathlib.Core.Path.{sym, ◌∙◌}
 use Rattle.signal.proofs.Settle.{none_due, some_due, acts_started, dropped_started}
-use borrow.Author.Rules.{rules}
 use Rattle.signal.proofs.start_write.Goals as goal
 
 pub returns-then-spoiled-count : goal.returns-then-spoiled-count

@@ -1,4 +1,3 @@
-use borrow.Author.Rules.{rules}
 use Rattle.signal.proofs.started.Goals as goal
 
 pub returns : goal.returns

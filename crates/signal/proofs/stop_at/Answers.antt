@@ -4,7 +4,6 @@ use Rattle.leg.specs.Leg.{settle}
 use Rattle.signal.specs.declared.WireAnswer.TheVariants.{Nothing}
 use Rattle.signal.specs.Signal.{wire_result, due_of, stop_at}
 use Rattle.signal.proofs.Settle.{read_stopped}
-use borrow.Author.Rules.{rules}
 use Rattle.signal.proofs.stop_at.Goals as goal
 
 pub returns-in-Idle : goal.returns-in-Idle

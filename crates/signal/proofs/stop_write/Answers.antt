@@ -1,6 +1,5 @@
 use mathlib.Core.Path.{◌∙◌}
 use Rattle.signal.proofs.Settle.{none_due, some_due, acts_stopped}
-use borrow.Author.Rules.{rules}
 use Rattle.signal.proofs.stop_write.Goals as goal
 
 pub returns-then-spoiled-count : goal.returns-then-spoiled-count

@@ -1,6 +1,5 @@
 use mathlib.Core.Path.{sym, ◌∙◌}
 use Rattle.signal_table.specs.Table.{signal_in, signal_by}
-use borrow.Author.Rules.{rules}
 use Rattle.signal_table.proofs.signal_by.Goals as goal
 
 pub returns-in-NoSignal : goal.returns-in-NoSignal

@@ -1,6 +1,5 @@
 use mathlib.Core.Path.{sym, ◌∙◌}
 use Rattle.signal_table.specs.Table.{is_found, signal_in_range}
-use borrow.Author.Rules.{rules}
 use Rattle.signal_table.proofs.signal_in_range.Goals as goal
 
 pub returns-in-NoSignal : goal.returns-in-NoSignal

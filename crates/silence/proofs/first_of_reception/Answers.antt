@@ -1,7 +1,6 @@
 use Rattle.parts.proofs.Picks.{picks}
 use Rattle.rule_list.specs.RuleList.{first_says}
 use Rattle.silence_rules.specs.Silence.{silence_holds, silence_number, reception_silences}
-use borrow.Author.Rules.{rules}
 use Rattle.silence.proofs.first_of_reception.Goals as goal
 
 pub returns-then-not-a : goal.returns-then-not-a

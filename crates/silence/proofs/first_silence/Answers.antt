@@ -1,10 +1,8 @@
-use mathlib.Core.Path.{◌≡◌, ◌∙◌, sym}
 use borrow.Author.Tests.{eq-eqb, ne_eqb}
 use Rattle.parts.specs.Pick.{pick}
 use Rattle.rule_list.proofs.Laws.{says_append, numbered_or}
 use Rattle.silence_rules.specs.Silence.{silence_holds, silence_number, reception_silences, address_silences, request_silences, first_silence}
 use Rattle.silence_rules.proofs.Numbers.{numbered}
-use borrow.Author.Rules.{rules}
 use Rattle.silence.proofs.first_silence.Goals as goal
 
 pub returns-then-rule-ne0 : goal.returns-then-rule-ne0

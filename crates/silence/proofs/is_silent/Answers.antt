@@ -1,7 +1,6 @@
 use Rattle.rule_list.proofs.Laws.{numbered_any}
 use Rattle.silence_rules.specs.Silence.{silence_holds, silence_number, request_silences, first_silence, is_silent}
 use Rattle.silence_rules.proofs.Numbers.{numbered}
-use borrow.Author.Rules.{rules}
 use Rattle.silence.proofs.is_silent.Goals as goal
 
 pub returns : goal.returns

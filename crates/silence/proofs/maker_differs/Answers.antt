@@ -1,5 +1,4 @@
 use Rattle.silence_rules.specs.Silence.{maker_differs}
-use borrow.Author.Rules.{rules}
 use Rattle.silence.proofs.maker_differs.Goals as goal
 
 pub returns : goal.returns

@@ -1,6 +1,5 @@
 use borrow.Author.Tests.{eq-eqb, ne_eqb}
 use Rattle.silence_rules.specs.Silence.{uid_differs}
-use borrow.Author.Rules.{rules}
 use Rattle.silence.proofs.uid_differs.Goals as goal
 
 pub returns-then-byte_at-ne1 : goal.returns-then-byte_at-ne1

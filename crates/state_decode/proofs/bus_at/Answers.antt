@@ -1,10 +1,4 @@
 use Rattle.state.specs.Layout.{bus_at}
-use borrow.Author.Rules.{rules}
-use Rattle.parts.proofs.byte_in.Reads as byte-in-reads
-use Rattle.state_decode.proofs.bus_of.Reads as bus-of-reads
-use Rattle.state_decode.proofs.flag_at.Reads as flag-at-reads
-use Rattle.state_decode.proofs.space_of.Reads as space-of-reads
-use Rattle.state_decode.proofs.word_of.Reads as word-of-reads
 use Rattle.state_decode.proofs.bus_at.Goals as goal
 
 pub returns : goal.returns

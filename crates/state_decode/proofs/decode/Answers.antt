@@ -1,5 +1,4 @@
 use Rattle.state.specs.Layout.{tag_of}
-use borrow.Author.Rules.{rules}
 use Rattle.state_decode.proofs.decode.Goals as goal
 
 pub returns : goal.returns

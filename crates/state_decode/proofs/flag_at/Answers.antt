@@ -1,4 +1,3 @@
-use borrow.Author.Rules.{rules}
 use Rattle.state_decode.proofs.flag_at.Goals as goal
 
 pub returns : goal.returns

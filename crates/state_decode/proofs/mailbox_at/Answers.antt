@@ -1,5 +1,4 @@
 use Rattle.state.specs.Layout.{mailbox_at}
-use borrow.Author.Rules.{rules}
 use Rattle.state_decode.proofs.mailbox_at.Goals as goal
 
 pub returns : goal.returns

@@ -1,6 +1,5 @@
 use Rattle.state.specs.Layout.{passwords_at}
 use native.Mathlib.Nat.{add-zero}
-use borrow.Author.Rules.{rules}
 use Rattle.state_decode.proofs.passwords_at.Goals as goal
 
 pub returns : goal.returns

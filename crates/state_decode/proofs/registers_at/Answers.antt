@@ -3,7 +3,6 @@ use Rattle.parts.specs.Bytes.{bytes_at}
 use Rattle.parts.proofs.Lists.{length_bytes_at, replaced}
 use Rattle.registers.specs.Map.{registers_of}
 use Rattle.state.specs.Layout.{registers_part_length, registers_at}
-use borrow.Author.Rules.{rules}
 use Rattle.state_decode.proofs.registers_at.Goals as goal
 
 pub returns : goal.returns

@@ -1,9 +1,4 @@
 use Rattle.state.specs.Layout.{bus_bytes}
-use borrow.Author.Rules.{rules}
-use Rattle.bus.proofs.is_open_transfer.Reads as is-open-transfer-reads
-use Rattle.state_encode.proofs.flag_byte.Reads as flag-byte-reads
-use Rattle.state_encode.proofs.space_number.Reads as space-number-reads
-use Rattle.state_encode.proofs.transfer_byte.Reads as transfer-byte-reads
 use Rattle.state_encode.proofs.bus_bytes.Goals as goal
 
 pub returns-in-Idle : goal.returns-in-Idle

@@ -1,6 +1,5 @@
 use Rattle.state.proofs.There.{bytes_length}
 use Rattle.state_encode.proofs.Stored.{tag_stored}
-use borrow.Author.Rules.{rules}
 use Rattle.state_encode.proofs.encode.Goals as goal
 
 pub returns : goal.returns

@@ -1,6 +1,5 @@
 use Rattle.parts.specs.Bytes.{bytes_at}
 use Rattle.state.specs.Layout.{air_bytes}
-use borrow.Author.Rules.{rules}
 use Rattle.state_encode.proofs.put_air.Goals as goal
 
 pub returns : goal.returns

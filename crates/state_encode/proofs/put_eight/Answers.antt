@@ -3,7 +3,6 @@ use Rattle.state.proofs.Places.{bytes_at_whole}
 use mathlib.Core.Path.{◌≡◌, ap, ◌∙◌}
 use lib.ListN.{length}
 use native.Mathlib.Omega.{arith}
-use borrow.Author.Rules.{rules}
 use Rattle.state_encode.proofs.put_eight.Goals as goal
 
 pub returns : goal.returns

@@ -2,7 +2,6 @@ use mathlib.Core.Path.{refl}
 use mathlib.Core.List.{[], ◌∷◌}
 use Rattle.state.specs.Layout.{low_byte, high_byte, host_bytes}
 use Rattle.state_encode.proofs.Stored.{host_stored}
-use borrow.Author.Rules.{rules}
 use Rattle.state_encode.proofs.put_host.Goals as goal
 
 pub returns : goal.returns

@@ -1,6 +1,5 @@
 use Rattle.state.proofs.Passwords.{Eights, passwords_length}
 use Rattle.state_encode.proofs.Stored.{passwords_stored}
-use borrow.Author.Rules.{rules}
 use Rattle.state_encode.proofs.put_passwords.Goals as goal
 
 pub returns : goal.returns

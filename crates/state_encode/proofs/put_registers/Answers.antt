@@ -2,7 +2,6 @@ use Rattle.register_table.specs.Table.{register_count}
 use Rattle.registers.specs.Map.{register_bytes}
 use Rattle.registers.proofs.Bytes.{bytes_count}
 use Rattle.state.proofs.Places.{bytes_at_whole}
-use borrow.Author.Rules.{rules}
 use Rattle.state_encode.proofs.put_registers.Goals as goal
 
 pub returns : goal.returns

@@ -1,5 +1,4 @@
 use Rattle.state.specs.Layout.{radio_number}
-use borrow.Author.Rules.{rules}
 use Rattle.state_encode.proofs.radio_number.Goals as goal
 
 pub returns-in-Ready : goal.returns-in-Ready

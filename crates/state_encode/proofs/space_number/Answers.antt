@@ -1,5 +1,4 @@
 use Rattle.state.specs.Layout.{space_number}
-use borrow.Author.Rules.{rules}
 use Rattle.state_encode.proofs.space_number.Goals as goal
 
 pub returns-in-User : goal.returns-in-User

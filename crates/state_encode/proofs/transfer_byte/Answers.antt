@@ -1,5 +1,4 @@
 use Rattle.state.specs.Layout.{transfer_byte}
-use borrow.Author.Rules.{rules}
 use Rattle.state_encode.proofs.transfer_byte.Goals as goal
 
 pub returns-in-Closed : goal.returns-in-Closed

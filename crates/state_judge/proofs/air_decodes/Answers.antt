@@ -1,5 +1,4 @@
 use Rattle.state.specs.Layout.{air_decodes}
-use borrow.Author.Rules.{rules}
 use Rattle.state_judge.proofs.air_decodes.Goals as goal
 
 pub returns : goal.returns

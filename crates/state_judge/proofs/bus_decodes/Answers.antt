@@ -1,5 +1,4 @@
 use Rattle.state.specs.Layout.{bus_decodes}
-use borrow.Author.Rules.{rules}
 use Rattle.state_judge.proofs.bus_decodes.Goals as goal
 
 pub returns : goal.returns

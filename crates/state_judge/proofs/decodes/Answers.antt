@@ -1,5 +1,4 @@
 use Rattle.state.specs.Layout.{decodes}
-use borrow.Author.Rules.{rules}
 use Rattle.state_judge.proofs.decodes.Goals as goal
 
 pub returns : goal.returns

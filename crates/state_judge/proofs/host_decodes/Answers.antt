@@ -1,5 +1,4 @@
 use Rattle.state.specs.Layout.{host_decodes}
-use borrow.Author.Rules.{rules}
 use Rattle.state_judge.proofs.host_decodes.Goals as goal
 
 pub returns : goal.returns

@@ -1,5 +1,4 @@
 use Rattle.state.specs.Layout.{is_bus}
-use borrow.Author.Rules.{rules}
 use Rattle.state_judge.proofs.is_bus.Goals as goal
 
 pub returns : goal.returns

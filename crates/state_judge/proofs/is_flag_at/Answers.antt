@@ -1,4 +1,3 @@
-use borrow.Author.Rules.{rules}
 use Rattle.state_judge.proofs.is_flag_at.Goals as goal
 
 pub returns : goal.returns

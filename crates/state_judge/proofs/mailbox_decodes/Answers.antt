@@ -1,5 +1,4 @@
 use Rattle.state.specs.Layout.{mailbox_decodes}
-use borrow.Author.Rules.{rules}
 use Rattle.state_judge.proofs.mailbox_decodes.Goals as goal
 
 pub returns : goal.returns

@@ -1,9 +1,4 @@
-use borrow.Author.Rules.{rules}
-use mathlib.Core.Path.{ap, ◌∙◌}
 use native.Mathlib.Nat.{sub-zero}
-use Prim.Native.Nat.{ℕ}
-use lib.ListN.{take}
-use Rattle.parts.specs.Pick.{pick}
 use Rattle.parts.proofs.Picks.{picks}
 use Rattle.stream.proofs.line_from.Goals as goal
 

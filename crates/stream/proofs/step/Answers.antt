@@ -11,7 +11,7 @@ use Rattle.script.specs.Lines.{bench_state}
 use Rattle.script.specs.Bench.{LineBuffers}
 use Rattle.line_stream.specs.Step.{line_stored, piece_by, puts}
 use Rattle.unfinished.proofs.Held.{take_within}
-use Rattle.line_stream.proofs.Turn.{Goes, begins, turns, ends}
+use Rattle.line_stream.proofs.Turn.{begins, turns, ends}
 use Rattle.stream.specs.Program.{bench_program}
 use Rattle.stream.proofs.Program.{bench_tells}
 use Rattle.stream.proofs.step.Goals as goal

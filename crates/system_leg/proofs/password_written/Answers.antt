@@ -3,7 +3,6 @@ use Rattle.parts.proofs.Picks.{picks}
 use Rattle.parts.proofs.Lists.{length_bytes_at, bytes_at_get_d}
 use Rattle.system_leg.proofs.Page.{bytes_at_within}
 use Rattle.system_leg.specs.SystemLeg.{password_written}
-use borrow.Author.Rules.{rules}
 use Rattle.system_leg.proofs.password_written.Goals as goal
 
 pub returns-then-k-lt17 : goal.returns-then-k-lt17

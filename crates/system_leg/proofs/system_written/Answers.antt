@@ -1,6 +1,5 @@
 use Rattle.parts.proofs.Picks.{picks}
 use Rattle.system_leg.specs.SystemLeg.{system_written}
-use borrow.Author.Rules.{rules}
 use Rattle.system_leg.proofs.system_written.Goals as goal
 
 pub returns-then-first-eq2304 : goal.returns-then-first-eq2304

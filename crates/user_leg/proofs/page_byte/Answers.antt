@@ -1,7 +1,6 @@
 use mathlib.Core.Path.{sym, ◌∙◌}
 use native.Mathlib.Omega.{arith}
 use Rattle.parts.proofs.Lists.{bytes_at_get_d, bytes_at_past}
-use borrow.Author.Rules.{rules}
 use Rattle.user_leg.proofs.page_byte.Goals as goal
 
 pub returns-then-i-k : goal.returns-then-i-k

@@ -3,7 +3,6 @@ use native.Mathlib.Omega.{arith}
 use Rattle.parts.proofs.Picks.{picks}
 use Rattle.parts.proofs.Lists.{length_bytes_at, copied_down}
 use Rattle.user_leg.specs.UserLeg.{user_written}
-use borrow.Author.Rules.{rules}
 use Rattle.user_leg.proofs.user_written.Goals as goal
 
 pub returns-then-first-lt512 : goal.returns-then-first-lt512

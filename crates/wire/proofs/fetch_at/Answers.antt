@@ -1,4 +1,3 @@
-use borrow.Author.Rules.{rules}
 use Rattle.wire.specs.Wire.{fetch_at}
 use Rattle.wire.proofs.fetch_at.Goals as goal
 

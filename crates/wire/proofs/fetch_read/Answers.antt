@@ -1,6 +1,5 @@
 use Rattle.parts.proofs.Picks.{pick_true, pick_false}
 use Rattle.wire.specs.Wire.{fetch_at}
-use borrow.Author.Rules.{rules}
 use Rattle.wire.proofs.fetch_read.Goals as goal
 
 pub returns-then-over : goal.returns-then-over

@@ -1,4 +1,3 @@
-use borrow.Author.Rules.{rules}
 use Rattle.wire.specs.Wire.{signal_of}
 use Rattle.wire.proofs.step.Goals as goal
 

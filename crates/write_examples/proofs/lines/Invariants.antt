@@ -1,5 +1,4 @@
-use Rattle.std.proofs.Common.{◌≡◌, ◌-◌, length, ◌∙◌, arith, rules}
-use Rattle.example_lines.proofs.Laws.{nearer}
+use Rattle.std.proofs.Common.{◌≡◌, ◌-◌, length}
 use Rattle.write_examples.proofs.lines.Given as goal
 
 abbrev pub invariant-loop-at : goal.invariant-loop-at

@@ -1,7 +1,6 @@
 use mathlib.Core.Path.{sym}
 use Rattle.write_verdict.proofs.Facts.{block_past, block_facts}
 use Rattle.parts.proofs.Picks.{picks}
-use borrow.Author.Rules.{rules}
 use Rattle.write_verdict.proofs.block_write.Goals as goal
 
 pub returns-then-block-ge-BLOCKS : goal.returns-then-block-ge-BLOCKS

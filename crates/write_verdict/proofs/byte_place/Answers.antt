@@ -1,5 +1,4 @@
 use Rattle.write_rules.specs.Situation.{byte_place}
-use borrow.Author.Rules.{rules}
 use Rattle.write_verdict.proofs.byte_place.Goals as goal
 
 pub returns-in-User : goal.returns-in-User

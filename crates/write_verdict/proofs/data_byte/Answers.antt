@@ -2,7 +2,6 @@ use mathlib.Core.Path.{sym, ◌∙◌}
 use Rattle.write_reasons.specs.declared.WritePlace.TheVariants.{Unmapped, UserMemory, DynamicByte, MailboxByte, SystemRegister, PasswordByte}
 use Rattle.write_rules.proofs.Chain.{spoiled_chain, unmapped_chain}
 use Rattle.write_verdict.proofs.Facts.{placed}
-use borrow.Author.Rules.{rules}
 use Rattle.write_verdict.proofs.data_byte.Goals as goal
 
 pub returns-then-spoiled : goal.returns-then-spoiled

@@ -1,6 +1,5 @@
 use Rattle.write_rules.proofs.Chain.{dynamic_chain}
 use Rattle.parts.proofs.Picks.{picks}
-use borrow.Author.Rules.{rules}
 use Rattle.write_verdict.proofs.dynamic_byte.Goals as goal
 
 pub returns-then-not-writable : goal.returns-then-not-writable

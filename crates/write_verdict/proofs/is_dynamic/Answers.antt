@@ -1,6 +1,5 @@
 use Rattle.write_rules.specs.Situation.{is_dynamic}
 use mathlib.Core.Path.{refl}
-use borrow.Author.Rules.{rules}
 use Rattle.write_verdict.proofs.is_dynamic.Goals as goal
 
 pub returns : goal.returns

@@ -1,5 +1,4 @@
 use Rattle.write_rules.specs.Situation.{is_system}
-use borrow.Author.Rules.{rules}
 use Rattle.write_verdict.proofs.is_system.Goals as goal
 
 pub returns : goal.returns

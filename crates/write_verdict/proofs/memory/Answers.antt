@@ -1,6 +1,5 @@
 use Rattle.write_verdict.proofs.Facts.{memory_facts}
 use Rattle.parts.proofs.Picks.{picks}
-use borrow.Author.Rules.{rules}
 use Rattle.write_verdict.proofs.memory.Goals as goal
 
 pub returns-then-c : goal.returns-then-c

@@ -1,7 +1,6 @@
 use mathlib.Core.Path.{sym}
 use Rattle.write_verdict.proofs.Facts.{password_past, password_facts}
 use Rattle.parts.proofs.Picks.{picks}
-use borrow.Author.Rules.{rules}
 use Rattle.write_verdict.proofs.password_write.Goals as goal
 
 pub returns-then-n-gt-LAST_PASSWORD : goal.returns-then-n-gt-LAST_PASSWORD

@@ -3,7 +3,6 @@ use borrow.Author.Tests.{not-true, not-false}
 use Rattle.register_table.specs.declared.RegisterRow.{RegisterRow}
 use Rattle.write_verdict.proofs.Facts.{pointer_none, pointer_facts}
 use Rattle.parts.proofs.Picks.{picks}
-use borrow.Author.Rules.{rules}
 use Rattle.write_verdict.proofs.pointer_write.Goals as goal
 
 pub returns-then-not-mapped : goal.returns-then-not-mapped

@@ -2,7 +2,6 @@ use mathlib.Core.Path.{ap}
 use Rattle.register_table.specs.declared.RegisterRow.{RegisterRow}
 use Rattle.write_rules.proofs.Chain.{register_chain}
 use Rattle.parts.proofs.Picks.{picks}
-use borrow.Author.Rules.{rules}
 use Rattle.write_verdict.proofs.register.Goals as goal
 
 pub returns-then-c : goal.returns-then-c

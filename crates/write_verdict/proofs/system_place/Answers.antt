@@ -1,6 +1,5 @@
 use Rattle.write_rules.specs.Situation.{system_place}
 use Rattle.parts.proofs.Picks.{picks}
-use borrow.Author.Rules.{rules}
 use Rattle.write_verdict.proofs.system_place.Goals as goal
 
 pub returns-then-first-eq-PASSWORD_FIRST : goal.returns-then-first-eq-PASSWORD_FIRST

@@ -1,6 +1,5 @@
 use Rattle.write_rules.specs.Situation.{user_place}
 use Rattle.parts.proofs.Picks.{picks}
-use borrow.Author.Rules.{rules}
 use Rattle.write_verdict.proofs.user_place.Goals as goal
 
 pub returns-then-at : goal.returns-then-at

@@ -1,4 +1,3 @@
-use borrow.Author.Rules.{rules}
 use Rattle.write_verdict.proofs.verdict.Goals as goal
 
 pub returns-in-DataByte : goal.returns-in-DataByte

@@ -1,5 +1,4 @@
 use Rattle.registers.specs.Map.{written}
-use borrow.Author.Rules.{rules}
 use Rattle.written_registers.proofs.write_at.Goals as goal
 
 pub returns : goal.returns

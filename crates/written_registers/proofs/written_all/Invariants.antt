@@ -1,14 +1,7 @@
-use mathlib.Core.Path.{◌≡◌, refl, sym, ap, ◌∙◌}
-use Prim.Native.Nat.{ℕ, ◌+◌, ◌≤◌, ◌-◌}
-use native.Mathlib.Omega.{arith}
-use native.Mathlib.Numerals.{add-one}
-use lib.ListN.{length, get_or}
-use borrow.Author.Rules.{rules}
+use mathlib.Core.Path.{◌≡◌}
+use Prim.Native.Nat.{◌≤◌, ◌-◌}
 use Rattle.parts.specs.Bytes.{bytes_at}
-use Rattle.parts.proofs.Lists.{length_bytes_at}
-use Rattle.registers.specs.Map.{written}
 use Rattle.written_registers.specs.Written.{written_all}
-use Rattle.written_registers.proofs.Registers.{written_snoc}
 use Rattle.written_registers.proofs.written_all.Given as goal
 
 abbrev pub invariant-loop-i : goal.invariant-loop-i

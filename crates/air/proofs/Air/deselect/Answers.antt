@@ -1,6 +1,5 @@
 use Rattle.parts.proofs.Picks.{picks}
 use Rattle.air.specs.Radio.{deselected}
-use borrow.Author.Rules.{rules}
 use Rattle.air.proofs.Air.deselect.Goals as goal
 
 pub returns-then-is_selected : goal.returns-then-is_selected

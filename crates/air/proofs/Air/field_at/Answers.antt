@@ -1,6 +1,5 @@
 use Rattle.parts.proofs.Picks.{picks}
 use Rattle.air.specs.Radio.{field_at}
-use borrow.Author.Rules.{rules}
 use Rattle.air.proofs.Air.field_at.Goals as goal
 
 pub returns-then-self : goal.returns-then-self

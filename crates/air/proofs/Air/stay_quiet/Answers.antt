@@ -1,4 +1,3 @@
-use borrow.Author.Rules.{rules}
 use Rattle.air.proofs.Air.stay_quiet.Goals as goal
 
 pub returns : goal.returns

@@ -1,4 +1,3 @@
-use borrow.Author.Rules.{rules}
 use Rattle.commands.specs.Table.{is_known}
 use Rattle.commands.proofs.CommandCode.is_known.Goals as goal
 

@@ -1,4 +1,3 @@
-use borrow.Author.Rules.{rules}
 use Rattle.commands.specs.Table.{takes_option}
 use Rattle.commands.proofs.CommandCode.takes_option.Goals as goal
 

@@ -1,4 +1,3 @@
-use borrow.Author.Rules.{rules}
 use Rattle.errors.proofs.RadioError.code.Goals as goal
 
 pub returns-in-ShutOut : goal.returns-in-ShutOut

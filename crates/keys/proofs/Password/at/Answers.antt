@@ -1,4 +1,3 @@
-use borrow.Author.Rules.{rules}
 use Rattle.keys.proofs.Password.at.Goals as goal
 
 pub returns : goal.returns

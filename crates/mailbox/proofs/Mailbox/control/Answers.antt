@@ -1,6 +1,5 @@
 use Rattle.parts.proofs.Picks.{picks}
 use Rattle.mailbox.specs.Mailbox.{controlled}
-use borrow.Author.Rules.{rules}
 use Rattle.mailbox.proofs.Mailbox.control.Goals as goal
 
 pub returns-then-byte-eq1 : goal.returns-then-byte-eq1

@@ -1,6 +1,4 @@
-use native.Mathlib.Omega.{arith}
 use Rattle.mailbox.specs.Mailbox.{control_byte}
-use borrow.Author.Rules.{rules}
 use Rattle.mailbox.proofs.Mailbox.control_byte.Goals as goal
 
 pub returns : goal.returns

@@ -1,8 +1,7 @@
-use mathlib.Core.Path.{refl, sym, ap, ◌∙◌}
+use mathlib.Core.Path.{refl, sym, ap}
 use Prim.Native.Nat.{ℕ, ◌-◌, ◌%◌}
 use mathlib.Core.Path.{refl}
 use Rattle.mailbox.specs.Mailbox.{length_byte}
-use borrow.Author.Rules.{rules}
 use Rattle.mailbox.proofs.Mailbox.length_byte.Goals as goal
 
 pub returns-then-self-eq0 : goal.returns-then-self-eq0

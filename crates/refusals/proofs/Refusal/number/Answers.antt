@@ -1,5 +1,4 @@
 use Rattle.refusals.specs.Refusals.{number}
-use borrow.Author.Rules.{rules}
 use Rattle.refusals.proofs.Refusal.number.Goals as goal
 
 pub returns-in-MemoryLength : goal.returns-in-MemoryLength

@@ -1,4 +1,3 @@
-use borrow.Author.Rules.{rules}
 use Rattle.register_types.proofs.Afi.new.Goals as goal
 
 pub returns : goal.returns

@@ -1,4 +1,3 @@
-use borrow.Author.Rules.{rules}
 use Rattle.register_types.proofs.RfMngt.new.Goals as goal
 
 pub returns : goal.returns

@@ -1,6 +1,5 @@
 use Rattle.parts.proofs.Picks.{picks}
 use Rattle.registers.specs.Map.{byte_of}
-use borrow.Author.Rules.{rules}
 use Rattle.registers.proofs.Registers.byte_of.Goals as goal
 
 pub returns-then-place-eq-NO_PLACE : goal.returns-then-place-eq-NO_PLACE

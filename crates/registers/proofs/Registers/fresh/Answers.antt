@@ -1,5 +1,4 @@
 use Rattle.registers.specs.Fresh.{fresh_registers}
-use borrow.Author.Rules.{rules}
 use Rattle.registers.proofs.Registers.fresh.Goals as goal
 
 pub returns : goal.returns

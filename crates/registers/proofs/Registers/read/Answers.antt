@@ -1,5 +1,4 @@
 use Rattle.registers.specs.Map.{register_at}
-use borrow.Author.Rules.{rules}
 use Rattle.registers.proofs.Registers.read.Goals as goal
 
 pub returns : goal.returns

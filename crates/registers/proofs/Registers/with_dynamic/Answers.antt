@@ -1,4 +1,3 @@
-use borrow.Author.Rules.{rules}
 use Rattle.registers.proofs.Registers.with_dynamic.Goals as goal
 
 pub returns : goal.returns

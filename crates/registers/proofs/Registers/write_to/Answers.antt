@@ -1,6 +1,5 @@
 use Rattle.parts.proofs.Picks.{picks}
 use Rattle.registers.specs.Map.{written_to}
-use borrow.Author.Rules.{rules}
 use Rattle.registers.proofs.Registers.write_to.Goals as goal
 
 pub returns-then-place-eq-MNGT_PLACE : goal.returns-then-place-eq-MNGT_PLACE

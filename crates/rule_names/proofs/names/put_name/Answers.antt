@@ -2,7 +2,6 @@ use native.Mathlib.Omega.{arith}
 use Rattle.rule_names.specs.Rules.{silence_words, error_words, rule_words}
 use Rattle.rule_names.specs.Names.{all_rules, names, string_bytes}
 use Rattle.rule_names.proofs.Table.{end_to_end, starts_from, lengths_of, piece_is, past_last, nothing_stored}
-use borrow.Author.Rules.{rules}
 use Rattle.rule_names.proofs.names.put_name.Goals as goal
 
 pub returns-then-i-ge-COUNT : goal.returns-then-i-ge-COUNT

@@ -1,5 +1,4 @@
 use Rattle.parts.proofs.Lists.{length_bytes_at}
-use borrow.Author.Rules.{rules}
 use Rattle.rule_names.proofs.names.put_part.Goals as goal
 
 pub returns : goal.returns

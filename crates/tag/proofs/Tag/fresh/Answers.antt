@@ -1,5 +1,4 @@
 use Rattle.tag.specs.Supply.{fresh_tag}
-use borrow.Author.Rules.{rules}
 use Rattle.tag.proofs.Tag.fresh.Goals as goal
 
 pub returns : goal.returns

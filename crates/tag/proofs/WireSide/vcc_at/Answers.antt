@@ -1,6 +1,5 @@
 use Rattle.parts.proofs.Picks.{picks}
 use Rattle.tag.specs.Supply.{vcc_at}
-use borrow.Author.Rules.{rules}
 use Rattle.tag.proofs.WireSide.vcc_at.Goals as goal
 
 pub returns-then-self : goal.returns-then-self

@@ -1,4 +1,3 @@
-use borrow.Author.Rules.{rules}
 use Rattle.tag.proofs.WireSide.vcc_off.Goals as goal
 
 pub returns : goal.returns

@@ -1,9 +1,7 @@
 use native.Mathlib.Omega.{arith}
-use mathlib.Core.Path.{◌≡◌, sym}
-use Prim.Native.Nat.{◌-◌, ◌≤◌}
-use lib.ListN.{length}
-use Rattle.text.specs.Decimal.{decimal}
-use Rattle.text.proofs.DecimalLaws.{tens, tens_one, tens_next, tens_most, digits_below, digits_from, digits_some, digits_most}
+use mathlib.Core.Path.{sym}
+use Prim.Native.Nat.{◌-◌}
+use Rattle.text.proofs.DecimalLaws.{tens_one, tens_next, tens_most, digits_below, digits_from, digits_some, digits_most}
 use Rattle.text.proofs.decimal.digit_count.Goals as goal
 
 pub loop-k-init : goal.loop-k-init

@@ -1,9 +1,8 @@
-use native.Mathlib.Omega.{arith}
-use mathlib.Core.Path.{◌≡◌, sym}
+use mathlib.Core.Path.{◌≡◌}
 use Prim.Native.Nat.{◌-◌, ◌≤◌}
 use lib.ListN.{length}
 use Rattle.text.specs.Decimal.{decimal}
-use Rattle.text.proofs.DecimalLaws.{tens, tens_one, tens_next, tens_most, digits_below, digits_from, digits_some, digits_most}
+use Rattle.text.proofs.DecimalLaws.{tens}
 use Rattle.text.proofs.decimal.digit_count.Given as goal
 
 abbrev pub invariant-loop-k : goal.invariant-loop-k

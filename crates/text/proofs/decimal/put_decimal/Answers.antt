@@ -1,9 +1,8 @@
-use borrow.Author.Rules.{rules}
 use native.Mathlib.Omega.{arith}
 use mathlib.Core.Path.{◌≡◌, refl, sym, ap, ◌∙◌}
 use mathlib.Core.List.{List}
-use Prim.Native.Nat.{ℕ, suc, ◌+◌, ◌-◌, ◌/◌, ◌%◌, ◌≤◌, min}
-use lib.ListN.{length, set, length-set}
+use Prim.Native.Nat.{ℕ, suc, ◌+◌, ◌-◌, ◌/◌, ◌%◌, min}
+use lib.ListN.{length, length-set}
 use lib.Seq.{sets}
 use Rattle.text.specs.Decimal.{digits_of, decimal}
 use Rattle.text.specs.Place.{stored, last_place}

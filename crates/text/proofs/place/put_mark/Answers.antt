@@ -1,4 +1,3 @@
-use borrow.Author.Rules.{rules}
 use Rattle.text.proofs.place.put_mark.Goals as goal
 
 pub returns : goal.returns

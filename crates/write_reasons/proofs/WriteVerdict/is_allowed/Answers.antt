@@ -1,4 +1,3 @@
-use borrow.Author.Rules.{rules}
 use Rattle.write_reasons.specs.Reasons.{is_allowed}
 use Rattle.write_reasons.proofs.WriteVerdict.is_allowed.Goals as goal
 

@@ -6,12 +6,9 @@ use Prim.Native.Nat.{ℕ, ◌+◌, ◌*◌, ◌/◌, ◌%◌, ◌≤◌}
 use native.Mathlib.Omega.{arith}
 use lib.Dec.{leb, ltb, eqb}
 use borrow.Author.Tests.{leb-true, leb-false, ltb-true, ltb-false, eqb-true, le-leb, lt-leb, lt-ltb, eq-eqb}
-use Rattle.parts.specs.Pick.{pick}
-use Rattle.parts.proofs.Bools.{and_left, and_right, or_first, or_cases}
-use Rattle.parts.proofs.Picks.{picks}
-use Rattle.register_types.specs.declared.EndA.{EndA}
+use Rattle.register_table.specs.Passed.{pick, EndA, end_a}
+use Rattle.register_table.proofs.Passed.{and_left, and_right, or_first, or_cases, picks}
 use Rattle.registers.specs.declared.Ends.{Ends}
-use Rattle.register_types.specs.Types.{end_a}
 use Rattle.registers.specs.Map.{with_end}
 use Rattle.areas.specs.Claims.{EndKept, ByteInBlocksArea}
 use Rattle.areas.specs.Ends.{last_byte, area_of_block, area_of_byte, rises, ends_in_range, later_largest, exceeds_before, end_accepted}

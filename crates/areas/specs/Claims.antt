@@ -1,7 +1,7 @@
 -- What is proved of these definitions, beside the functions' contracts.
 use Rattle.std.specs.Prelude.{◌≡◌, true, ℕ, ◌/◌}
 use Rattle.registers.specs.declared.Ends.{Ends}
-use Rattle.register_types.specs.Types.{end_a}
+use Rattle.register_table.specs.Passed.{end_a}
 use Rattle.registers.specs.Map.{with_end}
 use Rattle.areas.specs.Ends.{area_of_block, area_of_byte, ends_in_range, end_accepted}
 

@@ -1,7 +1,6 @@
 -- Areas and their ends.
 use Rattle.std.specs.Prelude.{Bool, true, false, ◌&&◌, ◌||◌, ℕ, ◌+◌, ◌*◌, leb, ltb, eqb}
-use Rattle.parts.specs.Pick.{pick}
-use Rattle.register_types.specs.declared.EndA.{EndA}
+use Rattle.register_table.specs.Passed.{pick, EndA}
 use Rattle.registers.specs.declared.Ends.{Ends}
 use Rattle.register_table.specs.declared.WriteRule.{WriteRule}
 use Rattle.register_table.specs.declared.WriteRule.TheVariants.{Plain, AreaEnd, MailboxMode}

@@ -2,7 +2,7 @@
 use mathlib.Core.Path.{sym, ap}
 use mathlib.Core.Bool.{Bool}
 use Rattle.parts.specs.Pick.{pick}
-use Rattle.write_rules.proofs.Sides.{block_allowed}
+use Rattle.write_verdict.proofs.Passed.{block_allowed}
 use Rattle.block_status.specs.Status.{status_of}
 use Rattle.block_status.specs.Claims.{StatusByVerdict}
 

@@ -3,8 +3,7 @@ use Rattle.std.specs.Prelude.{◌≡◌, ℕ}
 use Rattle.parts.specs.Pick.{pick}
 use Rattle.tag.specs.declared.Core.{Core}
 use Rattle.write_reasons.specs.Reasons.{is_allowed}
-use Rattle.write_rules.specs.Situation.{block_situation}
-use Rattle.write_rules.specs.Verdict.{write_verdict}
+use Rattle.write_verdict.specs.Passed.{block_situation, write_verdict}
 use Rattle.block_status.specs.Status.{status_of}
 
 -- it is 1 exactly when the verdict on the block forbids a write by radio

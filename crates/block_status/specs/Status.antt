@@ -2,8 +2,7 @@
 use Rattle.std.specs.Prelude.{◌&&◌, List, [], ◌∷◌, ◌++◌, ℕ, zero, suc, ◌+◌, ◌-◌, leb, ltb}
 use Rattle.parts.specs.Pick.{pick}
 use Rattle.registers.specs.declared.Registers.{Registers}
-use Rattle.rights.specs.declared.Side.TheVariants.{Radio}
-use Rattle.rights.specs.Rights.{may_write}
+use Rattle.write_verdict.specs.Passed.{Radio, may_write}
 use Rattle.tag.specs.Layout.{blocks}
 use Rattle.errors.specs.declared.RadioError.TheVariants.{NoSuchBlock}
 use Rattle.reply.specs.declared.RadioSide.{RadioSide}

@@ -18,9 +18,8 @@ use Rattle.write_reasons.specs.declared.SessionKey.{SessionKey}
 use Rattle.write_reasons.specs.declared.WriteReason.TheVariants.{LockedBlock, AreaNeverWritable, SessionNeeded}
 use Rattle.write_reasons.specs.declared.WriteVerdict.TheVariants.{Allowed, Forbidden}
 use Rattle.write_reasons.specs.Reasons.{is_allowed}
-use Rattle.write_rules.specs.Situation.{block_place, block_situation}
-use Rattle.write_rules.specs.Verdict.{write_verdict}
-use Rattle.write_rules.proofs.Chain.{radio_unmapped, block_chain}
+use Rattle.write_verdict.specs.Passed.{block_place, block_situation, write_verdict}
+use Rattle.write_verdict.proofs.Passed.{radio_unmapped, block_chain}
 use Rattle.block_writes.specs.Writes.{may_write_all, write_of}
 use Rattle.block_writes.specs.Claims.{block_error, block_by, WriteByVerdict, all_allowed, WritesByVerdict}
 use Rattle.block_writes.proofs.Inside.{one_block, stays, write_right_lem}

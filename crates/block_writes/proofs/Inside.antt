@@ -12,9 +12,8 @@ use Rattle.rights.specs.declared.Side.TheVariants.{Radio}
 use Rattle.rights.specs.Rights.{may_write}
 use Rattle.tag.specs.declared.Core.{Core}
 use Rattle.write_reasons.specs.Reasons.{is_allowed}
-use Rattle.write_rules.specs.Situation.{block_situation}
-use Rattle.write_rules.specs.Verdict.{write_verdict}
-use Rattle.write_rules.proofs.Sides.{block_allowed}
+use Rattle.write_verdict.specs.Passed.{block_situation, write_verdict}
+use Rattle.write_verdict.proofs.Passed.{block_allowed}
 use Rattle.blocks.specs.Blocks.{leaves_area}
 use Rattle.block_writes.specs.Writes.{may_write_all}
 

@@ -15,8 +15,7 @@ use Rattle.write_reasons.specs.declared.WriteReason.TheVariants.{OutsideMap}
 use Rattle.write_reasons.specs.declared.WriteVerdict.{WriteVerdict}
 use Rattle.write_reasons.specs.declared.WriteVerdict.TheVariants.{Allowed, Forbidden}
 use Rattle.write_reasons.specs.Reasons.{is_reason, is_allowed}
-use Rattle.write_rules.specs.Situation.{block_situation}
-use Rattle.write_rules.specs.Verdict.{write_verdict}
+use Rattle.write_verdict.specs.Passed.{block_situation, write_verdict}
 use Rattle.block_writes.specs.Writes.{may_write_all, write_of}
 
 -- "10h; .. 12h no right or locked"

@@ -18,16 +18,11 @@ use Rattle.rule.specs.UserRule.{memory_acked, mailbox_acked, user_acked}
 use Rattle.written_registers.specs.Written.{written_all}
 use Rattle.rule.specs.SystemRule.{register_acked, password_acked, system_acked}
 use Rattle.rule.specs.Rule.{space_acked, acked}
-use Rattle.page.specs.PageRange.{page_acked, bus_in_range}
+use Rattle.model.specs.Passed.{page_acked, bus_in_range, leg_written, acts_at_start, settle, due_of, start_at, start_of, stop_at, data_of, select_by, send_at, fetch_at, signal_of, leaves_area, blocks_of, read_of, status_of, statuses_of, status_reply, block_of, may_write_all, write_of, lock_of, read_config_of, mailbox_after_write, written_core, write_config_of, present_of, write_password_of, serve_command, serve_code, serve_of, next_slot_of, verdict_result, radio_of, number, looks_at_tag, tag_in_range, judgement, unless_refused}
 use Rattle.select.specs.Select.{select_of, choose, first_of}
 use Rattle.user_leg.specs.UserLeg.{user_written}
 use Rattle.system_leg.specs.SystemLeg.{password_written, system_written}
-use Rattle.leg.specs.Leg.{leg_written, acts_at_start, settle}
 use Rattle.fetch.specs.Fetch.{memory_byte, mailbox_byte, user_byte, system_byte, fetched, is_last}
-use Rattle.signal.specs.Signal.{due_of, start_at, start_of, stop_at}
-use Rattle.data_byte.specs.DataByte.{data_of}
-use Rattle.send.specs.Send.{select_by, send_at}
-use Rattle.wire.specs.Wire.{fetch_at, signal_of}
 use Rattle.signal_table.specs.Table.{signal_table, signal_found, is_found, signal_in_range, signal_in, signal_by, sent_byte}
 use Rattle.reply.specs.Reply.{answer_of, buffer_of}
 use Rattle.frame.specs.Fields.{uid_place, param_place, own_uid, param}
@@ -35,21 +30,12 @@ use Rattle.rule_list.specs.RuleList.{any_holds, first_says}
 use Rattle.commands.specs.Table.{command_table, command_of, is_known, takes_option, size_of, param_bytes}
 use Rattle.silence_rules.specs.Silence.{maker_differs, uid_differs, silence_holds, reception_silences, address_silences, request_silences, is_silent}
 use Rattle.judge.specs.Judge.{is_mute, error_of, shut_out, bad_flags, wrong_length, error_holds, rule_error, error_rules, judge}
-use Rattle.blocks.specs.Blocks.{leaves_area, blocks_of, read_of}
-use Rattle.block_status.specs.Status.{status_of, statuses_of, status_reply}
-use Rattle.block_bytes.specs.Block.{block_of}
-use Rattle.block_writes.specs.Writes.{may_write_all, write_of, lock_of}
-use Rattle.config.specs.Config.{read_config_of, mailbox_after_write, written_core, write_config_of}
 use Rattle.dynamic_config.specs.DynamicConfig.{read_dynamic_of, write_dynamic_of}
 use Rattle.message_writes.specs.WriteMessage.{takes_message, write_message_of}
 use Rattle.message.specs.Message.{length_of, asked, mailbox_after_read, read_message_of}
-use Rattle.password.specs.Password.{present_of, write_password_of}
 use Rattle.radio_state.specs.RadioState.{stay_quiet_of, select_uid_of, reset_to_ready_of}
-use Rattle.serve.specs.Commands.{serve_command, serve_code, serve_of}
 use Rattle.inventory.specs.Inventory.{mask_length_place, mask_bits, is_malformed, bit_at, same_bits, afi_asks, is_matched, slot_number, own_slot, slots_after, answers_now, takes_part}
 use Rattle.inventory_reply.specs.Answers.{is_heard, inventory_of, end_of_frame_of}
-use Rattle.radio.specs.Radio.{next_slot_of, verdict_result, radio_of}
-use Rattle.refusals.specs.Refusals.{number, looks_at_tag, tag_in_range, judgement, unless_refused}
 use Rattle.model.specs.Step.{from_wire, from_radio, act_of, step_of, fresh_of}
 use Rattle.calls.specs.Calls.{entry, run_by, frames_fit}
 use Rattle.calls.specs.Examples.{sends}

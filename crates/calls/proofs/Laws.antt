@@ -8,18 +8,13 @@ use Rattle.parts.proofs.Bools.{and_left, and_right, and_both}
 use Rattle.tag.specs.declared.Tag.{Tag}
 use Rattle.ranges.specs.Ranges.{supplied_in_range}
 use Rattle.model.specs.declared.Answer.TheVariants.{Refused}
-use Rattle.refusals.specs.declared.Refusal.{Refusal}
-use Rattle.refusals.specs.declared.Judgement.{Judgement}
-use Rattle.refusals.specs.declared.Judgement.TheVariants.{RefusedBy}
-use Rattle.refusals.specs.Refusals.{argument_rules, judgement, unless_refused}
-use Rattle.refusals.proofs.Laws.{judged_case, judged_map}
-use Rattle.refusals.proofs.Ranges.{range_parts}
+use Rattle.model.specs.Passed.{Refusal, Judgement, RefusedBy, argument_rules, judgement, unless_refused, Call}
+use Rattle.model.proofs.Passed.{judged_case, judged_map, range_parts}
 use Rattle.signal_table.specs.declared.Signal.{Signal}
 use Rattle.model.specs.Step.{refused, act_of}
 use Rattle.model.specs.Claims.{Fit}
 use Rattle.model.proofs.Acts.{signal_of_call, fit_step}
 use Rattle.model.proofs.Kept.{keeps}
-use Rattle.refusals.specs.Call.{Call}
 use Rattle.calls.specs.Calls.{call_answer, Device, DeviceResult, device_result, device_result_of, RunResult, run_result, run_by, entry, frames_fit}
 use Rattle.calls.specs.Claims.{EntryTells, RunsOn}
 

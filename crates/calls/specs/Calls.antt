@@ -3,7 +3,7 @@ use Rattle.std.specs.Prelude.{Bool, true, ◌&&◌, List, [], ◌∷◌, ℕ}
 use Rattle.parts.specs.Bytes.{are_bytes}
 use Rattle.tag.specs.declared.Tag.{Tag}
 use Rattle.reply.specs.Reply.{ReplyBody, answer_of, buffer_of}
-use Rattle.refusals.specs.Call.{Call}
+use Rattle.model.specs.Passed.{Call}
 use Rattle.model.specs.declared.Answer.{Answer}
 use Rattle.model.specs.Step.{StepResult, from_radio, step_of}
 

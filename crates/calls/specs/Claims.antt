@@ -1,7 +1,7 @@
 -- What a list of calls is, in terms of its calls.
 use Rattle.std.specs.Prelude.{◌≡◌, List, [], ◌∷◌, ◌++◌}
 use Rattle.model.specs.Step.{step_result, step_of}
-use Rattle.refusals.specs.Call.{Call}
+use Rattle.model.specs.Passed.{Call}
 use Rattle.calls.specs.Calls.{Device, Step, entry, run_result, run_by}
 
 -- the entry point's result has all that its contract gives: the answer, the tag and both lent buffers

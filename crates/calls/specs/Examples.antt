@@ -16,7 +16,7 @@ use Rattle.tag.specs.Parts.{with_vcc, with_i2c_session, with_programming, with_c
 use Rattle.mailbox.specs.Parts.{with_put, with_enabled, with_host_message, with_length}
 use Rattle.mailbox.specs.Mailbox.{empty_mailbox, put_message}
 use Rattle.crc.specs.Crc.{closed}
-use Rattle.refusals.specs.Call.{Call, handed_in}
+use Rattle.model.specs.Passed.{Call, handed_in}
 use Rattle.calls.specs.Calls.{Device, device}
 
 abbrev pub zeros : ℕ → List ℕ

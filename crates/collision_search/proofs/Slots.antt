@@ -16,12 +16,12 @@ use Rattle.tag.specs.Layout.{reply_bytes}
 use Rattle.signal_table.proofs.Laws.{frame_known}
 use Rattle.refusals.specs.declared.Judgement.TheVariants.{NoRefusal}
 use Rattle.refusals.specs.Refusals.{judgement}
-use Rattle.calls.specs.Calls.{call_answer, entry}
+use Rattle.rack.specs.Passed.{call_answer, entry}
 use Rattle.rack.specs.Rack.{Rack, rack_of, RackCall, to_all}
 use Rattle.rack.specs.Rules.{rack_rules}
 use Rattle.rack.specs.Step.{numbers_from, rack_answer, RackResult, rack_result, rack_acts, rack_entry}
 use Rattle.rack.proofs.Kept.{call_acts}
-use Rattle.rack_claims.proofs.WellFormed.{Formed, next_formed}
+use Rattle.rack_search.proofs.Passed.{Formed, next_formed}
 use Rattle.rack_search.specs.declared.SearchAnswer.TheVariants.{NoCollision, Collision}
 use Rattle.rack_search.specs.Search.{sends_frame, sends_end, sends_next, search_result, collides, look}
 use Rattle.rack_search.proofs.OneTag.{end_known}

@@ -16,9 +16,8 @@ use Rattle.write_reasons.specs.declared.WriteReason.{WriteReason}
 use Rattle.write_reasons.specs.declared.WriteReason.TheVariants.{OutsideMap, EndaRule}
 use Rattle.write_reasons.specs.contracts.WriteReason.{the_type}
 use Rattle.write_reasons.proofs.Laws.{is_other}
-use Rattle.write_rules.specs.Situation.{pointer_place, pointer_situation}
-use Rattle.write_rules.specs.Verdict.{write_verdict}
-use Rattle.write_rules.proofs.Chain.{radio_unmapped, pointer_chain}
+use Rattle.write_verdict.specs.Passed.{pointer_place, pointer_situation, write_verdict}
+use Rattle.write_verdict.proofs.Passed.{radio_unmapped, pointer_chain}
 use Rattle.config.specs.Config.{write_config_of}
 use Rattle.config.specs.Claims.{config_error, config_by, ConfigByVerdict}
 

@@ -11,8 +11,7 @@ use Rattle.write_reasons.specs.declared.WriteReason.TheVariants.{OutsideMap, End
 use Rattle.write_reasons.specs.declared.WriteVerdict.{WriteVerdict}
 use Rattle.write_reasons.specs.declared.WriteVerdict.TheVariants.{Allowed, Forbidden}
 use Rattle.write_reasons.specs.Reasons.{is_reason}
-use Rattle.write_rules.specs.Situation.{pointer_situation}
-use Rattle.write_rules.specs.Verdict.{write_verdict}
+use Rattle.write_verdict.specs.Passed.{pointer_situation, write_verdict}
 use Rattle.config.specs.Config.{written_core, write_config_of}
 
 -- "pointers .., else 10h"; "0Fh ENDA"; else "12h if LOCK_CFG or password 0 session closed"

@@ -18,8 +18,7 @@ use Rattle.write_reasons.specs.declared.WriteAsked.{WriteAsked}
 use Rattle.write_reasons.specs.declared.WriteAsked.TheVariants.{DataByte}
 use Rattle.write_reasons.specs.declared.WriteVerdict.{WriteVerdict}
 use Rattle.write_reasons.specs.Reasons.{is_allowed}
-use Rattle.write_rules.specs.Situation.{situation_of}
-use Rattle.write_rules.specs.Verdict.{write_verdict}
+use Rattle.write_verdict.specs.Passed.{situation_of, write_verdict}
 use Rattle.rule.specs.Rule.{acked}
 use Rattle.rule.proofs.AckedByte.{acked_room}
 use Rattle.rule.proofs.Agree.{byte_agrees}

@@ -2,12 +2,11 @@
 use mathlib.Core.Path.{◌≡◌, refl, sym, ap, subst, ◌∙◌}
 use mathlib.Core.Bool.{true, false, false≢true}
 use mathlib.Core.List.{List, [], ◌∷◌, ◌++◌, append_assoc, append-nil}
-use Rattle.model.specs.Step.{transfer_open}
+use Rattle.waiting.specs.Passed.{transfer_open, CallAnswer, Device, RunResult, entry, run_by, frames_fit}
 use Rattle.refusals.specs.Call.{Call}
-use Rattle.calls.specs.Calls.{CallAnswer, Device, RunResult, entry, run_by, frames_fit}
 use Rattle.waiting.specs.Waiting.{Waiting, no_transfer, inside, wait_step, wait_run}
 use Rattle.demand3.specs.Demand3.{is_closed, Agrees, EveryList, Demand3, EndsAlike}
-use Rattle.calls.proofs.Laws.{Fits, first_fits, rest_fits, fits_next}
+use Rattle.waiting.proofs.Passed.{Fits, first_fits, rest_fits, fits_next}
 use Rattle.demand3.proofs.Struck.{judged, striking, all_shut}
 use Rattle.waiting.proofs.Follow.{now, answers, Good, stepped}
 

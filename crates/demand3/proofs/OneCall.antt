@@ -4,20 +4,16 @@ use mathlib.Core.List.{List}
 use Prim.Native.Nat.{ℕ}
 use mathlib.Core.Bool.{true, false, not, ◌&&◌, false≢true}
 use Rattle.parts.proofs.Bools.{and_left, and_right}
-use Rattle.wire_claims.specs.Claims.{side_counted}
-use Rattle.wire_claims.proofs.Line.{counted_stays}
+use Rattle.waiting.specs.Passed.{side_counted, Answer, Refused, Nothing, Ack, NoAck, Byte, Silence, Reply as ReplyOf, transfer_open, act_of, is_refused, Device, DeviceResult, device_result, entry, call_reply}
+use Rattle.waiting.proofs.Passed.{counted_stays, act_served, Fits, acted_by, found, call_case, supplied}
 use Rattle.rule_list.specs.RuleList.{any_holds}
 use Rattle.refusals.specs.declared.Refusal.{Refusal}
 use Rattle.refusals.specs.declared.Judgement.TheVariants.{RefusedBy}
 use Rattle.refusals.specs.Refusals.{number, looks_at_tag, argument_rules}
 use Rattle.refusals.proofs.Laws.{refused_by}
-use Rattle.model.proofs.Served.{act_served}
-use Rattle.model.specs.declared.Answer.{Answer}
-use Rattle.model.specs.declared.Answer.TheVariants.{Refused, Nothing, Ack, NoAck, Byte, Silence, Reply as ReplyOf}
 use Rattle.signal_table.specs.declared.Signal.{Signal}
 use Rattle.signal_table.specs.declared.Signal.TheVariants.{Wire, Field, Frame, EndOfFrame}
 use Rattle.signal_table.specs.Table.{signal_by}
-use Rattle.model.specs.Step.{transfer_open, act_of, is_refused}
 use Rattle.register_types.specs.declared.RfMngt.{RfMngt}
 use Rattle.air.specs.declared.Air.{Air}
 use Rattle.keys.specs.declared.Uid.{Uid}
@@ -25,9 +21,7 @@ use Rattle.tag.specs.declared.Tag.{Tag}
 use Rattle.reply.specs.Reply.{ReplyBody, nothing}
 use Rattle.tag.specs.Parts.{wire_side}
 use Rattle.refusals.specs.Call.{Call}
-use Rattle.calls.specs.Calls.{Device, DeviceResult, device_result, entry, call_reply}
 use Rattle.demand3.specs.Demand3.{refused_by_state, is_radio, struck}
-use Rattle.calls.proofs.Laws.{Fits, acted_by, found, call_case, supplied}
 use Rattle.waiting.proofs.Frames.{shut_by, frame_shut, end_shut}
 
 -- ---- a struck call

@@ -11,16 +11,14 @@ use Rattle.keys.specs.declared.Uid.{Uid}
 use Prim.Native.Nat.{ℕ}
 use Rattle.air.specs.declared.Air.{Air}
 use Rattle.tag.specs.declared.Tag.{Tag}
-use Rattle.model.specs.Step.{transfer_open}
+use Rattle.waiting.specs.Passed.{transfer_open, CallAnswer, Device, DeviceResult, RunResult, run_result, entry, run_by, frames_fit, call_reply}
 use Rattle.reply.specs.Reply.{ReplyBody}
 use Rattle.signal_table.specs.declared.Signal.{Signal}
 use Rattle.signal_table.specs.declared.Signal.TheVariants.{Wire, Field, Frame, EndOfFrame}
 use Rattle.signal_table.specs.Table.{signal_by}
 use Rattle.refusals.specs.Call.{Call}
-use Rattle.calls.specs.Calls.{CallAnswer, Device, DeviceResult, RunResult, run_result, entry, run_by, frames_fit, call_reply}
 use Rattle.demand3.specs.Demand3.{state_refused, struck, others, other_answers, shut_reply, Shut, start_after, EachStruck, AllShut, RepliesShut}
-use Rattle.calls.proofs.Laws.{Fits, first_fits, rest_fits, fits_next}
-use Rattle.wire_claims.proofs.Line.{closed_counted}
+use Rattle.waiting.proofs.Passed.{Fits, first_fits, rest_fits, fits_next, closed_counted}
 use Rattle.demand3.proofs.OneCall.{tag_counted, shut_of, struck_is, Stays, call_stays, call_judged}
 
 -- ---- one call

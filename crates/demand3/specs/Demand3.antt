@@ -9,15 +9,12 @@ use Rattle.reply.specs.Reply.{ReplyBody, nothing, fault}
 use Rattle.frame.specs.Fields.{inventory_flag}
 use Rattle.judge.specs.Judge.{is_mute}
 use Rattle.silence_rules.specs.Silence.{is_silent}
-use Rattle.model.specs.declared.Answer.{Answer}
-use Rattle.model.specs.declared.Answer.TheVariants.{Refused, Nothing, Ack, NoAck, Byte, Silence, Reply as ReplyOf}
+use Rattle.waiting.specs.Passed.{Answer, Refused, Nothing, Ack, NoAck, Byte, Silence, Reply as ReplyOf, is_refused, transfer_open, frames_fit, call_reply, CallAnswer, Device, Step, run_result, run_by, entry}
 use Rattle.signal_table.specs.declared.Signal.{Signal}
 use Rattle.signal_table.specs.declared.Signal.TheVariants.{Wire, Field, Frame, EndOfFrame}
 use Rattle.signal_table.specs.Table.{signal_by}
-use Rattle.model.specs.Step.{is_refused, transfer_open}
 use Rattle.refusals.specs.Refusals.{looks_at_tag, tag_in_range}
 use Rattle.refusals.specs.Call.{Call}
-use Rattle.calls.specs.Calls.{frames_fit, call_reply, CallAnswer, Device, Step, run_result, run_by, entry}
 use Rattle.waiting.specs.Waiting.{Waiting, no_transfer, inside, wait_run}
 
 -- ---- refusals 1 and 4 never occur

@@ -25,7 +25,7 @@ use Rattle.model.specs.Step.{from_radio, transfer_open, is_refused}
 use Rattle.capi.specs.Interface.{answer_number}
 use Rattle.refusals.specs.Call.{Call}
 use Rattle.calls.specs.Calls.{Device, device, DeviceResult, entry, run_by, frames_fit, call_reply}
-use Rattle.waiting.specs.Waiting.{no_transfer, wait_run}
+use Rattle.demand3.specs.Passed.{no_transfer, wait_run}
 use Rattle.demand3.specs.Demand3.{is_closed, is_radio, struck, shut_reply, start_after}
 use Rattle.calls.proofs.Laws.{first_fits, rest_fits, frames_first, Fits, fits_next}
 use Rattle.demand3.proofs.OneCall.{tag_counted, shut_of, struck_is}

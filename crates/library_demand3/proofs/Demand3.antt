@@ -14,7 +14,7 @@ use Rattle.model.specs.Step.{transfer_open}
 use Rattle.refusals.specs.Refusals.{tag_in_range}
 use Rattle.refusals.specs.Call.{Call}
 use Rattle.calls.specs.Calls.{Device, device, entry, run_by, frames_fit}
-use Rattle.waiting.specs.Waiting.{no_transfer, wait_run}
+use Rattle.demand3.specs.Passed.{no_transfer, wait_run}
 use Rattle.demand3.specs.Demand3.{is_closed}
 use Rattle.demand3.proofs.Demand3.{demand_3, ends_alike}
 use Rattle.library_demand3.specs.Calls.{exported, LibraryRunResult, library_run}

@@ -8,3 +8,4 @@ pub mod Demand3
 pub mod Wrong
 pub mod Buffer
 pub mod Fresh
+pub mod Passed

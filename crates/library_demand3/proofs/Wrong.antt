@@ -26,7 +26,7 @@ use Rattle.next_state.specs.After.{state_after}
 use Rattle.refusals.specs.Call.{Call}
 use Rattle.calls.specs.Calls.{Device, device, frames_fit}
 use Rattle.calls.specs.Examples.{zeros, field_to, send, stop, programming_end, frame, uid, powered, ◌but◌, radio_state, radio_session, i2c_session, being_programmed, on_bus, host_message}
-use Rattle.waiting.specs.Waiting.{fill, answered, notes_of, is_started, acked_select, opens, when_closed, note, frame_answer, end_answer, notes, when_open, wait_act, wait_step, wait_run}
+use Rattle.demand3.specs.Passed.{fill, answered, notes_of, is_started, acked_select, opens, when_closed, note, frame_answer, end_answer, notes, when_open, wait_act, wait_step, wait_run}
 use Rattle.demand3.specs.Demand3.{is_radio, shut_reply, is_closed}
 use Rattle.calls.proofs.Computes.{computes}
 use Rattle.library_demand3.specs.Calls.{LibraryAnswer, LibraryRunResult, exported, library_run}

@@ -13,7 +13,7 @@ use Rattle.refusals.specs.Refusals.{tag_in_range}
 use Rattle.capi.specs.Interface.{answer_number, fresh_call}
 use Rattle.refusals.specs.Call.{Call}
 use Rattle.calls.specs.Calls.{CallAnswer, device, frames_fit, call_reply}
-use Rattle.waiting.specs.Waiting.{Waiting, no_transfer, inside, wait_run}
+use Rattle.demand3.specs.Passed.{Waiting, no_transfer, inside, wait_run}
 use Rattle.demand3.specs.Demand3.{is_radio, shut_reply, start_after, is_closed}
 use Rattle.library_demand3.specs.Calls.{LibraryStep, exported, LibraryAnswer, library_answer, answer_by, LibraryRunResult, library_run_result, library_run}
 

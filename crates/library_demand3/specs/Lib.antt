@@ -3,3 +3,4 @@ pub mod Calls
 pub mod Claim
 pub mod Follows
 pub mod Wrong
+pub mod Passed

@@ -29,11 +29,8 @@ use Rattle.rack.specs.Rack.{Rack, rack_of, RackCall, rack_call, to_all, memory_s
 use Rattle.rack.specs.Rules.{rack_memory_rule, rack_range_rule, size_rule, uids_rule, WellFormed}
 use Rattle.rack.specs.Step.{RackResult, rack_entry, rack_run}
 use Rattle.rack.proofs.Unread.{number_unread}
-use Rattle.rack_claims.specs.ItsTags.{rack_frames_fit}
-use Rattle.rack_claims.proofs.ItsTags.{is_its_tags}
-use Rattle.rack_claims.proofs.Report.{only_radio_reported}
-use Rattle.rack_claims.proofs.WellFormed.{formed, keeps_well_formed}
-use Rattle.rack_claims.proofs.Demand3.{frames_own, answers_as_waiting}
+use Rattle.wrong_racks.specs.Passed.{rack_frames_fit}
+use Rattle.wrong_racks.proofs.Passed.{is_its_tags, only_radio_reported, formed, keeps_well_formed, frames_own, answers_as_waiting}
 use Rattle.rack_states.specs.States.{states_of, tags_at, all_decode}
 use Rattle.rack_states.proofs.States.{tags_number}
 use Rattle.library_rack_refusals.specs.Rules.{rack_at, states_rule, all_decode_rule, rack_step_rules}

@@ -20,8 +20,8 @@ use Rattle.refusals.specs.Refusals.{number, judgement}
 use Rattle.refusals.proofs.Laws.{refused_by}
 use Rattle.model.specs.declared.Answer.{Answer}
 use Rattle.model.specs.Step.{is_refused}
-use Rattle.capi.specs.Interface.{answer_number}
-use Rattle.capi.proofs.Refusals.{number_refused}
+use Rattle.library_demand3.specs.Passed.{answer_number}
+use Rattle.library_demand3.proofs.Passed.{number_refused}
 use Rattle.calls.specs.Calls.{Device, DeviceResult, entry}
 use Rattle.library_demand3.proofs.Lists.{Good, good_next}
 use Rattle.rack.specs.Rack.{Rack, rack_of, RackCall, memory_size, devices_of, devices, tags_of, memories_of, goes_to}
@@ -29,8 +29,8 @@ use Rattle.rack.specs.Rules.{rack_rules}
 use Rattle.rack.specs.Claims.{is_among}
 use Rattle.rack.specs.Step.{unreached, turn_of, turns_of, left_by, RackResult, rack_acts, rack_entry, rack_run}
 use Rattle.rack.proofs.Kept.{call_refused, call_acts, call_number}
-use Rattle.rack_claims.specs.ItsTags.{rack_frames_fit}
-use Rattle.rack_claims.proofs.WellFormed.{Formed, call_rules, formed_judged, next_formed}
+use Rattle.wrong_racks.specs.Passed.{rack_frames_fit}
+use Rattle.wrong_racks.proofs.Passed.{Formed, call_rules, formed_judged, next_formed}
 use Rattle.rack_states.specs.States.{states_of, tags_at}
 use Rattle.capi_rack.specs.RackInterface.{RackCallResult, rack_called}
 use Rattle.capi_rack.proofs.Racks.{steps_the_rack}

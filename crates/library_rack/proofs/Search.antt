@@ -12,15 +12,11 @@ use Rattle.parts.proofs.Bools.{and_both}
 use Rattle.refusals.specs.declared.Refusal.{Refusal}
 use Rattle.refusals.specs.declared.Refusal.TheVariants.{MemoryLength, ReplyShort, SignalUnknown, OutOfRange, RackSize, NoSuchTag, EqualUids, StateLength, UidLength}
 use Rattle.refusals.specs.Refusals.{number}
-use Rattle.capi.specs.Interface.{CallResult}
+use Rattle.library_demand3.specs.Passed.{CallResult}
 use Rattle.rack.specs.Rack.{Rack, RackCall}
 use Rattle.rack.specs.Step.{RackAnswer, rack_entry, rack_run}
-use Rattle.rack_claims.specs.ItsTags.{rack_frames_fit}
-use Rattle.rack_search.specs.declared.SearchAnswer.{SearchAnswer}
-use Rattle.rack_search.specs.declared.SearchAnswer.TheVariants.{Refused, NoCollision, Collision}
-use Rattle.rack_search.specs.Search.{sends_frame, sends_next, search_entry}
-use Rattle.rack_search.specs.Claims.{sent_calls, slots_opened, buffer_after}
-use Rattle.rack_search.proofs.Search.{searches}
+use Rattle.wrong_racks.specs.Passed.{rack_frames_fit, SearchAnswer, Refused, NoCollision, Collision, sends_frame, sends_next, search_entry, sent_calls, slots_opened, buffer_after}
+use Rattle.wrong_racks.proofs.Passed.{searches}
 use Rattle.rack_states.specs.States.{states_of, tags_at}
 use Rattle.rack_states.proofs.States.{tags_number}
 use Rattle.library_rack_refusals.specs.Rules.{rack_at}

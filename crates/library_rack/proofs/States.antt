@@ -15,7 +15,7 @@ use Rattle.state.specs.Layout.{state_bytes, bytes_of, decodes}
 use Rattle.state.specs.Claims.{Fits}
 use Rattle.state.proofs.AreBytes.{encodes_bytes}
 use Rattle.state.proofs.Decoded.{decoded_fits}
-use Rattle.capi.proofs.Tags.{decodes_length}
+use Rattle.library_demand3.proofs.Passed.{decodes_length}
 use Rattle.library_demand3.specs.Claim.{Starts}
 use Rattle.rack.specs.Rack.{no_tag}
 use Rattle.rack_states.specs.States.{states_of, tags_at, all_decode}

@@ -7,7 +7,7 @@ use lib.ListN.{get_or}
 use Rattle.registers.specs.Map.{register_bytes}
 use Rattle.tag.specs.Layout.{reply_bytes}
 use Rattle.state.specs.Layout.{flag_byte, radio_number, radio_state_of, space_number, space_of, air_bytes, air_decodes, air_at, transfer_byte, bus_bytes, is_bus, bus_of, bus_decodes, bus_at, host_bytes, host_decodes, host_at, registers_at, mailbox_bytes, mailbox_decodes, mailbox_at, password_bytes, passwords_at, bytes_of, decodes, tag_of}
-use Rattle.capi.specs.Interface.{answer_number}
+use Rattle.library_demand3.specs.Passed.{answer_number}
 use Rattle.calls.specs.Examples.{zeros, vcc_to, field_to}
 use Rattle.rack.specs.Rack.{Rack, rack_call}
 use Rattle.rack_states.specs.States.{states_of, tags_at, all_decode}

@@ -1,7 +1,7 @@
 -- Lists of the library's rack calls, each of which gets the states' bytes and the memory that the last one left.
 -- Beside these and the number of tags a call hands in what `RackCall` holds: a reply buffer of any length, a code, a value, a frame, and the number of a tag.
 use Rattle.std.specs.Prelude.{List, [], ◌∷◌, ℕ}
-use Rattle.capi.specs.Interface.{CallResult}
+use Rattle.library_demand3.specs.Passed.{CallResult}
 use Rattle.rack.specs.Rack.{RackCall}
 use Rattle.capi_rack.specs.RackInterface.{RackCallResult, rack_step_call, rack_search_call}
 

@@ -9,7 +9,7 @@ use Rattle.refusals.specs.declared.Judgement.TheVariants.{NoRefusal, RefusedBy}
 use Rattle.refusals.specs.Call.{Call}
 use Rattle.refusals.specs.Refusals.{number, judgement}
 use Rattle.model.specs.Step.{transfer_open}
-use Rattle.capi.specs.Interface.{answer_number}
+use Rattle.library_demand3.specs.Passed.{answer_number}
 use Rattle.calls.specs.Calls.{device}
 use Rattle.waiting.specs.Waiting.{Waiting}
 use Rattle.demand3.specs.Demand3.{is_radio, is_closed}
@@ -19,11 +19,7 @@ use Rattle.rack.specs.Rack.{RackCall, rack_call, memory_sizes, device_at, device
 use Rattle.rack.specs.Rules.{WellFormed}
 use Rattle.rack.specs.Claims.{is_among}
 use Rattle.rack.specs.Step.{RackAnswer, rack_entry, RackRunResult, rack_run}
-use Rattle.rack_claims.specs.Cut.{JudgedCall, judged_calls, of_each, answers_made}
-use Rattle.rack_claims.specs.ItsTags.{rack_frames_fit, answers_alone}
-use Rattle.rack_claims.specs.Demand3.{own_of, waits_for, stand_in}
-use Rattle.rack_search.specs.Search.{search_rules, search_entry}
-use Rattle.rack_search.specs.Claims.{FirstCollision, NoCollisions, sent_by}
+use Rattle.wrong_racks.specs.Passed.{JudgedCall, judged_calls, of_each, answers_made, rack_frames_fit, answers_alone, own_of, waits_for, stand_in, search_rules, search_entry, FirstCollision, NoCollisions, sent_by}
 use Rattle.rack_states.specs.States.{states_of, tags_at, all_decode}
 use Rattle.library_rack_refusals.specs.Rules.{rack_at}
 use Rattle.capi_rack.specs.RackInterface.{mask_of, rack_call_result}

@@ -2,7 +2,7 @@
 use Rattle.std.specs.Prelude.{List, ◌++◌, ℕ, ◌+◌, ◌*◌, ◌%◌, leb, eqb, take, drop}
 use Rattle.parts.specs.Pick.{pick}
 use Rattle.state.specs.Layout.{state_bytes}
-use Rattle.capi.specs.Interface.{CallResult, call_result}
+use Rattle.library_demand3.specs.Passed.{CallResult, call_result}
 use Rattle.rack.specs.Rack.{RackCall}
 use Rattle.capi_rack.specs.RackInterface.{RackCallResult, rack_call_result}
 use Rattle.library_rack.specs.Calls.{LibraryRackStep, exported_rack, LibrarySearch, exported_search}

@@ -1,8 +1,7 @@
 -- The mailbox but for its bytes: MB_CTRL_Dyn and the message's length.
 -- "MB_CTRL_Dyn: b0 MB_EN, b1 HOST_PUT, b2 RF_PUT, b6 HOST_CURRENT, b7 RF_CURRENT."
 use Rattle.std.specs.Prelude.{Bool, true, false, ◌&&◌, ℕ, ◌+◌, ◌-◌, ◌%◌}
-use Rattle.parts.specs.Pick.{pick}
-use Rattle.parts.specs.Bits.{is_set}
+use Rattle.register_types.specs.Passed.{pick, is_set}
 use Rattle.register_types.specs.declared.MbMode.{MbMode}
 use Rattle.mailbox.specs.declared.Message.{Message}
 use Rattle.mailbox.specs.declared.Mailbox.{Mailbox}

@@ -18,10 +18,8 @@ use Rattle.bus.specs.Bus.{counted_dynamic, transfer_at, is_open_transfer, is_ope
 use Rattle.air.specs.Radio.{field_at}
 use Rattle.tag.specs.Supply.{fresh_tag}
 use Rattle.tag.specs.Parts.{wire_side, with_tag_air}
-use Rattle.ranges.specs.Ranges.{air_in_range, core_in_range, supplied_in_range, wire_in_range, in_range}
-use Rattle.ranges.proofs.AirKept.{field_kept as air-kept}
-use Rattle.ranges.proofs.Fresh.{fresh_in_range}
-use Rattle.page.specs.PageRange.{bus_in_range}
+use Rattle.wire_claims.specs.Passed.{air_in_range, core_in_range, supplied_in_range, wire_in_range, in_range, bus_in_range}
+use Rattle.wire_claims.proofs.Passed.{field_kept as air-kept, fresh_in_range}
 use Rattle.refusals.proofs.Laws.{judged_case}
 use Rattle.refusals.proofs.Ranges.{RangeParts, range_parts}
 use Rattle.signal_table.specs.declared.WireSignal.{WireSignal}

@@ -3,3 +3,4 @@ pub mod Kept
 pub mod Served
 pub mod Clear
 pub mod Room
+pub mod Passed

@@ -1,2 +1,3 @@
 pub mod Acks
 pub mod User
+pub mod Passed

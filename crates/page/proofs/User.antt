@@ -10,11 +10,10 @@ use borrow.Author.Tests.{leb-true, leb-false, lt-leb, ltb-true, ltb-false, lt-lt
 use Rattle.parts.specs.Pick.{pick}
 use Rattle.parts.proofs.Bools.{and_left, and_right, and_both}
 use Rattle.parts.proofs.Picks.{pick_case}
-use Rattle.rights.specs.declared.Side.TheVariants.{Wire}
+use Rattle.write_verdict.specs.Passed.{Wire, is_locked, write_right, may_write}
 use Rattle.areas.specs.Ends.{area_of_block, area_of_byte}
-use Rattle.rights.specs.Rights.{is_locked, write_right, may_write}
 use Rattle.areas.proofs.Kept.{byte_in_blocks_area}
-use Rattle.rights.proofs.Runs.{area_between, unlocked}
+use Rattle.write_verdict.proofs.Passed.{area_between, unlocked}
 use Rattle.tag.specs.declared.Core.{Core}
 use Rattle.bus.specs.declared.Space.TheVariants.{User}
 use Rattle.tag.specs.Layout.{page}

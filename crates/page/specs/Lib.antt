@@ -1,1 +1,2 @@
 pub mod PageRange
+pub mod Passed

@@ -13,9 +13,8 @@ use Rattle.write_reasons.specs.declared.WriteReason.{WriteReason}
 use Rattle.write_reasons.specs.declared.WriteReason.TheVariants.{OutsideMap}
 use Rattle.write_reasons.specs.contracts.WriteReason.{the_type}
 use Rattle.write_reasons.proofs.Laws.{is_other}
-use Rattle.write_rules.specs.Situation.{password_place, password_situation}
-use Rattle.write_rules.specs.Verdict.{write_verdict}
-use Rattle.write_rules.proofs.Chain.{radio_unmapped, password_number_chain}
+use Rattle.write_verdict.specs.Passed.{password_place, password_situation, write_verdict}
+use Rattle.write_verdict.proofs.Passed.{radio_unmapped, password_number_chain}
 use Rattle.password.specs.Password.{write_password_of}
 use Rattle.password.specs.Claims.{password_error, password_by, PasswordByVerdict}
 

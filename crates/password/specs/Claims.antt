@@ -12,8 +12,7 @@ use Rattle.write_reasons.specs.declared.WriteReason.TheVariants.{OutsideMap}
 use Rattle.write_reasons.specs.declared.WriteVerdict.{WriteVerdict}
 use Rattle.write_reasons.specs.declared.WriteVerdict.TheVariants.{Allowed, Forbidden}
 use Rattle.write_reasons.specs.Reasons.{is_reason}
-use Rattle.write_rules.specs.Situation.{password_situation}
-use Rattle.write_rules.specs.Verdict.{write_verdict}
+use Rattle.write_verdict.specs.Passed.{password_situation, write_verdict}
 use Rattle.password.specs.Password.{write_password_of}
 
 -- "10h; 12h unless session n"

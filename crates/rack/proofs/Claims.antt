@@ -18,12 +18,8 @@ use Rattle.signal_table.specs.declared.SignalFound.{SignalFound}
 use Rattle.signal_table.specs.declared.SignalFound.TheVariants.{NoSignal, Found}
 use Rattle.signal_table.specs.Table.{SignalRow, signal_table, signal_found, is_found, signal_in_range, signal_in, signal_by}
 use Rattle.tag.specs.declared.Tag.{Tag}
-use Rattle.refusals.specs.declared.Refusal.{Refusal}
-use Rattle.refusals.specs.declared.Refusal.TheVariants.{NoSuchTag}
-use Rattle.refusals.specs.declared.Judgement.{Judgement}
-use Rattle.refusals.specs.declared.Judgement.TheVariants.{NoRefusal}
-use Rattle.refusals.specs.Refusals.{number, judgement, unless_refused}
-use Rattle.refusals.proofs.Laws.{applies_of, not_refused}
+use Rattle.calls.specs.Passed.{Refusal, NoSuchTag, Judgement, NoRefusal, number, judgement, unless_refused}
+use Rattle.calls.proofs.Passed.{applies_of, not_refused}
 use Rattle.calls.specs.Calls.{CallAnswer, Device, DeviceResult, entry}
 use Rattle.rack.specs.Rack.{Rack, rack_of, RackCall, memory_size, memory_sizes, device_at, devices_of, devices, memories_of, to_all, goes_to}
 use Rattle.rack.specs.Rules.{rack_rules}

@@ -13,10 +13,8 @@ use Rattle.parts.proofs.Picks.{pick_case}
 use Rattle.parts.proofs.Bools.{and_left, and_right, and_both}
 use Rattle.rule_list.specs.RuleList.{first_says}
 use Rattle.tag.specs.Layout.{reply_bytes}
-use Rattle.refusals.specs.declared.Judgement.TheVariants.{NoRefusal}
-use Rattle.refusals.specs.declared.Refusal.TheVariants.{MemoryLength, ReplyShort, OutOfRange, RackSize, EqualUids}
-use Rattle.refusals.specs.Refusals.{number, tag_in_range, judgement}
-use Rattle.refusals.proofs.Laws.{applies_of, not_refused}
+use Rattle.calls.specs.Passed.{NoRefusal, MemoryLength, ReplyShort, OutOfRange, RackSize, EqualUids, number, tag_in_range, judgement}
+use Rattle.calls.proofs.Passed.{applies_of, not_refused}
 use Rattle.calls.specs.Calls.{Device, DeviceResult, entry}
 use Rattle.calls.proofs.Laws.{Fits, fits_next}
 use Rattle.rack.specs.Rack.{Rack, RackCall, memory_size, memory_sizes, device_at, devices, goes_to}

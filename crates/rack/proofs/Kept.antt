@@ -5,10 +5,7 @@ use mathlib.Core.List.{List, [], ◌∷◌}
 use Prim.Native.Nat.{ℕ, suc, ◌+◌}
 use lib.ListN.{length}
 use Rattle.parts.specs.Bytes.{are_bytes}
-use Rattle.refusals.specs.declared.Refusal.{Refusal}
-use Rattle.refusals.specs.declared.Judgement.{Judgement}
-use Rattle.refusals.specs.declared.Judgement.TheVariants.{NoRefusal, RefusedBy}
-use Rattle.refusals.specs.Refusals.{judgement, unless_refused}
+use Rattle.calls.specs.Passed.{Refusal, Judgement, NoRefusal, RefusedBy, judgement, unless_refused}
 use Rattle.calls.specs.Calls.{Device, entry}
 use Rattle.rack.specs.Rack.{Rack, RackCall, memory_size, memory_sizes, devices, tags_of}
 use Rattle.rack.specs.Rules.{rack_rules}

@@ -4,3 +4,4 @@ pub mod Kept
 pub mod Report
 pub mod Claims
 pub mod Unread
+pub mod Passed

@@ -11,7 +11,7 @@ use borrow.Author.Tests.{eq-eqb, ne_eqb, le-leb}
 use Rattle.parts.specs.Pick.{pick}
 use Rattle.parts.proofs.Picks.{pick_case}
 use Rattle.parts.proofs.Bools.{and_both, or_first}
-use Rattle.model.specs.Step.{is_reply}
+use Rattle.calls.specs.Passed.{is_reply}
 use Rattle.calls.specs.Calls.{CallAnswer}
 use Rattle.rack.specs.Step.{who_replied, numbers_from, lowest_reply}
 use Rattle.rack.specs.Claims.{is_among, is_rising, report_of, ReportsReplies}

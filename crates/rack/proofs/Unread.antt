@@ -6,11 +6,7 @@ use Prim.Native.Nat.{ℕ, suc}
 use lib.Dec.{leb, eqb}
 use lib.ListN.{length, get_or}
 use Rattle.parts.specs.Pick.{pick}
-use Rattle.refusals.specs.declared.Refusal.{Refusal}
-use Rattle.refusals.specs.declared.Refusal.TheVariants.{NoSuchTag}
-use Rattle.refusals.specs.declared.Judgement.{Judgement}
-use Rattle.refusals.specs.Call.{Call}
-use Rattle.refusals.specs.Refusals.{refusal_rule, reply_rule, signal_rule, judgement, unless_refused}
+use Rattle.calls.specs.Passed.{Refusal, NoSuchTag, Judgement, Call, refusal_rule, reply_rule, signal_rule, judgement, unless_refused}
 use Rattle.calls.specs.Calls.{CallAnswer, Device, DeviceResult, Step}
 use Rattle.rack.specs.Rack.{Rack, rack_call, devices, racked, to_all, goes_to}
 use Rattle.rack.specs.Rules.{rack_memory_rule, rack_range_rule, size_rule, uids_rule, rack_rules}

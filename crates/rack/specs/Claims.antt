@@ -2,15 +2,10 @@
 use Rattle.std.specs.Prelude.{◌≡◌, Bool, true, false, not, ◌&&◌, ◌||◌, List, [], ◌∷◌, ℕ, suc, ◌<◌, leb, eqb, length, get_or}
 use Rattle.parts.specs.Pick.{pick}
 use Rattle.parts.specs.Bytes.{are_bytes}
-use Rattle.refusals.specs.declared.Refusal.{Refusal}
-use Rattle.refusals.specs.declared.Judgement.TheVariants.{NoRefusal, RefusedBy}
-use Rattle.refusals.specs.Call.{Call}
-use Rattle.refusals.specs.Refusals.{number, RefusalRule, judgement}
+use Rattle.calls.specs.Passed.{Refusal, NoRefusal, RefusedBy, Call, number, RefusalRule, judgement, Refused, is_reply}
 use Rattle.signal_table.specs.declared.Signal.{Signal}
 use Rattle.signal_table.specs.declared.Signal.TheVariants.{Wire, Field, Frame, EndOfFrame}
 use Rattle.signal_table.specs.Table.{signal_in_range, signal_by}
-use Rattle.model.specs.declared.Answer.TheVariants.{Refused}
-use Rattle.model.specs.Step.{is_reply}
 use Rattle.calls.specs.Calls.{CallAnswer, call_answer, Step, entry}
 use Rattle.rack.specs.Rack.{Rack, RackCall, rack_call, memory_sizes, device_at, devices, racked, to_all, goes_to}
 use Rattle.rack.specs.Rules.{rack_rules}

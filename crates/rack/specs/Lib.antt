@@ -2,3 +2,4 @@ pub mod Rack
 pub mod Rules
 pub mod Step
 pub mod Claims
+pub mod Passed

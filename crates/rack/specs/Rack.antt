@@ -3,7 +3,7 @@ use Rattle.std.specs.Prelude.{Bool, ◌||◌, List, [], ◌∷◌, ◌++◌, ℕ
 use Rattle.tag.specs.declared.Tag.{Tag}
 use Rattle.tag.specs.Layout.{memory_bytes}
 use Rattle.tag.specs.Supply.{fresh_tag}
-use Rattle.refusals.specs.Call.{Call}
+use Rattle.calls.specs.Passed.{Call}
 use Rattle.calls.specs.Calls.{Device, device}
 
 pub record Rack : Type 0 where

@@ -3,10 +3,7 @@ use Rattle.std.specs.Prelude.{◌≡◌, Bool, true, false, not, ◌&&◌, ◌||
 use Rattle.keys.specs.declared.Uid.{Uid}
 use Rattle.keys.specs.Keys.{same_uid}
 use Rattle.tag.specs.declared.Tag.{Tag}
-use Rattle.refusals.specs.declared.Refusal.{Refusal}
-use Rattle.refusals.specs.declared.Refusal.TheVariants.{MemoryLength, OutOfRange, RackSize, NoSuchTag, EqualUids}
-use Rattle.refusals.specs.declared.Judgement.TheVariants.{NoRefusal}
-use Rattle.refusals.specs.Refusals.{number, RefusalRule, refusal_rule, reply_rule, signal_rule, tag_in_range, judgement}
+use Rattle.calls.specs.Passed.{Refusal, MemoryLength, OutOfRange, RackSize, NoSuchTag, EqualUids, NoRefusal, number, RefusalRule, refusal_rule, reply_rule, signal_rule, tag_in_range, judgement}
 use Rattle.calls.specs.Calls.{Device}
 use Rattle.rack.specs.Rack.{Rack, RackCall, memory_sizes, devices, to_all}
 

@@ -1,11 +1,7 @@
 -- What one call does to a rack, and a list of calls; `step` is what a call does to one tag.
 use Rattle.std.specs.Prelude.{Bool, List, [], ◌∷◌, ℕ, suc, eqb, get_or}
 use Rattle.parts.specs.Pick.{pick}
-use Rattle.refusals.specs.declared.Refusal.{Refusal}
-use Rattle.refusals.specs.Call.{Call}
-use Rattle.refusals.specs.Refusals.{judgement, unless_refused}
-use Rattle.model.specs.declared.Answer.TheVariants.{Refused, Nothing, Silence}
-use Rattle.model.specs.Step.{is_reply}
+use Rattle.calls.specs.Passed.{Refusal, Call, judgement, unless_refused, Refused, Nothing, Silence, is_reply}
 use Rattle.calls.specs.Calls.{CallAnswer, call_answer, Device, DeviceResult, device_result, Step, entry}
 use Rattle.rack.specs.Rack.{Rack, RackCall, devices, racked, to_all, goes_to}
 use Rattle.rack.specs.Rules.{rack_rules}

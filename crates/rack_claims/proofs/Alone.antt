@@ -11,9 +11,9 @@ use Rattle.refusals.specs.declared.Judgement.TheVariants.{NoRefusal, RefusedBy}
 use Rattle.refusals.specs.Refusals.{unless_refused}
 use Rattle.refusals.specs.Call.{Call}
 use Rattle.refusals.proofs.Laws.{judged_case}
-use Rattle.model.specs.Step.{StepResult, step_of}
-use Rattle.model.proofs.Acts.{room_of}
-use Rattle.calls.specs.Calls.{CallAnswer, Device, device_result_of, entry, run_by}
+use Rattle.demand3.specs.Passed.{StepResult, step_of}
+use Rattle.demand3.proofs.Passed.{room_of}
+use Rattle.rack.specs.Passed.{CallAnswer, Device, device_result_of, entry, run_by}
 use Rattle.rack.specs.Rack.{RackCall, goes_to}
 use Rattle.rack.specs.Step.{unreached, turn_of, turns_of, left_by, said_by}
 use Rattle.rack_claims.specs.Cut.{JudgedCall, judged_call, has_call, refused_call, own_call, own_calls, of_each, next_answer, later_answers, next_of_each, later_of_each}

@@ -10,10 +10,9 @@ use Rattle.parts.proofs.Bools.{and_left, and_right, and_both}
 use Rattle.refusals.specs.Refusals.{judgement}
 use Rattle.refusals.specs.Call.{Call}
 use Rattle.refusals.proofs.Laws.{judged_case}
-use Rattle.model.specs.Step.{transfer_open}
-use Rattle.calls.specs.Calls.{CallAnswer, Device, frames_fit}
-use Rattle.calls.proofs.Laws.{Fits}
-use Rattle.waiting.specs.Waiting.{no_transfer}
+use Rattle.demand3.specs.Passed.{transfer_open, no_transfer}
+use Rattle.rack.specs.Passed.{CallAnswer, Device, frames_fit}
+use Rattle.rack.proofs.Passed.{Fits}
 use Rattle.demand3.specs.Demand3.{is_closed}
 use Rattle.demand3.proofs.Demand3.{demand_3, ends_alike}
 use Rattle.rack.specs.Rack.{Rack, RackCall, device_at, devices}

@@ -11,7 +11,7 @@ use Rattle.refusals.specs.declared.Refusal.{Refusal}
 use Rattle.refusals.specs.declared.Judgement.{Judgement}
 use Rattle.refusals.specs.declared.Judgement.TheVariants.{NoRefusal, RefusedBy}
 use Rattle.refusals.specs.Refusals.{judgement, unless_refused}
-use Rattle.calls.specs.Calls.{Device, entry}
+use Rattle.rack.specs.Passed.{Device, entry}
 use Rattle.rack.specs.Rack.{Rack, RackCall, device_at, devices}
 use Rattle.rack.specs.Rules.{rack_rules}
 use Rattle.rack.specs.Step.{RackAnswer, together, RackResult, rack_entry, rack_run, turns_of, left_by}

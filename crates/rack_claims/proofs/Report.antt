@@ -8,7 +8,7 @@ use Rattle.parts.proofs.Picks.{pick_case}
 use Rattle.tag.specs.Parts.{wire_side}
 use Rattle.signal.specs.declared.WireAnswer.{WireAnswer}
 use Rattle.signal.specs.declared.WireAnswer.TheVariants.{Nothing as WireNothing, Ack as WireAck, NoAck as WireNoAck, Byte as WireByte}
-use Rattle.wire.specs.Wire.{signal_of}
+use Rattle.demand3.specs.Passed.{signal_of, is_reply, from_wire, act_of}
 use Rattle.signal_table.specs.declared.Signal.{Signal}
 use Rattle.signal_table.specs.declared.Signal.TheVariants.{Wire, Field, Frame, EndOfFrame}
 use Rattle.signal_table.specs.Table.{signal_by}
@@ -16,9 +16,8 @@ use Rattle.refusals.specs.declared.Judgement.{Judgement}
 use Rattle.refusals.specs.declared.Judgement.TheVariants.{NoRefusal, RefusedBy}
 use Rattle.refusals.specs.Refusals.{judgement}
 use Rattle.refusals.specs.Call.{Call}
-use Rattle.model.specs.Step.{is_reply, from_wire, act_of}
-use Rattle.calls.specs.Calls.{Device, DeviceResult, entry}
-use Rattle.calls.proofs.Laws.{Fits, acted_by, call_case}
+use Rattle.rack.specs.Passed.{Device, DeviceResult, entry}
+use Rattle.rack.proofs.Passed.{Fits, acted_by, call_case}
 use Rattle.demand3.specs.Demand3.{is_radio}
 use Rattle.rack.specs.Rack.{RackCall, devices, goes_to}
 use Rattle.rack.specs.Rules.{rack_rules}

@@ -17,8 +17,8 @@ use Rattle.refusals.specs.declared.Judgement.{Judgement}
 use Rattle.refusals.specs.declared.Judgement.TheVariants.{NoRefusal, RefusedBy}
 use Rattle.refusals.specs.Refusals.{number, RefusalRule, reply_rule, signal_rule, judgement, unless_refused}
 use Rattle.refusals.proofs.Laws.{NoneApplies, none_applies, no_refusal, refused_by}
-use Rattle.calls.specs.Calls.{Device, DeviceResult, entry}
-use Rattle.calls.proofs.Laws.{Fits}
+use Rattle.rack.specs.Passed.{Device, DeviceResult, entry}
+use Rattle.rack.proofs.Passed.{Fits}
 use Rattle.demand3.proofs.OneCall.{call_stays}
 use Rattle.rack.specs.Rack.{Rack, RackCall, memory_sizes, devices, tags_of, goes_to}
 use Rattle.rack.specs.Rules.{all_in_range, has_uid, equal_uids, most_tags, rack_alone_rules, WellFormed, looks_at_rack, named_rule, rack_rules}

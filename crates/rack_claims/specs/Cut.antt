@@ -5,8 +5,8 @@ use Rattle.refusals.specs.declared.Refusal.{Refusal}
 use Rattle.refusals.specs.declared.Judgement.{Judgement}
 use Rattle.refusals.specs.Call.{Call, handed_in}
 use Rattle.refusals.specs.Refusals.{judgement, unless_refused}
-use Rattle.model.specs.declared.Answer.TheVariants.{Nothing}
-use Rattle.calls.specs.Calls.{CallAnswer, call_answer, Device}
+use Rattle.demand3.specs.Passed.{Nothing}
+use Rattle.rack.specs.Passed.{CallAnswer, call_answer, Device}
 use Rattle.rack.specs.Rack.{Rack, RackCall, goes_to}
 use Rattle.rack.specs.Rules.{rack_rules}
 use Rattle.rack.specs.Step.{RackAnswer, rack_refused, together, RackStep}

@@ -2,10 +2,8 @@
 use Rattle.std.specs.Prelude.{◌≡◌, true, false, not, ◌&&◌, List, [], ℕ, ◌<◌, length}
 use Rattle.parts.specs.Pick.{pick}
 use Rattle.refusals.specs.Call.{Call}
-use Rattle.model.specs.Step.{transfer_open}
-use Rattle.model.specs.Claims.{Fit}
-use Rattle.calls.specs.Calls.{CallAnswer, Device, entry}
-use Rattle.waiting.specs.Waiting.{Waiting, no_transfer, inside, wait_run}
+use Rattle.demand3.specs.Passed.{transfer_open, Fit, Waiting, no_transfer, inside, wait_run}
+use Rattle.rack.specs.Passed.{CallAnswer, Device, entry}
 use Rattle.demand3.specs.Demand3.{Agrees, is_closed}
 use Rattle.rack.specs.Rack.{Rack, RackCall, device_at, devices}
 use Rattle.rack.specs.Rules.{WellFormed}

@@ -5,7 +5,7 @@ use Rattle.rule_list.specs.RuleList.{any_holds}
 use Rattle.refusals.specs.Refusals.{unless_refused}
 use Rattle.refusals.specs.Call.{Call}
 use Rattle.signal_table.specs.Table.{signal_by}
-use Rattle.calls.specs.Calls.{CallAnswer, Device, entry, run_by}
+use Rattle.rack.specs.Passed.{CallAnswer, Device, entry, run_by}
 use Rattle.demand3.specs.Demand3.{is_radio}
 use Rattle.rack.specs.Rack.{Rack, RackCall, device_at, devices}
 use Rattle.rack.specs.Rules.{WellFormed, looks_at_rack}

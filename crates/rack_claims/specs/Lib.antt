@@ -1,3 +1,4 @@
 pub mod Cut
 pub mod ItsTags
 pub mod Demand3
+pub mod Passed

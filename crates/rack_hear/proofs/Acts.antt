@@ -21,12 +21,11 @@ use Rattle.signal_table.specs.declared.SignalFound.TheVariants.{NoSignal, Found}
 use Rattle.signal_table.specs.Table.{SignalRow, signal_table, signal_found, is_found, signal_in_range, signal_in, signal_by}
 use Rattle.signal.specs.declared.WireAnswer.{WireAnswer}
 use Rattle.signal.specs.declared.WireAnswer.TheVariants.{Nothing as WireNothing, Ack as WireAck, NoAck as WireNoAck, Byte as WireByte}
-use Rattle.wire.specs.Wire.{signal_of}
+use Rattle.model.specs.Passed.{signal_of, dynamic_now, busy_now, radio_of, next_slot_of}
 use Rattle.reply.specs.Reply.{ReplyBody, nothing, body, buffer_of, answer_of}
 use Rattle.reply.specs.Outcome.{radio_side}
 use Rattle.inventory_reply.proofs.Laws.{end_leaves}
-use Rattle.radio.specs.Radio.{dynamic_now, busy_now, radio_of, next_slot_of}
-use Rattle.radio.proofs.EveryCommand.{frame_behaves}
+use Rattle.model.proofs.Passed.{frame_behaves}
 use Rattle.refusals.specs.declared.Judgement.TheVariants.{NoRefusal}
 use Rattle.refusals.specs.Call.{Call}
 use Rattle.refusals.specs.Refusals.{argument_rules, judgement}
@@ -35,9 +34,8 @@ use Rattle.model.specs.Step.{StepResult, is_reply, from_wire, from_radio, act_of
 use Rattle.model.specs.Claims.{Fit}
 use Rattle.model.proofs.Acts.{fit_acts}
 use Rattle.model.proofs.Kept.{wire_fit}
-use Rattle.calls.specs.Calls.{CallAnswer, call_answer, Device, device_result_of, entry}
-use Rattle.calls.proofs.Laws.{Fits, acted}
-use Rattle.rack.specs.Claims.{is_wire}
+use Rattle.rack_judge.specs.Passed.{CallAnswer, call_answer, Device, device_result_of, entry, is_wire}
+use Rattle.rack_judge.proofs.Passed.{Fits, acted}
 
 -- ---- the reply buffer
 -- the answer, the tag and its bytes do not read it

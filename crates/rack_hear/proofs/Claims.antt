@@ -24,15 +24,8 @@ use Rattle.refusals.proofs.Laws.{applies_of, NoneApplies, not_refused, no_refusa
 use Rattle.model.specs.declared.Answer.{Answer}
 use Rattle.model.specs.declared.Answer.TheVariants.{Nothing, Silence}
 use Rattle.model.specs.Step.{StepResult, is_reply, act_of}
-use Rattle.calls.specs.Calls.{CallAnswer, call_answer, Device, device, DeviceResult, entry}
-use Rattle.calls.proofs.Laws.{Fits, acted}
-use Rattle.rack.specs.Rack.{Rack, rack_of, RackCall, rack_call, memory_size, memory_sizes, no_tag, device_at, devices, tags_of, memories_of, to_all, goes_to}
-use Rattle.rack.specs.Rules.{most_tags, rack_rules}
-use Rattle.rack.specs.Step.{unreached, turn_of, turns_of, left_by, said_by, rack_answer, who_replied, numbers_from, lowest_reply, no_reply, together, rack_result, rack_acts}
-use Rattle.rack.specs.Claims.{is_wire}
-use Rattle.rack.proofs.Claims.{wire_to_one}
-use Rattle.rack.proofs.Parts.{number_apart, at_apart}
-use Rattle.rack.proofs.Fits.{AllFit, tag_fit, size_of, number_of, fit_of}
+use Rattle.rack_judge.specs.Passed.{CallAnswer, call_answer, Device, device, DeviceResult, entry, Rack, rack_of, RackCall, rack_call, memory_size, memory_sizes, no_tag, device_at, devices, tags_of, memories_of, to_all, goes_to, most_tags, rack_rules, unreached, turn_of, turns_of, left_by, said_by, rack_answer, who_replied, numbers_from, lowest_reply, no_reply, together, rack_result, rack_acts, is_wire}
+use Rattle.rack_judge.proofs.Passed.{Fits, acted, wire_to_one, number_apart, at_apart, AllFit, tag_fit, size_of, number_of, fit_of}
 use Rattle.rack_hear.specs.declared.Heard.{Heard}
 use Rattle.rack_hear.specs.Hear.{no_reply_answer, hear_start, hear_refused, passed_by, HeardResult, heard_result, put_at, acted_at, act_at, hear_of, HeardAll, heard_all, put_back, hear_one_of, hear_onward, hear_all_of}
 use Rattle.rack_hear.specs.Claims.{HeardAsRack, HearsRacks, RefusedUnheard}

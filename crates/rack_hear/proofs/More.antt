@@ -9,9 +9,7 @@ use Rattle.parts.specs.Pick.{pick}
 use Rattle.parts.proofs.Picks.{pick_false}
 use Rattle.tag.specs.declared.Tag.{Tag}
 use Rattle.model.specs.Step.{is_reply}
-use Rattle.calls.specs.Calls.{CallAnswer, Device, DeviceResult, Step}
-use Rattle.rack.specs.Rack.{RackCall, tags_of, memories_of}
-use Rattle.rack.specs.Step.{turn_of, turns_of, left_by, said_by, who_replied, numbers_from, lowest_reply}
+use Rattle.rack_judge.specs.Passed.{CallAnswer, Device, DeviceResult, Step, RackCall, tags_of, memories_of, turn_of, turns_of, left_by, said_by, who_replied, numbers_from, lowest_reply}
 
 -- ---- tests
 pub or_left_false : (a b : Bool) → (a || b) ≡ false → a ≡ false

@@ -5,10 +5,7 @@ use Rattle.refusals.specs.declared.Refusal.{Refusal}
 use Rattle.refusals.specs.declared.Judgement.TheVariants.{NoRefusal}
 use Rattle.refusals.specs.Call.{handed_in}
 use Rattle.refusals.specs.Refusals.{judgement}
-use Rattle.calls.specs.Calls.{call_answer, entry}
-use Rattle.rack.specs.Rack.{rack_of, rack_call}
-use Rattle.rack.specs.Rules.{rack_rules}
-use Rattle.rack.specs.Step.{rack_answer, numbers_from, RackResult, rack_result, rack_acts}
+use Rattle.rack_judge.specs.Passed.{call_answer, entry, rack_of, rack_call, rack_rules, rack_answer, numbers_from, RackResult, rack_result, rack_acts}
 use Rattle.rack_hear.specs.Hear.{hear_start, hear_refused, HeardAll, heard_all, hear_all_of}
 
 pub record HeardAsRack (n : ℕ) (tags : List Tag) (m : List ℕ) (all : HeardAll) (acted : RackResult) : Type 0 where

@@ -10,7 +10,7 @@ use Rattle.model.specs.declared.Answer.{Answer}
 use Rattle.model.specs.declared.Answer.TheVariants.{Refused, Nothing, Silence}
 use Rattle.model.specs.Step.{StepResult, is_reply, act_of}
 use Rattle.refusals.specs.Refusals.{unless_refused}
-use Rattle.rack.specs.Rack.{no_tag, to_all}
+use Rattle.rack_judge.specs.Passed.{no_tag, to_all}
 use Rattle.rack_hear.specs.declared.Heard.{Heard}
 use Rattle.rack_hear.specs.declared.HeardTag.{HeardTag}
 

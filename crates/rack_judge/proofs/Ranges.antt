@@ -9,7 +9,7 @@ use lib.Seq.{take-suc, drop-drop, length-take-le}
 use Rattle.tag.specs.declared.Tag.{Tag}
 use Rattle.tag.specs.Layout.{memory_bytes}
 use Rattle.refusals.specs.Refusals.{tag_in_range}
-use Rattle.calls.specs.Calls.{Device, device}
+use Rattle.rack.specs.Passed.{Device, device}
 use Rattle.rack.specs.Rack.{memory_size, memory_sizes, devices_of}
 use Rattle.rack.specs.Rules.{all_in_range}
 

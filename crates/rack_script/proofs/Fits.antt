@@ -13,16 +13,12 @@ use Rattle.model.specs.declared.Answer.TheVariants.{Refused, Nothing, Ack, NoAck
 use Rattle.model.specs.Step.{is_reply}
 use Rattle.replies_fit.specs.Claims.{reply_fits}
 use Rattle.replies_fit.proofs.RepliesFit.{steps_fit}
-use Rattle.calls.specs.Calls.{CallAnswer, Device, DeviceResult, entry}
+use Rattle.rack_model.specs.Passed.{CallAnswer, Device, DeviceResult, entry, Rack, RackCall, devices, to_all, goes_to, most_tags, unreached, turn_of, turns_of, said_by, RackAnswer, who_replied, numbers_from, lowest_reply, no_reply, together, RackResult, rack_acts, rack_step, rack_entry}
 use Rattle.reading.specs.Line.{bad_line, signal_line, frame_line, longest}
-use Rattle.printing.specs.Text.{answer_text, line_text}
-use Rattle.printing.proofs.TextLaws.{length_line}
-use Rattle.rack.specs.Rack.{Rack, RackCall, devices, to_all, goes_to}
-use Rattle.rack.specs.Rules.{most_tags}
-use Rattle.rack.specs.Step.{unreached, turn_of, turns_of, said_by, RackAnswer, who_replied, numbers_from, lowest_reply, no_reply, together, RackResult, rack_acts, rack_step, rack_entry}
-use Rattle.rack.proofs.Fits.{number_of}
-use Rattle.rack.proofs.Parts.{number_apart}
-use Rattle.rack_search.specs.declared.SearchAnswer.{SearchAnswer}
+use Rattle.rack_printing.specs.Passed.{answer_text, line_text}
+use Rattle.rack_printing.proofs.Passed.{length_line}
+use Rattle.rack_model.proofs.Passed.{number_of, number_apart}
+use Rattle.collision_search.specs.Passed.{SearchAnswer}
 use Rattle.unfinished.specs.Kept.{kept_most}
 use Rattle.line_stream.specs.Step.{LineAnswer, text_room}
 use Rattle.line_stream.specs.Claim.{TextsFit, TellsByKept}

@@ -4,12 +4,9 @@ use lib.Seq.{sets}
 use Rattle.tag.specs.declared.Tag.{Tag}
 use Rattle.refusals.specs.Call.{handed_in}
 use Rattle.model.specs.declared.Answer.{Answer}
-use Rattle.calls.specs.Calls.{call_answer}
-use Rattle.rack.specs.Rack.{rack_of, rack_call, memory_sizes}
-use Rattle.rack.specs.Step.{RackResult, numbers_from, rack_answer, rack_result, rack_entry}
-use Rattle.rack_search.specs.declared.SearchAnswer.{SearchAnswer}
-use Rattle.rack_search.specs.Search.{SearchResult, search_result, search_entry}
-use Rattle.printing.specs.Text.{line_text}
+use Rattle.rack_model.specs.Passed.{call_answer, rack_of, rack_call, memory_sizes, RackResult, numbers_from, rack_answer, rack_result, rack_entry}
+use Rattle.collision_search.specs.Passed.{SearchAnswer, SearchResult, search_result, search_entry}
+use Rattle.rack_printing.specs.Passed.{line_text}
 use Rattle.line_stream.specs.Step.{line_stored, stores_line}
 use Rattle.rack_printing.specs.Text.{rack_text, search_text}
 use Rattle.rack_start.specs.declared.RackBench.{RackBench}

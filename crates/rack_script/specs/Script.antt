@@ -5,11 +5,10 @@ use Rattle.crc.specs.Crc.{closed}
 use Rattle.keys.specs.declared.Uid.{Uid}
 use Rattle.tag.specs.declared.Tag.{Tag}
 use Rattle.refusals.specs.Call.{handed_in}
-use Rattle.rack.specs.Rack.{Rack, rack_of, rack_call, memory_sizes}
-use Rattle.rack.specs.Step.{rack_entry}
-use Rattle.rack_search.specs.Search.{search_entry}
+use Rattle.rack_model.specs.Passed.{Rack, rack_of, rack_call, memory_sizes, rack_entry}
+use Rattle.collision_search.specs.Passed.{search_entry}
 use Rattle.reading.specs.Line.{bad_line, signal_line, frame_line}
-use Rattle.printing.specs.Text.{bad_text, line_text}
+use Rattle.rack_printing.specs.Passed.{bad_text, line_text}
 use Rattle.line_stream.specs.Step.{LineAnswer, line_answer, LineProgram}
 use Rattle.rack_reading.specs.Line.{RackLine, bench_line, add_line, name_line, search_line, rack_line_of}
 use Rattle.rack_printing.specs.Text.{rack_text, search_text}

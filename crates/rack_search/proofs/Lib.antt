@@ -3,3 +3,4 @@ pub mod Count
 pub mod OneTag
 pub mod Slots
 pub mod Search
+pub mod Passed

@@ -23,7 +23,7 @@ use Rattle.reply.specs.declared.RadioSide.{RadioSide}
 use Rattle.reply.specs.Reply.{nothing, answer_of}
 use Rattle.reply.specs.Outcome.{CommandResult, command_result, radio_side, with_radio}
 use Rattle.inventory_reply.specs.Answers.{slots_left, is_heard, inventory_of, end_of_frame_of}
-use Rattle.radio.specs.Radio.{radio_of, next_slot_of}
+use Rattle.rack_claims.specs.Passed.{radio_of, next_slot_of, is_reply, from_radio, act_of, Device, device, DeviceResult, entry}
 use Rattle.signal_table.specs.declared.Signal.{Signal}
 use Rattle.signal_table.specs.declared.Signal.TheVariants.{Frame, EndOfFrame}
 use Rattle.signal_table.specs.Table.{signal_table, signal_found, is_found, signal_in_range, signal_in, signal_by}
@@ -34,10 +34,7 @@ use Rattle.refusals.specs.declared.Judgement.TheVariants.{NoRefusal}
 use Rattle.refusals.specs.Call.{Call, handed_in}
 use Rattle.refusals.specs.Refusals.{argument_rules, unless_refused}
 use Rattle.refusals.proofs.Laws.{NoneApplies, no_refusal}
-use Rattle.model.specs.Step.{is_reply, from_radio, act_of}
-use Rattle.model.proofs.Room.{step_room}
-use Rattle.calls.specs.Calls.{Device, device, DeviceResult, entry}
-use Rattle.calls.proofs.Laws.{Fits, acted_by, acted, refusal, found, call_is}
+use Rattle.rack_claims.proofs.Passed.{step_room, Fits, acted_by, acted, refusal, found, call_is}
 use Rattle.rack_search.specs.Search.{opens_sixteen}
 use Rattle.rack_search.specs.Claims.{takes_part_now, replies_to, answers_in}
 

@@ -18,11 +18,7 @@ use Rattle.refusals.specs.declared.Judgement.{Judgement}
 use Rattle.refusals.specs.declared.Judgement.TheVariants.{NoRefusal, RefusedBy}
 use Rattle.refusals.specs.Refusals.{number, judgement, unless_refused}
 use Rattle.refusals.proofs.Laws.{NoneApplies, none_applies}
-use Rattle.calls.specs.Calls.{Device}
-use Rattle.rack.specs.Rack.{Rack, RackCall, devices, to_all}
-use Rattle.rack.specs.Rules.{rack_rules}
-use Rattle.rack.specs.Step.{rack_entry, rack_run}
-use Rattle.rack.specs.Claims.{refusal_numbers}
+use Rattle.rack_claims.specs.Passed.{Device, Rack, RackCall, devices, to_all, rack_rules, rack_entry, rack_run, refusal_numbers}
 use Rattle.rack_claims.proofs.WellFormed.{Formed, next_formed}
 use Rattle.rack_search.specs.declared.SearchAnswer.{SearchAnswer}
 use Rattle.rack_search.specs.declared.SearchAnswer.TheVariants.{Refused, NoCollision, Collision}

@@ -4,8 +4,7 @@ use mathlib.Core.List.{List}
 use Prim.Native.Nat.{ℕ, zero, suc, ◌-◌, ◌≤◌}
 use native.Mathlib.Omega.{arith}
 use Rattle.parts.proofs.Picks.{pick_case}
-use Rattle.rack.specs.Rack.{Rack, RackCall}
-use Rattle.rack.specs.Step.{RackStep, rack_run}
+use Rattle.rack_claims.specs.Passed.{Rack, RackCall, RackStep, rack_run}
 use Rattle.rack_search.specs.declared.SearchAnswer.{SearchAnswer}
 use Rattle.rack_search.specs.declared.SearchAnswer.TheVariants.{Refused, NoCollision, Collision}
 use Rattle.rack_search.specs.Search.{sends_next, SearchResult, search_result, collides, look}

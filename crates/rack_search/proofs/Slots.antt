@@ -16,14 +16,8 @@ use Rattle.signal_table.specs.Table.{signal_in_range}
 use Rattle.refusals.specs.declared.Judgement.TheVariants.{NoRefusal}
 use Rattle.refusals.specs.Refusals.{judgement}
 use Rattle.refusals.proofs.Laws.{NoneApplies, no_refusal}
-use Rattle.model.specs.Step.{is_reply}
-use Rattle.calls.specs.Calls.{CallAnswer, Device, DeviceResult, entry}
-use Rattle.calls.proofs.Laws.{Fits}
-use Rattle.rack.specs.Rack.{Rack, RackCall, devices, to_all, goes_to}
-use Rattle.rack.specs.Rules.{rack_rules}
-use Rattle.rack.specs.Step.{turn_of, turns_of, left_by, said_by, RackAnswer, who_replied, numbers_from, lowest_reply, no_reply, together, rack_entry}
-use Rattle.rack.proofs.Fits.{AllFit, fit_of}
-use Rattle.rack.proofs.Kept.{call_says, call_leaves}
+use Rattle.rack_claims.specs.Passed.{is_reply, CallAnswer, Device, DeviceResult, entry, Rack, RackCall, devices, to_all, goes_to, rack_rules, turn_of, turns_of, left_by, said_by, RackAnswer, who_replied, numbers_from, lowest_reply, no_reply, together, rack_entry}
+use Rattle.rack_claims.proofs.Passed.{Fits, AllFit, fit_of, call_says, call_leaves}
 use Rattle.rack_claims.proofs.WellFormed.{Formed, call_rules, formed_judged}
 use Rattle.rack_search.specs.Search.{collides}
 use Rattle.rack_search.specs.Claims.{how_many}

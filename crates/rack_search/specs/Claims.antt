@@ -7,15 +7,10 @@ use Rattle.tag.specs.declared.Tag.{Tag}
 use Rattle.inventory.specs.Inventory.{is_matched, own_slot, takes_part}
 use Rattle.reply.specs.Reply.{answer_of}
 use Rattle.reply.specs.Outcome.{radio_side}
-use Rattle.radio.specs.Radio.{dynamic_now, busy_now, radio_of}
+use Rattle.rack_claims.specs.Passed.{dynamic_now, busy_now, radio_of, is_reply, from_radio, Device, Rack, RackCall, devices, RackAnswer, RackStep, rack_run, refusal_numbers}
 use Rattle.refusals.specs.declared.Refusal.{Refusal}
 use Rattle.refusals.specs.declared.Judgement.TheVariants.{NoRefusal, RefusedBy}
 use Rattle.refusals.specs.Refusals.{judgement}
-use Rattle.model.specs.Step.{is_reply, from_radio}
-use Rattle.calls.specs.Calls.{Device}
-use Rattle.rack.specs.Rack.{Rack, RackCall, devices}
-use Rattle.rack.specs.Step.{RackAnswer, RackStep, rack_run}
-use Rattle.rack.specs.Claims.{refusal_numbers}
 use Rattle.rack_search.specs.declared.SearchAnswer.{SearchAnswer}
 use Rattle.rack_search.specs.declared.SearchAnswer.TheVariants.{Refused, NoCollision, Collision}
 use Rattle.rack_search.specs.Search.{sends_frame, sends_next, opens_sixteen, slot_count, SearchResult, search_rules}

@@ -7,9 +7,7 @@ use Rattle.inventory.specs.Inventory.{is_malformed, one_slot}
 use Rattle.refusals.specs.declared.Refusal.{Refusal}
 use Rattle.refusals.specs.Call.{handed_in}
 use Rattle.refusals.specs.Refusals.{RefusalRule, reply_rule, judgement, unless_refused}
-use Rattle.rack.specs.Rack.{Rack, RackCall, rack_call}
-use Rattle.rack.specs.Rules.{rack_memory_rule, rack_range_rule, size_rule, uids_rule}
-use Rattle.rack.specs.Step.{RackResult, RackStep, rack_entry}
+use Rattle.rack_claims.specs.Passed.{Rack, RackCall, rack_call, rack_memory_rule, rack_range_rule, size_rule, uids_rule, RackResult, RackStep, rack_entry}
 use Rattle.rack_search.specs.declared.SearchAnswer.{SearchAnswer}
 use Rattle.rack_search.specs.declared.SearchAnswer.TheVariants.{Refused, NoCollision, Collision}
 

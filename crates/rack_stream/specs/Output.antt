@@ -1,7 +1,7 @@
 -- The whole program `rack_bench`: what it writes for a whole input.
 use Rattle.std.specs.Prelude.{List, ℕ, ◌*◌, replicate}
 use Rattle.tag.specs.Layout.{memory_bytes, reply_bytes}
-use Rattle.rack.specs.Rules.{most_tags}
+use Rattle.rack_start.specs.Passed.{most_tags}
 use Rattle.line_stream.specs.Output.{output_of}
 use Rattle.rack_start.specs.Start.{rack_start}
 use Rattle.rack_script.specs.Script.{RackState, rack_state, rack_program}

@@ -53,24 +53,10 @@ use Rattle.inventory_reply.specs.Answers.{slots_left, inventory_of}
 use Rattle.inventory_reply.proofs.Laws.{inventory_case}
 use Rattle.judge.specs.declared.Verdict.{Verdict}
 use Rattle.judge.specs.declared.Verdict.TheVariants.{Silence, Error, Request}
-use Rattle.blocks.specs.Blocks.{read_of}
-use Rattle.blocks.proofs.Runs.{blocks_le}
-use Rattle.blocks.proofs.Cases.{read_case}
-use Rattle.block_status.specs.Status.{status_reply}
-use Rattle.block_status.proofs.Statuses.{counted_le, length_statuses}
-use Rattle.block_status.proofs.Cases.{status_case}
-use Rattle.block_writes.specs.Writes.{write_of, lock_of}
-use Rattle.block_writes.proofs.Cases.{write_case, lock_case}
-use Rattle.config.specs.Config.{mailbox_by_rule, mailbox_after_write, written_core, write_config_of}
-use Rattle.config.proofs.Cases.{read_config_case, write_config_case}
+use Rattle.serve.specs.Passed.{read_of, status_reply, write_of, lock_of, mailbox_by_rule, mailbox_after_write, written_core, write_config_of, asked, mailbox_after_read, read_message_of, takes_message, write_message_of, present_of, write_password_of}
+use Rattle.serve.proofs.Passed.{blocks_le, read_case, counted_le, length_statuses, status_case, write_case, lock_case, read_config_case, write_config_case, length_case, read_message_case, write_message_case, present_case, write_password_case}
 use Rattle.dynamic_config.specs.DynamicConfig.{write_dynamic_of}
 use Rattle.dynamic_config.proofs.Cases.{read_dynamic_case, write_dynamic_case}
-use Rattle.message.specs.Message.{asked, mailbox_after_read, read_message_of}
-use Rattle.message.proofs.Cases.{length_case, read_message_case}
-use Rattle.message_writes.specs.WriteMessage.{takes_message, write_message_of}
-use Rattle.message_writes.proofs.Cases.{write_message_case}
-use Rattle.password.specs.Password.{present_of, write_password_of}
-use Rattle.password.proofs.Cases.{present_case, write_password_case}
 use Rattle.radio_state.specs.RadioState.{select_uid_of}
 use Rattle.radio_state.proofs.Cases.{stay_quiet_case, select_case, reset_case}
 use Rattle.request.specs.declared.RequestFields.{RequestFields}

@@ -1,2 +1,3 @@
 pub mod Radio
 pub mod Claims
+pub mod Passed

@@ -14,11 +14,9 @@ use Rattle.refusals.proofs.Laws.{judged_case}
 use Rattle.refusals.proofs.Ranges.{range_parts}
 use Rattle.signal.specs.declared.WireAnswer.{WireAnswer}
 use Rattle.signal.specs.declared.WireAnswer.TheVariants.{Nothing as WireNothing, Ack as WireAck, NoAck as WireNoAck, Byte as WireByte}
-use Rattle.wire.specs.Wire.{signal_of}
+use Rattle.model.specs.Passed.{signal_of, reply_size, radio_of, next_slot_of}
 use Rattle.reply.specs.Reply.{ReplyBody, nothing, body, answer_of}
-use Rattle.radio.specs.Claims.{reply_size}
-use Rattle.radio.specs.Radio.{radio_of, next_slot_of}
-use Rattle.radio.proofs.Room.{replies_fit, end_fits}
+use Rattle.model.proofs.Passed.{replies_fit, end_fits}
 use Rattle.model.specs.declared.Answer.{Answer}
 use Rattle.model.specs.declared.Answer.TheVariants.{Reply}
 use Rattle.signal_table.specs.declared.Signal.{Signal}

@@ -20,7 +20,7 @@ use Rattle.judge.specs.declared.Verdict.{Verdict}
 use Rattle.judge.specs.Judge.{is_mute}
 use Rattle.blocks.specs.Blocks.{read_of}
 use Rattle.block_status.specs.Status.{status_reply}
-use Rattle.block_writes.specs.Writes.{write_of, lock_of}
+use Rattle.serve.specs.Passed.{write_of, lock_of}
 use Rattle.config.specs.Config.{read_config_of, write_config_of}
 use Rattle.dynamic_config.specs.DynamicConfig.{read_dynamic_of, write_dynamic_of}
 use Rattle.message_writes.specs.WriteMessage.{write_message_of}

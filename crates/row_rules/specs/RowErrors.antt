@@ -23,7 +23,7 @@ use Rattle.judge.specs.declared.Verdict.{Verdict}
 use Rattle.judge.specs.declared.Verdict.TheVariants.{Error, Request}
 use Rattle.judge.specs.Judge.{error_holds, isShutOut, isUnknown, hasBadFlags, hasWrongLength}
 use Rattle.blocks.specs.Blocks.{leaves_area}
-use Rattle.block_writes.specs.Writes.{may_write_all}
+use Rattle.serve.specs.Passed.{may_write_all}
 use Rattle.message.specs.Message.{asked}
 use Rattle.message_writes.specs.WriteMessage.{takes_message}
 

@@ -7,7 +7,7 @@ use lib.Dec.{ltb}
 use borrow.Author.Tests.{ltb-true}
 use Rattle.parts.proofs.Bools.{and_left, and_right}
 use Rattle.bus.specs.declared.Space.{Space}
-use Rattle.tag.specs.declared.Core.{Core}
+use Rattle.write_rules.specs.Passed.{Core}
 use Rattle.rule.specs.Rule.{space_acked, acked}
 
 module _ (s : Space) (c : Core) (session : Bool) (f : ℕ) where

@@ -10,12 +10,9 @@ use Rattle.parts.specs.Pick.{pick}
 use Rattle.parts.proofs.Bools.{and_left, and_both}
 use Rattle.parts.proofs.Picks.{pick_same}
 use Rattle.dynamic.specs.Dynamic.{mailbox_first, mailbox_last, host_writes}
-use Rattle.areas.specs.Ends.{area_of_byte}
-use Rattle.rights.specs.declared.Side.TheVariants.{Wire}
-use Rattle.rights.specs.Rights.{wire_writes, write_right, may_write}
+use Rattle.write_rules.specs.Passed.{area_of_byte, Wire, wire_writes, write_right, may_write, Core}
 use Rattle.bus.specs.declared.Space.{Space}
 use Rattle.bus.specs.declared.Space.TheVariants.{User, System}
-use Rattle.tag.specs.declared.Core.{Core}
 use Rattle.write_reasons.specs.declared.WritePlace.{WritePlace}
 use Rattle.write_reasons.specs.declared.WritePlace.TheVariants.{Unmapped, UserMemory, DynamicByte, MailboxByte, SystemRegister, PasswordByte}
 use Rattle.write_reasons.specs.Reasons.{is_allowed}

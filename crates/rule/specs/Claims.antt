@@ -1,7 +1,7 @@
 -- What is proved of the rule: it is the verdict's yes or no.
 use Rattle.std.specs.Prelude.{◌≡◌, Bool, true, false, List, ℕ}
 use Rattle.bus.specs.declared.Space.{Space}
-use Rattle.tag.specs.declared.Core.{Core}
+use Rattle.write_rules.specs.Passed.{Core}
 use Rattle.write_reasons.specs.declared.WriteReason.TheVariants.{LegSpoiled}
 use Rattle.write_reasons.specs.declared.WriteVerdict.TheVariants.{Forbidden}
 use Rattle.write_reasons.specs.Reasons.{is_allowed}

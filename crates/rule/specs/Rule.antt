@@ -3,7 +3,7 @@
 use Rattle.std.specs.Prelude.{Bool, ◌&&◌, List, ℕ, ltb}
 use Rattle.bus.specs.declared.Space.{Space}
 use Rattle.bus.specs.declared.Space.TheVariants.{User, System}
-use Rattle.tag.specs.declared.Core.{Core}
+use Rattle.write_rules.specs.Passed.{Core}
 use Rattle.rule.specs.UserRule.{user_acked}
 use Rattle.rule.specs.SystemRule.{system_acked}
 

@@ -2,9 +2,7 @@
 use Rattle.std.specs.Prelude.{Bool, not, ◌&&◌, ◌||◌, List, ℕ, ◌+◌, ltb, eqb}
 use Rattle.parts.specs.Pick.{pick}
 use Rattle.register_table.specs.Table.{is_writable}
-use Rattle.written_registers.specs.Written.{written_all}
-use Rattle.areas.specs.Ends.{end_allows}
-use Rattle.tag.specs.declared.Core.{Core}
+use Rattle.write_rules.specs.Passed.{written_all, end_allows, Core}
 
 -- "system, MB_EN is 0, session open, register writable, ENDA rule met with the leg's earlier bytes taken as written"
 unfoldable pub register_acked : Core → Bool → ℕ → ℕ → List ℕ → ℕ → Bool

@@ -1,12 +1,8 @@
 -- Whether a data byte is Acked in user space: the leg's data byte k (from 0), of a write leg from a first address.
 use Rattle.std.specs.Prelude.{Bool, false, not, ◌&&◌, ℕ, ◌+◌, ◌/◌, leb, ltb, eqb}
 use Rattle.parts.specs.Pick.{pick}
-use Rattle.rights.specs.declared.Side.TheVariants.{Wire}
-use Rattle.areas.specs.Ends.{area_of_byte}
-use Rattle.rights.specs.Rights.{may_write}
+use Rattle.write_rules.specs.Passed.{Wire, area_of_byte, may_write, Core, user_bytes}
 use Rattle.mailbox.specs.declared.Mailbox.{Mailbox}
-use Rattle.tag.specs.declared.Core.{Core}
-use Rattle.tag.specs.Layout.{user_bytes}
 use Rattle.dynamic.specs.Dynamic.{mailbox_first, host_writes}
 
 -- "user memory, MB_EN is 0, the byte lies in the first byte's area, no lock, rights hold"

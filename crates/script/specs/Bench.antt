@@ -6,7 +6,7 @@ use Rattle.tag.specs.declared.Tag.{Tag}
 use Rattle.crc.specs.Crc.{closed}
 use Rattle.refusals.specs.Call.{handed_in}
 use Rattle.model.specs.Step.{step_of}
-use Rattle.explanation_rules.specs.Explanation.{rule_at}
+use Rattle.explanation.specs.Passed.{rule_at}
 use Rattle.bench_start.specs.declared.Bench.{Bench}
 use Rattle.reading.specs.Line.{ScriptLine, bad_line, signal_line, frame_line, line_of}
 use Rattle.printing.specs.Text.{bad_text, answer_text, name_field, line_text}

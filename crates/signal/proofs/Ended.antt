@@ -11,7 +11,7 @@ use borrow.Author.Tests.{eqb-true, ltb-true}
 use Rattle.parts.proofs.Bools.{or_cases}
 use Rattle.parts.proofs.Picks.{pick_case}
 use Rattle.register_types.specs.Types.{rf_mngt}
-use Rattle.registers.specs.Map.{with_dynamic}
+use Rattle.tag.specs.Passed.{with_dynamic}
 use Rattle.mailbox.specs.Mailbox.{controlled}
 use Rattle.tag.specs.Parts.{with_registers, with_mailbox, with_wire_core}
 use Rattle.dynamic.specs.Dynamic.{host_writes}
@@ -23,8 +23,7 @@ use Rattle.bus.specs.Bus.{transfer_at, is_open_transfer, is_open}
 use Rattle.keys.specs.Keys.{password_at, same_password}
 use Rattle.effect.specs.Effect.{LegResult, leg_result}
 use Rattle.leg.specs.Leg.{Due, nothing_due, clears, writes, started, stopped, settle, last_fetched, acts_at_start, leg_written}
-use Rattle.user_leg.specs.UserLeg.{user_written}
-use Rattle.system_leg.specs.SystemLeg.{system_written, password_written}
+use Rattle.leg.specs.Passed.{user_written, system_written, password_written}
 use Rattle.signal.specs.Signal.{side_bus, due_of, stop_at}
 
 -- ---- a Start: nothing is done, RF_PUT is cleared, or a byte is written to one of the two dynamic registers

@@ -1,1 +1,2 @@
 pub mod Signal
+pub mod Passed

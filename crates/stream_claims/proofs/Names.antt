@@ -20,8 +20,7 @@ use Rattle.printing.proofs.Plain.{digits_plain, answer_plain}
 use Rattle.bench_start.specs.declared.Bench.{Bench}
 use Rattle.bench_start.specs.Start.{next_line}
 use Rattle.reading.specs.Line.{ScriptLine, bad_line, signal_line, frame_line, line_of}
-use Rattle.script.specs.Bench.{rule_named, bench_call, line_result, bench_of}
-use Rattle.script.specs.Lines.{BenchState, line_from, bench_after}
+use Rattle.stream.specs.Passed.{rule_named, bench_call, line_result, bench_of, BenchState, line_from, bench_after}
 use Rattle.line_stream.specs.Lines.{lines_of}
 use Rattle.line_stream.specs.Output.{texts_of}
 use Rattle.stream.specs.Program.{bench_program}

@@ -1,7 +1,7 @@
 -- The claim of the names of rules: "Only those lines get one added field", "The old listing stays" (Ask 3).
 use Rattle.std.specs.Prelude.{◌≡◌, true, false, List, [], ◌∷◌, ℕ, ◌+◌, eqb, ltb}
 use Rattle.parts.specs.Pick.{pick}
-use Rattle.script.specs.Lines.{BenchState}
+use Rattle.stream.specs.Passed.{BenchState}
 use Rattle.line_stream.specs.Output.{output_of}
 use Rattle.stream.specs.Program.{bench_program}
 use Rattle.stream_claims.specs.Output.{bench_output, explain_output}

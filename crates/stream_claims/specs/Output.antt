@@ -1,7 +1,7 @@
 -- The whole program: what it writes for a whole input. Named: with the names of rules, as `explain` writes them.
 use Rattle.std.specs.Prelude.{true, false, List, ℕ, replicate}
 use Rattle.tag.specs.Layout.{memory_bytes, reply_bytes}
-use Rattle.script.specs.Lines.{BenchState, before_lines}
+use Rattle.stream.specs.Passed.{BenchState, before_lines}
 use Rattle.line_stream.specs.Output.{output_of}
 use Rattle.stream.specs.Program.{bench_program}
 

@@ -1,6 +1,6 @@
 -- "1,024 lent bytes: user memory 0 to 511, mailbox 512 to 767, page buffer 768 to 1023. A second lent buffer of at least 643 bytes takes the radio reply."
 use Rattle.std.specs.Prelude.{List, ℕ}
-use Rattle.parts.specs.Bytes.{bytes_at}
+use Rattle.registers.specs.Passed.{bytes_at}
 
 abbrev pub user_bytes : ℕ
 user_bytes = 512

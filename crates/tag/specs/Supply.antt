@@ -1,6 +1,6 @@
 -- Supply changes, and the fresh tag.
 use Rattle.std.specs.Prelude.{Bool, true, false}
-use Rattle.parts.specs.Pick.{pick}
+use Rattle.registers.specs.Passed.{pick}
 use Rattle.registers.specs.Fresh.{fresh_registers}
 use Rattle.registers.specs.Map.{with_dynamic}
 use Rattle.bus.specs.declared.Bus.TheVariants.{Idle}

@@ -24,8 +24,7 @@ use Rattle.rule.proofs.AckedByte.{acked_room}
 use Rattle.select.proofs.First.{first_next}
 use Rattle.signal.specs.declared.WireAnswer.TheVariants.{Ack, NoAck}
 use Rattle.signal.specs.Signal.{wire_result, side_line}
-use Rattle.data_byte.specs.DataByte.{data_of}
-use Rattle.send.specs.Send.{send_at}
+use Rattle.wire.specs.Passed.{data_of, send_at}
 use Rattle.wire.specs.Wire.{fetch_at, signal_of}
 use Rattle.transfer.specs.Legs.{NotedSend, NotedFetch, wire_signal, Move, move_send, move_fetch}
 use Rattle.transfer.specs.Whole.{TransferResult, transfer_result, before, bytes_sent, replies, onward, accepted}

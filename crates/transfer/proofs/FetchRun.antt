@@ -13,7 +13,7 @@ use Rattle.bus.specs.Bus.{next_address}
 use Rattle.fetch.specs.Fetch.{fetched, is_last}
 use Rattle.signal.specs.declared.WireAnswer.TheVariants.{Byte}
 use Rattle.signal.specs.Signal.{wire_result, side_line}
-use Rattle.send.specs.Send.{send_at}
+use Rattle.wire.specs.Passed.{send_at}
 use Rattle.wire.specs.Wire.{fetch_at, signal_of}
 use Rattle.transfer.specs.Legs.{NotedSend, NotedFetch, wire_signal, Move, move_send, move_fetch}
 use Rattle.transfer.specs.Whole.{transfer_result, served, replies, onward, bytes_fetched, last_among}

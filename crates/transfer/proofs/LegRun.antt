@@ -29,7 +29,7 @@ use Rattle.select.proofs.First.{first_next}
 use Rattle.leg.specs.Leg.{nothing_due, writes}
 use Rattle.signal.specs.declared.WireAnswer.TheVariants.{Ack, NoAck, Byte}
 use Rattle.signal.specs.Signal.{WireResult, wire_result, side_bus, side_line, due_of}
-use Rattle.send.specs.Send.{select_by, send_at}
+use Rattle.wire.specs.Passed.{select_by, send_at}
 use Rattle.wire.specs.Wire.{fetch_at, signal_of}
 use Rattle.transfer.specs.Legs.{Noted, NotedSend, NotedFetch, wire_signal, Move, move_send, move_fetch}
 use Rattle.transfer.specs.Whole.{TransferResult, transfer_result, bytes_sent, served, replies, onward, last_among, accepted, Leg, answering, idle_leg, read_leg, data_leg, write_leg, selected_leg, leg_of, filled}

@@ -26,7 +26,7 @@ use Rattle.user_leg.specs.UserLeg.{user_written}
 use Rattle.signal.specs.declared.WireAnswer.TheVariants.{Nothing, NoAck}
 use Rattle.signal.specs.Signal.{WireResult, wire_result, side_bus, due_of, start_at, start_of, stop_at}
 use Rattle.signal.proofs.Ended.{start_host, start_memory}
-use Rattle.send.specs.Send.{select_by, send_at}
+use Rattle.wire.specs.Passed.{select_by, send_at}
 use Rattle.wire.specs.Wire.{fetch_at, signal_of}
 use Rattle.transfer.specs.Legs.{Noted, NotedStart, NotedSend, NotedFetch, NotedStop, NotedVccOff, wire_signal, select_refused, Move, move_send, move_fetch, Finish, at_stop, at_vcc_off, at_refusal, Legs, leg, last, parse}
 use Rattle.transfer.specs.Whole.{TransferResult, transfer_result, before, Leg, selected_leg, leg_of, counting, filled, last_leg, legs_of, transfer_of}

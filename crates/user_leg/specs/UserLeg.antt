@@ -3,7 +3,7 @@ use Rattle.std.specs.Prelude.{List, ℕ, ltb, eqb, length, get_or}
 use Rattle.std.proofs.lemmas.List.Edits.{sets}
 use Rattle.parts.specs.Pick.{pick}
 use Rattle.register_types.specs.Types.{rf_mngt}
-use Rattle.registers.specs.Map.{with_dynamic}
+use Rattle.tag.specs.Passed.{with_dynamic}
 use Rattle.tag.specs.declared.WireSide.{WireSide}
 use Rattle.tag.specs.Layout.{user_bytes, mailbox_place}
 use Rattle.mailbox.specs.Mailbox.{controlled, host_put}

@@ -19,14 +19,13 @@ use Rattle.signal_table.specs.declared.WireSignal.{WireSignal}
 use Rattle.signal_table.specs.declared.WireSignal.TheVariants.{Send}
 use Rattle.signal.specs.declared.WireAnswer.TheVariants.{Nothing as WireNothing}
 use Rattle.signal.specs.Signal.{WireResult, wire_result, side_bus}
-use Rattle.wire.specs.Wire.{signal_of}
-use Rattle.wire_claims.specs.Claims.{side_counted}
-use Rattle.wire_claims.proofs.Line.{closed_counted, counted_stays}
+use Rattle.transfer.specs.Passed.{signal_of}
+use Rattle.calls.specs.Passed.{side_counted, Refused, Nothing, from_wire, transfer_open, act_of}
+use Rattle.calls.proofs.Passed.{closed_counted, counted_stays}
 use Rattle.transfer.specs.Legs.{Noted, NotedStart, NotedSend, NotedFetch, NotedStop, NotedVccOff, wire_signal, ends, finished}
 use Rattle.transfer.specs.Whole.{TransferResult, transfer_result, transfer_of}
 use Rattle.transfer.specs.Claim.{run_of, Ready}
 use Rattle.transfer.proofs.Transfer.{transfer_by_signals}
-use Rattle.model.specs.declared.Answer.TheVariants.{Refused, Nothing}
 use Rattle.refusals.specs.declared.Refusal.{Refusal}
 use Rattle.refusals.specs.declared.Judgement.{Judgement}
 use Rattle.refusals.specs.declared.Judgement.TheVariants.{NoRefusal, RefusedBy}
@@ -34,7 +33,6 @@ use Rattle.refusals.specs.Refusals.{unless_refused}
 use Rattle.signal_table.specs.declared.Signal.{Signal}
 use Rattle.signal_table.specs.declared.Signal.TheVariants.{Wire, Field, Frame, EndOfFrame}
 use Rattle.signal_table.specs.Table.{signal_by}
-use Rattle.model.specs.Step.{from_wire, transfer_open, act_of}
 use Rattle.refusals.specs.Call.{Call}
 use Rattle.calls.specs.Calls.{CallAnswer, call_answer, Device, device, DeviceResult, device_result, entry, call_reply}
 use Rattle.waiting.specs.Waiting.{Pending, given, waits, fill, Waiting, no_transfer, inside, answered, notes_of, is_started, opens, at_once, acts, when_closed, note, frame_answer, end_answer, notes, when_open, wait_act, wait_step}

@@ -13,7 +13,7 @@ use Rattle.bus.specs.Bus.{is_open_transfer, counted_dynamic, kept_of, transfer_a
 use Rattle.keys.specs.declared.Uid.{Uid}
 use Rattle.tag.specs.declared.Tag.{Tag}
 use Rattle.tag.specs.Parts.{wire_side}
-use Rattle.wire_claims.specs.Claims.{side_counted}
+use Rattle.calls.specs.Passed.{side_counted, verdict_result, radio_of, transfer_open, act_of}
 use Rattle.reply.specs.declared.RadioSide.{RadioSide}
 use Rattle.errors.specs.declared.RadioError.TheVariants.{ShutOut}
 use Rattle.reply.specs.Reply.{ReplyBody, nothing, fault}
@@ -25,10 +25,8 @@ use Rattle.silence_rules.specs.Silence.{is_silent}
 use Rattle.judge.proofs.ShutOut.{shut_out_decides}
 use Rattle.frame.specs.Fields.{inventory_flag}
 use Rattle.inventory_reply.proofs.Laws.{inventory_shut}
-use Rattle.radio.proofs.ShutOut.{end_of_frame_shut}
-use Rattle.radio.specs.Radio.{verdict_result, radio_of}
+use Rattle.calls.proofs.Passed.{end_of_frame_shut}
 use Rattle.signal_table.specs.declared.Signal.TheVariants.{Frame, EndOfFrame}
-use Rattle.model.specs.Step.{transfer_open, act_of}
 use Rattle.refusals.specs.Call.{Call}
 use Rattle.calls.specs.Calls.{Device, device, device_result, call_reply}
 use Rattle.waiting.specs.Waiting.{as_opened, frame_answer, end_answer}

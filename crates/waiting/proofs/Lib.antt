@@ -2,3 +2,4 @@ pub mod OpenStep
 pub mod Lists
 pub mod Frames
 pub mod Follow
+pub mod Passed

@@ -10,12 +10,12 @@ use Rattle.parts.proofs.Picks.{pick_false}
 use Rattle.tag.specs.declared.WireSide.{WireSide}
 use Rattle.keys.specs.declared.Uid.{Uid}
 use Rattle.signal.specs.declared.WireAnswer.{WireAnswer}
-use Rattle.wire.specs.Wire.{signal_of}
+use Rattle.transfer.specs.Passed.{signal_of}
 use Rattle.transfer.specs.Legs.{Noted, wire_signal, ends, fresher, is_empty, finished}
 use Rattle.transfer.specs.Whole.{transfer_result}
 use Rattle.transfer.specs.Claim.{run_of}
 use Rattle.transfer.proofs.Run.{run_append}
-use Rattle.model.specs.Step.{from_wire}
+use Rattle.calls.specs.Passed.{from_wire}
 use Rattle.calls.specs.Calls.{CallAnswer, call_answer}
 use Rattle.waiting.specs.Waiting.{Pending, given, waits, fill}
 

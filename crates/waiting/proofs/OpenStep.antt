@@ -25,10 +25,8 @@ use Rattle.signal_table.specs.declared.WireSignal.TheVariants.{Start as SignalSt
 use Rattle.signal.specs.declared.WireAnswer.TheVariants.{Nothing}
 use Rattle.signal.specs.Signal.{WireResult, wire_result, side_bus, due_of, start_at, start_of}
 use Rattle.signal.proofs.Ended.{start_host, stop_shut}
-use Rattle.data_byte.specs.DataByte.{data_of}
-use Rattle.send.specs.Send.{select_by, send_at}
-use Rattle.wire.specs.Wire.{fetch_at, programmed, signal_of}
-use Rattle.wire_claims.proofs.Cases.{signal_case}
+use Rattle.transfer.specs.Passed.{data_of, select_by, send_at, fetch_at, programmed, signal_of}
+use Rattle.calls.proofs.Passed.{signal_case}
 use Rattle.transfer.specs.Legs.{Noted, NotedStart, NotedSend, NotedFetch, NotedStop, NotedVccOff, wire_signal, select_refused, ends, fresher}
 use Rattle.waiting.specs.Waiting.{notes_of, is_started, acked_select, opens}
 

@@ -16,14 +16,12 @@ use Rattle.signal_table.specs.declared.WireSignal.{WireSignal}
 use Rattle.signal_table.specs.declared.WireSignal.TheVariants.{Start as SignalStart, Send, Fetch, Stop as SignalStop, Vcc, ProgrammingEnd}
 use Rattle.transfer.specs.Legs.{Noted, NotedStart, NotedSend, NotedFetch, NotedStop, NotedVccOff, select_refused, finished}
 use Rattle.transfer.specs.Whole.{transfer_of}
-use Rattle.radio.specs.Radio.{radio_of, next_slot_of}
-use Rattle.model.specs.declared.Answer.TheVariants.{Refused, Nothing}
+use Rattle.calls.specs.Passed.{radio_of, next_slot_of, Refused, Nothing, from_wire, act_of}
 use Rattle.refusals.specs.declared.Refusal.{Refusal}
 use Rattle.refusals.specs.Refusals.{argument_rules, judgement, unless_refused}
 use Rattle.signal_table.specs.declared.Signal.{Signal}
 use Rattle.signal_table.specs.declared.Signal.TheVariants.{Wire, Field, Frame, EndOfFrame}
 use Rattle.signal_table.specs.Table.{signal_by}
-use Rattle.model.specs.Step.{from_wire, act_of}
 use Rattle.reply.specs.Outcome.{radio_side}
 use Rattle.refusals.specs.Call.{Call}
 use Rattle.calls.specs.Calls.{call_reply, CallAnswer, call_answer, Device, device, DeviceResult, device_result_of}

@@ -19,14 +19,10 @@ use Rattle.tag.specs.Layout.{page}
 use Rattle.select.specs.declared.Choice.{Choice}
 use Rattle.select.specs.declared.Choice.TheVariants.{NotAcked, Reading, Writing}
 use Rattle.effect.specs.Effect.{LegResult}
-use Rattle.leg.specs.Leg.{Due, nothing_due, clears, started, stopped, settle, leg_written}
+use Rattle.wire.specs.Passed.{Due, nothing_due, clears, started, stopped, settle, leg_written, system_written, password_written, WireResult, side_bus, due_of, start_at, start_of, stop_at, data_of, select_by, send_at}
 use Rattle.user_leg.specs.UserLeg.{user_written}
-use Rattle.system_leg.specs.SystemLeg.{system_written, password_written}
 use Rattle.signal_table.specs.declared.WireSignal.{WireSignal}
-use Rattle.signal.specs.Signal.{WireResult, side_bus, due_of, start_at, start_of, stop_at}
-use Rattle.signal.proofs.Ended.{start_case}
-use Rattle.data_byte.specs.DataByte.{data_of}
-use Rattle.send.specs.Send.{select_by, send_at}
+use Rattle.wire.proofs.Passed.{start_case}
 use Rattle.wire.specs.Wire.{fetch_at}
 use Rattle.signal_table.specs.Table.{sent_byte}
 use Rattle.wire_claims.specs.Claims.{KeepsBytes}

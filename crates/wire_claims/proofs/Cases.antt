@@ -6,11 +6,9 @@ use Rattle.tag.specs.declared.WireSide.{WireSide}
 use Rattle.keys.specs.declared.Uid.{Uid}
 use Rattle.tag.specs.Parts.{with_programming, with_host}
 use Rattle.tag.specs.Supply.{vcc_at}
-use Rattle.signal.specs.declared.WireAnswer.TheVariants.{Nothing}
-use Rattle.signal.specs.Signal.{WireResult, wire_result, start_of, stop_at}
+use Rattle.wire.specs.Passed.{Nothing, WireResult, wire_result, start_of, stop_at, send_at}
 use Rattle.signal_table.specs.declared.WireSignal.{WireSignal}
 use Rattle.signal_table.specs.declared.WireSignal.TheVariants.{Start, Send, Fetch, Stop, Vcc, ProgrammingEnd}
-use Rattle.send.specs.Send.{send_at}
 use Rattle.wire.specs.Wire.{fetch_at, signal_of}
 
 -- the side with programming as it was, or ended

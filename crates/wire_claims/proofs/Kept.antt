@@ -37,22 +37,17 @@ use Rattle.ranges.proofs.RegistersKept.{dynamic_kept, dynamic_defined, reload_ke
 use Rattle.select.specs.declared.Choice.{Choice}
 use Rattle.select.specs.declared.Choice.TheVariants.{NotAcked, Reading, Writing}
 use Rattle.select.specs.Select.{choose, select_of, first_of}
-use Rattle.rule.specs.UserRule.{mailbox_acked, user_acked}
-use Rattle.rule.specs.Rule.{space_acked, acked}
+use Rattle.page.specs.Passed.{mailbox_acked, user_acked, space_acked, acked}
 use Rattle.written_registers.specs.Written.{written_all}
-use Rattle.rule.proofs.AckedByte.{acked_room, acked_space}
+use Rattle.page.proofs.Passed.{acked_room, acked_space}
 use Rattle.select.proofs.First.{first_next}
 use Rattle.page.specs.PageRange.{page_acked, bus_in_range}
 use Rattle.page.proofs.Acks.{page_last}
 use Rattle.effect.specs.Effect.{LegResult, leg_result, side_session, programming}
-use Rattle.leg.specs.Leg.{Due, nothing_due, clears, writes, started, stopped, settle, leg_written}
+use Rattle.wire.specs.Passed.{Due, nothing_due, clears, writes, started, stopped, settle, leg_written, system_written, password_written, WireResult, side_bus, side_line, due_of, start_at, start_of, stop_at, data_of, select_by, send_at}
 use Rattle.user_leg.specs.UserLeg.{user_written}
-use Rattle.system_leg.specs.SystemLeg.{system_written, password_written}
 use Rattle.signal_table.specs.declared.WireSignal.{WireSignal}
-use Rattle.signal.specs.Signal.{WireResult, side_bus, side_line, due_of, start_at, start_of, stop_at}
-use Rattle.signal.proofs.Ended.{start_case}
-use Rattle.data_byte.specs.DataByte.{data_of}
-use Rattle.send.specs.Send.{select_by, send_at}
+use Rattle.wire.proofs.Passed.{start_case}
 use Rattle.wire.specs.Wire.{fetch_at, programmed, signal_of}
 use Rattle.wire_claims.specs.Claims.{SignalKeepsRange}
 use Rattle.wire_claims.proofs.Cases.{undisturbed, signal_case}

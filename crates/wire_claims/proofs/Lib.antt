@@ -3,3 +3,4 @@ pub mod Cases
 pub mod Kept
 pub mod Line
 pub mod Bytes
+pub mod Passed

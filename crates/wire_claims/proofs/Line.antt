@@ -27,11 +27,8 @@ use Rattle.select.specs.declared.Choice.{Choice}
 use Rattle.select.specs.declared.Choice.TheVariants.{NotAcked, Reading, Writing}
 use Rattle.signal_table.specs.declared.WireSignal.{WireSignal}
 use Rattle.effect.specs.Effect.{LegResult}
-use Rattle.leg.specs.Leg.{Due, started, settle}
-use Rattle.signal.specs.Signal.{WireResult, side_bus, due_of, start_at, start_of, stop_at}
-use Rattle.signal.proofs.Ended.{start_case, start_host, start_registers, stop_line, stop_shut}
-use Rattle.data_byte.specs.DataByte.{data_of}
-use Rattle.send.specs.Send.{select_by, send_at}
+use Rattle.wire.specs.Passed.{Due, started, settle, WireResult, side_bus, due_of, start_at, start_of, stop_at, data_of, select_by, send_at}
+use Rattle.wire.proofs.Passed.{start_case, start_host, start_registers, stop_line, stop_shut}
 use Rattle.wire.specs.Wire.{fetch_at}
 use Rattle.wire_claims.specs.Claims.{KeepsCounter, is_start, LengthStays, OthersStay, RegistersStay, OnlyAtStart, side_counted, CountedStays}
 use Rattle.wire_claims.proofs.Cases.{signal_case}

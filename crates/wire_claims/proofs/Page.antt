@@ -21,13 +21,11 @@ use Rattle.tag.specs.declared.Core.{Core}
 use Rattle.tag.specs.Layout.{page}
 use Rattle.ranges.specs.Ranges.{registers_in_range}
 use Rattle.ranges.proofs.RegistersKept.{written_kept}
-use Rattle.rule.specs.UserRule.{mailbox_acked, user_acked}
+use Rattle.page.specs.Passed.{mailbox_acked, user_acked, register_acked, system_acked, space_acked, acked}
 use Rattle.written_registers.specs.Written.{written_all}
-use Rattle.rule.specs.SystemRule.{register_acked, system_acked}
-use Rattle.rule.specs.Rule.{space_acked, acked}
 use Rattle.page.specs.PageRange.{page_acked}
 use Rattle.written_registers.proofs.Registers.{written_snoc}
-use Rattle.rule.proofs.AckedByte.{acked_room, acked_space}
+use Rattle.page.proofs.Passed.{acked_room, acked_space}
 use Rattle.page.proofs.Acks.{page_before, page_last}
 
 module _ (s : Space) (c : Core) (session : Bool) (f : ℕ) where

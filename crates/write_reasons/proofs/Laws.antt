@@ -6,7 +6,7 @@ use Prim.Native.Nat.{ℕ, suc}
 use types.Run.{OneOf}
 use denote.Enum.Declared.{tag_of}
 use borrow.Author.Tests.{ne_eqb}
-use Rattle.parts.specs.Pick.{pick}
+use Rattle.bus.specs.Passed.{pick}
 use Rattle.write_reasons.specs.declared.WriteReason.{WriteReason}
 use Rattle.write_reasons.specs.declared.WriteReason.TheVariants.{LegSpoiled, OutsideMap, MailboxModeOn, ModeOff, MailboxBusy, MailboxLegNotFrom2008, AnotherArea, LockedBlock, AreaNeverWritable, ConfigurationLocked, SessionNeeded, RegisterReadOnly, PasswordCode, EndaRule, PageFull}
 use Rattle.write_reasons.specs.declared.WriteVerdict.{WriteVerdict}

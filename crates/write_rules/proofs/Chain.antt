@@ -10,10 +10,9 @@ use Rattle.parts.specs.Bits.{is_set}
 use Rattle.rule_list.specs.RuleList.{first_says}
 use Rattle.dynamic.specs.Dynamic.{mailbox_first, host_writes}
 use Rattle.register_types.specs.declared.RfaSs.{RfaSs}
-use Rattle.register_table.specs.Table.{is_writable, is_pointer}
-use Rattle.areas.specs.Ends.{area_of_block, area_of_byte, end_allows}
+use Rattle.written_registers.specs.Passed.{is_writable, is_pointer, Core}
+use Rattle.rights.specs.Passed.{area_of_block, area_of_byte, end_allows}
 use Rattle.rights.specs.Rights.{security_of, session_opens, setting, wire_guards, is_locked}
-use Rattle.tag.specs.declared.Core.{Core}
 use Rattle.written_registers.specs.Written.{written_all}
 use Rattle.write_reasons.specs.declared.WritePlace.{WritePlace}
 use Rattle.write_reasons.specs.declared.WritePlace.TheVariants.{Unmapped, UserMemory, DynamicByte, MailboxByte, SystemRegister, PasswordByte}

@@ -2,9 +2,8 @@
 use Prim.{Unit, tt}
 use mathlib.Core.Path.{refl}
 use Rattle.parts.specs.Pick.{pick}
-use Rattle.register_table.specs.Table.{place_bits, row_in, row_of}
-use Rattle.registers.specs.Map.{register_bytes, put_defined, written_to, written, with_end}
-use Rattle.areas.specs.Ends.{area_of_block, area_of_byte, later_largest, exceeds_before, end_accepted, end_allows}
+use Rattle.written_registers.specs.Passed.{place_bits, row_in, row_of}
+use Rattle.rights.specs.Passed.{register_bytes, put_defined, written_to, written, with_end, area_of_block, area_of_byte, later_largest, exceeds_before, end_accepted, end_allows}
 use Rattle.rights.specs.Rights.{security_of, session_opens, wire_bits, wire_guards, is_locked}
 use Rattle.keys.specs.Keys.{fresh_passwords}
 use Rattle.written_registers.specs.Written.{written_all}

@@ -3,9 +3,8 @@ use mathlib.Core.Path.{◌≡◌, refl, sym, subst}
 use mathlib.Core.Bool.{Bool, true, false, not, ◌||◌, false≢true}
 use Prim.Native.Nat.{ℕ}
 use lib.Dec.{eqb}
-use Rattle.register_table.specs.declared.RegisterRow.{RegisterRow}
-use Rattle.register_table.specs.Table.{no_place, row_of, is_writable, is_pointer}
-use Rattle.register_table.proofs.Rows.{row_test}
+use Rattle.written_registers.specs.Passed.{RegisterRow, no_place, row_of, is_writable, is_pointer}
+use Rattle.written_registers.proofs.Passed.{row_test}
 use Rattle.write_rules.specs.Situation.{is_system}
 
 -- each register that A1 has a pointer to is writable

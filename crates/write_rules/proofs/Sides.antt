@@ -8,12 +8,10 @@ use lib.Dec.{ltb, eqb}
 use borrow.Author.Tests.{lt-leb, le-leb, ltb-true, ltb-false, eqb-true, eqb-false}
 use Rattle.parts.specs.Pick.{pick}
 use Rattle.parts.proofs.Picks.{pick_case}
-use Rattle.register_table.specs.Table.{is_pointer}
-use Rattle.areas.specs.Ends.{area_of_block}
+use Rattle.written_registers.specs.Passed.{is_pointer, Core, page}
+use Rattle.rights.specs.Passed.{area_of_block}
 use Rattle.rights.specs.declared.Side.TheVariants.{Radio}
 use Rattle.rights.specs.Rights.{security_of, setting, radio_writes, is_locked, write_right, may_write}
-use Rattle.tag.specs.declared.Core.{Core}
-use Rattle.tag.specs.Layout.{page}
 use Rattle.write_reasons.specs.declared.WritePlace.{WritePlace}
 use Rattle.write_reasons.specs.declared.WritePlace.TheVariants.{Unmapped, UserMemory, DynamicByte, MailboxByte, SystemRegister, PasswordByte}
 use Rattle.write_reasons.specs.declared.WriteReason.{WriteReason}

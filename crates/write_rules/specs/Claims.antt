@@ -3,8 +3,7 @@ use Rattle.std.specs.Prelude.{◌≡◌, Bool, true, false, ◌&&◌, List, ◌�
 use Rattle.rule_list.specs.RuleList.{NoneHolds, IsFirst}
 use Rattle.rights.specs.declared.Side.TheVariants.{Radio}
 use Rattle.rights.specs.Rights.{may_write}
-use Rattle.tag.specs.declared.Core.{Core}
-use Rattle.tag.specs.Layout.{blocks}
+use Rattle.written_registers.specs.Passed.{Core, blocks}
 use Rattle.write_reasons.specs.declared.WriteReason.{WriteReason}
 use Rattle.write_reasons.specs.declared.WriteReason.TheVariants.{LegSpoiled, OutsideMap, MailboxModeOn, ModeOff, MailboxBusy, MailboxLegNotFrom2008, AnotherArea, LockedBlock, AreaNeverWritable, ConfigurationLocked, SessionNeeded, RegisterReadOnly, PasswordCode, EndaRule, PageFull}
 use Rattle.write_reasons.specs.declared.WriteVerdict.{WriteVerdict}

@@ -3,8 +3,8 @@ use Rattle.std.specs.Prelude.{Bool, true, false, not, ◌&&◌, ◌||◌, ℕ, �
 use Rattle.parts.specs.Bits.{is_set}
 use Rattle.dynamic.specs.Dynamic.{mailbox_first, host_writes}
 use Rattle.register_types.specs.declared.RfaSs.{RfaSs}
-use Rattle.register_table.specs.Table.{is_writable}
-use Rattle.areas.specs.Ends.{area_of_block, area_of_byte, end_allows}
+use Rattle.written_registers.specs.Passed.{is_writable}
+use Rattle.rights.specs.Passed.{area_of_block, area_of_byte, end_allows}
 use Rattle.rights.specs.declared.Side.{Side}
 use Rattle.rights.specs.declared.Side.TheVariants.{Wire, Radio}
 use Rattle.rights.specs.Rights.{security_of, session_opens, setting, wire_guards, is_locked}

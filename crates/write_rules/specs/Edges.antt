@@ -1,12 +1,10 @@
 -- Situations on either side of where a reason begins, with their verdicts as 02, Ask 2, has them, worked out by hand.
 use Prim.{Unit}
 use Rattle.std.specs.Prelude.{◌≡◌, Bool, true, false, List, [], ◌∷◌, ℕ}
-use Rattle.registers.specs.Map.{registers_of}
+use Rattle.rights.specs.Passed.{registers_of}
 use Rattle.keys.specs.Keys.{fresh_passwords}
-use Rattle.mailbox.specs.Parts.{with_put, with_enabled, with_rf_message}
-use Rattle.mailbox.specs.Mailbox.{no_message, empty_mailbox}
-use Rattle.tag.specs.declared.Core.{Core}
-use Rattle.bus.specs.declared.Space.TheVariants.{User, System}
+use Rattle.written_registers.specs.Passed.{with_put, with_enabled, with_rf_message, no_message, empty_mailbox, Core}
+use Rattle.write_reasons.specs.Passed.{User, System}
 use Rattle.write_reasons.specs.declared.SessionKey.TheVariants.{Unnumbered, Numbered}
 use Rattle.write_reasons.specs.declared.WriteReason.{WriteReason}
 use Rattle.write_reasons.specs.declared.WriteReason.TheVariants.{LegSpoiled, OutsideMap, MailboxModeOn, ModeOff, MailboxBusy, MailboxLegNotFrom2008, AnotherArea, LockedBlock, AreaNeverWritable, ConfigurationLocked, SessionNeeded, RegisterReadOnly, PasswordCode, EndaRule, PageFull}

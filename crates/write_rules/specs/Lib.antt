@@ -3,3 +3,4 @@ pub mod Conditions
 pub mod Verdict
 pub mod Edges
 pub mod Claims
+pub mod Passed

@@ -2,13 +2,10 @@
 use Rattle.std.specs.Prelude.{Bool, false, not, ◌&&◌, ◌||◌, List, [], ℕ, ◌+◌, ◌*◌, ◌/◌, leb, ltb, eqb}
 use Rattle.parts.specs.Pick.{pick}
 use Rattle.dynamic.specs.Dynamic.{dynamic_at, rfMngtDyn, i2cSsoDyn, mbCtrlDyn, mbLenDyn, mailbox_first, mailbox_last}
-use Rattle.register_table.specs.Table.{no_place, row_of, is_pointer}
-use Rattle.bus.specs.declared.Space.{Space}
-use Rattle.bus.specs.declared.Space.TheVariants.{User, System}
+use Rattle.written_registers.specs.Passed.{no_place, row_of, is_pointer, Core, user_bytes, blocks, page}
+use Rattle.write_reasons.specs.Passed.{Space, User, System}
 use Rattle.rights.specs.declared.Side.{Side}
 use Rattle.rights.specs.declared.Side.TheVariants.{Wire, Radio}
-use Rattle.tag.specs.declared.Core.{Core}
-use Rattle.tag.specs.Layout.{user_bytes, blocks, page}
 use Rattle.write_reasons.specs.declared.WritePlace.{WritePlace}
 use Rattle.write_reasons.specs.declared.WritePlace.TheVariants.{Unmapped, UserMemory, DynamicByte, MailboxByte, SystemRegister, PasswordByte}
 use Rattle.write_reasons.specs.declared.WriteAsked.{WriteAsked}

@@ -4,8 +4,7 @@ use Rattle.calls.proofs.Computes.{computes}
 use Rattle.rack.specs.Rack.{memory_size, memory_sizes, device_at, devices_of, tags_of, memories_of, to_all, goes_to}
 use Rattle.rack.specs.Rules.{all_in_range, has_uid, equal_uids}
 use Rattle.rack.specs.Step.{turn_of, turns_of, left_by, said_by, who_replied, numbers_from, lowest_reply, together, rack_acts, rack_step, rack_run}
-use Rattle.rack_claims.specs.Cut.{judged_calls, has_call, own_call, own_calls, of_each, next_answer, later_answers, next_of_each, later_of_each, answer_made, answers_made}
-use Rattle.rack_claims.specs.ItsTags.{rack_frames_fit}
+use Rattle.rack_search.specs.Passed.{judged_calls, has_call, own_call, own_calls, of_each, next_answer, later_answers, next_of_each, later_of_each, answer_made, answers_made, rack_frames_fit}
 use Rattle.rack_search.specs.Search.{opens_sixteen, look, search_of}
 use Rattle.rack_search.specs.Claims.{replies_to, answers_in, how_many, sent_calls, slots_opened, buffer_after}
 use Rattle.wrong_racks.specs.Told.{rack_part_of}

@@ -1,3 +1,4 @@
 pub mod Told
 pub mod Wrong
 pub mod WrongSearch
+pub mod Passed

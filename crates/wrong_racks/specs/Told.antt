@@ -2,7 +2,7 @@
 use Rattle.std.specs.Prelude.{List, [], ◌∷◌}
 use Rattle.rack.specs.Rack.{Rack, RackCall}
 use Rattle.rack.specs.Step.{RackStep}
-use Rattle.rack_claims.specs.ItsTags.{TagsAsAlone, SameNumber, SameSize, AnswersOfTags, EveryRackList}
+use Rattle.rack_search.specs.Passed.{TagsAsAlone, SameNumber, SameSize, AnswersOfTags, EveryRackList}
 
 -- the parts of "the rack is its tags"
 pub data RackPart : Type 0 where

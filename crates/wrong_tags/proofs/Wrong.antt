@@ -19,7 +19,7 @@ use Rattle.model.specs.Step.{is_reply}
 use Rattle.refusals.specs.Call.{Call}
 use Rattle.calls.specs.Calls.{CallAnswer, call_answer, Device, RunResult}
 use Rattle.calls.specs.Examples.{vcc_to, start, send, stop, programming_end, frame, end_of_frame, zeros, powered, ◌but◌, radio_state, radio_session, slots_are, field_is, vcc_is, i2c_session, being_programmed, counter_at, on_bus, on_registers, mailbox_mode, host_message, bytes}
-use Rattle.waiting.specs.Waiting.{Waiting, no_transfer, inside}
+use Rattle.demand3.specs.Passed.{Waiting, no_transfer, inside}
 use Rattle.wrong_tags.specs.Told.{by_same, by_judged, by_striking, by_unchanged, by_reply, WrongTag, Told, AllTold}
 use Rattle.wrong_tags.specs.Wrong.{is_blank, feigning, reads_half, other_select, deselects, counts_inside, counts_down, counts_anew, commits_at_off, answers_from_leg, never_closes}
 use Rattle.wrong_tags.specs.RepeatedStart.{is_data_leg, drops_at_start, acting_at_start, puts_at_start, writes_at_start, judging_as_it_stands, falls_asleep_at_once, wakes_at_once, keeping, keeping_anew, keeps_at_select, keeps_at_start, keeps_from_start}

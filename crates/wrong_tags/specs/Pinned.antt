@@ -16,7 +16,7 @@ use Rattle.model.specs.Step.{transfer_open, is_refused, is_reply}
 use Rattle.refusals.specs.Call.{Call}
 use Rattle.calls.specs.Calls.{CallAnswer, call_answer, Device, device, DeviceResult, device_result, Step, entry}
 use Rattle.calls.specs.Examples.{zeros, on_bus, field_is, radio_session, ◌but◌}
-use Rattle.waiting.specs.Waiting.{is_started}
+use Rattle.demand3.specs.Passed.{is_started}
 use Rattle.demand3.specs.Demand3.{struck}
 use Rattle.wrong_tags.specs.Wrong.{feigning, reads_half, deselects, counts_down, counts_anew, commits_at_off, answers_from_leg, never_closes}
 use Rattle.wrong_tags.specs.RepeatedStart.{drops_at_start, puts_at_start, writes_at_start, falls_asleep_at_once, wakes_at_once, keeps_at_select, keeps_at_start, keeps_from_start}

@@ -17,7 +17,7 @@ use Rattle.model.specs.Step.{transfer_open}
 use Rattle.refusals.specs.Call.{Call}
 use Rattle.calls.specs.Calls.{Device, device, DeviceResult, device_result, entry}
 use Rattle.calls.specs.Examples.{on_core, on_bus, counter_at}
-use Rattle.waiting.specs.Waiting.{is_started}
+use Rattle.demand3.specs.Passed.{is_started}
 use Rattle.demand3.specs.Demand3.{struck}
 use Rattle.wrong_tags.specs.Wrong.{as_it_stands, stopping}
 

@@ -1,4 +1,4 @@
-use Rattle.parts.proofs.Picks.{picks}
+use Rattle.register_table.proofs.Passed.{picks}
 use Rattle.areas.specs.Ends.{area_of_byte}
 use Rattle.areas.proofs.area_of_byte.Goals as goal
 

@@ -1,4 +1,4 @@
-use Rattle.parts.proofs.Picks.{picks}
+use Rattle.register_table.proofs.Passed.{picks}
 use Rattle.areas.specs.Ends.{exceeds_before}
 use Rattle.areas.proofs.exceeds_before.Goals as goal
 

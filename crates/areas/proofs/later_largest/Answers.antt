@@ -1,4 +1,4 @@
-use Rattle.parts.proofs.Picks.{picks}
+use Rattle.register_table.proofs.Passed.{picks}
 use Rattle.areas.specs.Ends.{later_largest}
 use Rattle.areas.proofs.later_largest.Goals as goal
 

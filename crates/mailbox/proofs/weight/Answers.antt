@@ -1,4 +1,4 @@
-use Rattle.parts.proofs.Picks.{picks}
+use Rattle.register_types.proofs.Passed.{picks}
 use borrow.Author.Rules.{rules}
 use Rattle.mailbox.proofs.weight.Goals as goal
 

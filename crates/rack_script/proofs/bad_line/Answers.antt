@@ -1,4 +1,4 @@
-use Rattle.printing.specs.Text.{bad_text}
+use Rattle.rack_printing.specs.Passed.{bad_text}
 use Rattle.rack_script.proofs.Stored.{numbered_stored}
 use Rattle.std.proofs.Common.{ℕ, List}
 use Rattle.rack_script.proofs.bad_line.Goals as goal

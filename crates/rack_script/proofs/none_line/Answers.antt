@@ -2,8 +2,8 @@ use Rattle.rack_script.specs.Script.{none_text}
 use Rattle.rack_script.proofs.Stored.{numbered_stored}
 use Rattle.std.proofs.Common.{ℕ, List}
 use Rattle.parts.specs.Pick.{pick}
-use Rattle.rack.specs.Step.{numbers_from}
-use Rattle.printing.specs.Text.{answer_text}
+use Rattle.rack_model.specs.Passed.{numbers_from}
+use Rattle.rack_printing.specs.Passed.{answer_text}
 use Rattle.rack_printing.specs.Text.{rack_text, said_text, numbers_text}
 use Rattle.rack_script.proofs.none_line.Goals as goal
 

@@ -1,4 +1,4 @@
-use Rattle.parts.proofs.Picks.{picks}
+use Rattle.register_types.proofs.Passed.{picks}
 use Rattle.mailbox.specs.Mailbox.{controlled}
 use Rattle.mailbox.proofs.Mailbox.control.Goals as goal
 

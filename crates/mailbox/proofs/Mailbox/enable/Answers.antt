@@ -1,4 +1,4 @@
-use Rattle.parts.proofs.Picks.{picks}
+use Rattle.register_types.proofs.Passed.{picks}
 use Rattle.mailbox.specs.Mailbox.{enabled}
 use Rattle.mailbox.proofs.Mailbox.enable.Goals as goal
 

@@ -1,4 +1,4 @@
-use Rattle.parts.proofs.Picks.{picks}
+use Rattle.registers.proofs.Passed.{picks}
 use Rattle.tag.specs.Supply.{vcc_at}
 use Rattle.tag.proofs.WireSide.vcc_at.Goals as goal
 

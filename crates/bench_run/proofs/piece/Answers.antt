@@ -50,7 +50,7 @@ loop-at-smaller c =
     omega (
       arith,
       used_some (bench_program a.named) (bench_state a.run.bench a.m.now a.reply.now) (take a.run.have a.kept.now) a.s.now a.out.now (bench_state l.bench l.m l.reply) (take l.have l.auto) l.out l.at l.invariant
-          (stream_buffers (bench_state t.result.bench t.new.1.1.0 t.new.1.1.1.0) (take t.result.have t.new.1.1.1.1.0) t.result.used t.result.wrote t.new.1.1.1.1.1.1.1.0)
+          (stream_buffers (bench_state t.result.bench t.new.m t.new.reply) (take t.result.have t.new.kept) t.result.used t.result.wrote t.new.out)
           t.ensures.out_after (omega (arith, l.invariant.out_len, c.requires)) c.loop-at-test.true,
       c.loop-at-test.true,
     )
@@ -61,8 +61,8 @@ loop-at-preserved c =
     let l = c.loop-at in
     let t = c.step-t in
     goes (bench_program a.named) (bench_state a.run.bench a.m.now a.reply.now) (take a.run.have a.kept.now) a.s.now a.out.now (bench_state l.bench l.m l.reply) (take l.have l.auto) l.out l.at l.invariant
-    (stream_buffers (bench_state t.result.bench t.new.1.1.0 t.new.1.1.1.0) (take t.result.have t.new.1.1.1.1.0) t.result.used t.result.wrote t.new.1.1.1.1.1.1.1.0)
-    t.ensures.out_after t.ensures.used_in_bounds.0 t.new.1.1.1.1.1.1.1.0 t.auto.1.1.1.1.1.1.1.0
+    (stream_buffers (bench_state t.result.bench t.new.m t.new.reply) (take t.result.have t.new.kept) t.result.used t.result.wrote t.new.out)
+    t.ensures.out_after t.ensures.used_in_bounds.0 t.new.out t.auto.out
 
 pub shape_of-out : goal.shape_of-out
 shape_of-out c = c.loop-at.invariant.out_len

@@ -36,7 +36,7 @@ returns-then-not-may_read c =
     
     let a = c.args in
     said (read_of a.v a.m.now a.option a.first a.more) _ (fault ReadProtected) c.error-answer-then-not-may_read.ensures
-    (rw (← c.leaves_area-leaving.ensures, ← c.may_read_lem.ensures) (search picks depth 20))
+    (rw (← c.leaves_area-leaving.ensures, ← c.may_read.ensures) (search picks depth 20))
 
 pub returns : goal.returns
 unfolding read_of
@@ -54,4 +54,4 @@ returns c =
     c.put_blocks-n.ensures.value
     (c.put_blocks-n.ensures.out_after ∙ ap (λ (o : List ℕ). sets o 1 blocks) c.put.ensures)
     c.close-answer.ensures)
-    (rw (← c.leaves_area-leaving.ensures, ← c.may_read_lem.ensures) (search picks depth 20))
+    (rw (← c.leaves_area-leaving.ensures, ← c.may_read.ensures) (search picks depth 20))

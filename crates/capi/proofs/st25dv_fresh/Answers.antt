@@ -22,6 +22,6 @@ returns-in-NoRefusal c =
     
     let a = c.args in
     let o = c.fresh-o in
-    freshened a.uid.now a.m.now a.s.now (fresh_result o.result.answer o.result.tag o.last.1.0) c.answer_number.result c.keep.new.s
+    freshened a.uid.now a.m.now a.s.now (fresh_result o.result.answer o.result.tag o.new.m) c.answer_number.result c.keep.new.s
     (sym c.fresh_call_refusal-judged.ensures ∙ c.in-NoRefusal.is)
     (o.ensures ∙ rw c.at.ensures) (number_fits _ _ (ap (λ (e : FreshResult). reply_fits e.answer) o.ensures ∙ fresh_reply_fits _ _) c.answer_number.ensures) c.keep.ensures

@@ -18,6 +18,6 @@ pub returns-in-NoRefusal : goal.returns-in-NoRefusal
 returns-in-NoRefusal c =
     let a = c.args in
     let o = c.step-o in
-    stepped a.s.now a.m.now (handed_in a.out.now a.code a.value a.frame.now) (step_result_of o.result o.new.1.0 o.new.1.1.0) c.answer_number.result c.keep.new.s
+    stepped a.s.now a.m.now (handed_in a.out.now a.code a.value a.frame.now) (step_result_of o.result o.new.m o.new.out) c.answer_number.result c.keep.new.s
     (sym c.step_refusal-judged.ensures ∙ c.in-NoRefusal.is)
     (o.ensures ∙ rw c.decode-t.ensures) (number_fits _ _ (ap (λ (e : StepResult). reply_fits e.answer) o.ensures ∙ steps_fit _ _ _) c.answer_number.ensures) c.keep.ensures

@@ -28,7 +28,7 @@ returns-in-NoRefusal c =
     
     let a = c.args in
     let o = c.search-o in
-    searched a.number a.s.now a.m.now a.out.now a.frame.now o.result.answer o.result.tags o.new.1.1.0 o.new.1.1.1.0 c.encode_tags.new.s
+    searched a.number a.s.now a.m.now a.out.now a.frame.now o.result.answer o.result.tags o.new.memory o.new.out c.encode_tags.new.s
     c.search_number.result
     (are_below _ (λ i. let p = c.slice_known-1.given i in omega (arith, p)))
     (sym c.rack_bytes_refusal-judged.ensures ∙ c.in-NoRefusal.is)

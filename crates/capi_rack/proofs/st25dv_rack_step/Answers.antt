@@ -31,7 +31,7 @@ returns-in-NoRefusal c =
     let a = c.args in
     let o = c.step-o in
     let call = rack_call (handed_in a.out.now a.code a.value a.frame.now) a.to in
-    stepped a.number a.s.now a.m.now call o.result.answer o.result.answered o.result.tags o.new.1.1.0 o.new.1.1.1.0 c.encode_tags.new.s
+    stepped a.number a.s.now a.m.now call o.result.answer o.result.answered o.result.tags o.new.memory o.new.out c.encode_tags.new.s
     c.answer_number.result c.mask.result
     (are_below _ (λ i. let p = c.slice_known-1.given i in omega (arith, p)))
     (sym c.rack_bytes_refusal-judged.ensures ∙ c.in-NoRefusal.is)

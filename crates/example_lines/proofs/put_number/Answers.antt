@@ -16,4 +16,4 @@ returns c =
     let n = c.put_decimal-tab in
     let o = a.text.now in
     let room : length o ≤ last_place = omega arith in
-    c.put_mark.ensures ∙ behind o n.last.0 (decimal a.number) (9 ∷ []) 0 n.result room n.ensures
+    c.put_mark.ensures ∙ behind o n.new.text (decimal a.number) (9 ∷ []) 0 n.result room n.ensures

@@ -24,7 +24,7 @@ returns-then-address-eq-MB_CTRL_DYN c = rw c.control_byte.ensures (search picks 
 
 pub returns-then-address-eq-MB_LEN_DYN : goal.returns-then-address-eq-MB_LEN_DYN
 unfolding user_byte
-returns-then-address-eq-MB_LEN_DYN c = rw c.length_byte_lem.ensures (search picks depth 20)
+returns-then-address-eq-MB_LEN_DYN c = rw c.length_byte.ensures (search picks depth 20)
 
 pub returns-then-address : goal.returns-then-address
 unfolding user_byte

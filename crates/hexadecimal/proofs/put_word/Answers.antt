@@ -15,4 +15,4 @@ returns c =
     let high = c.put_byte-low in
     let a = c.args in
     low.ensures
-    ∙ behind a.text.now high.last.0 (hex_text (a.n / 256 ∷ [])) (hex_text (a.n % 256 ∷ [])) a.at high.result (omega arith) high.ensures
+    ∙ behind a.text.now high.new.text (hex_text (a.n / 256 ∷ [])) (hex_text (a.n % 256 ∷ [])) a.at high.result (omega arith) high.ensures

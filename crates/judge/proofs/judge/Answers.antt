@@ -32,7 +32,7 @@ returns-in-Error c =
     
     
     
-    rw (judge_muted, ← c.is_silent.ensures, c.if-is_silent.false, ← c.first_error.ensures, c.in-Error.is, c.error_of_lem.ensures)
+    rw (judge_muted, ← c.is_silent.ensures, c.if-is_silent.false, ← c.first_error.ensures, c.in-Error.is, c.error_of.ensures)
 
 pub returns-in-Request : goal.returns-in-Request
 unfolding muted pick

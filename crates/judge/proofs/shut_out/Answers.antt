@@ -8,4 +8,4 @@ returns-then-is_silent c = rw (← c.is_silent.ensures) (search picks depth 20)
 
 pub returns : goal.returns
 unfolding shut_out
-returns c = rw (c.error_of_lem.ensures, ← c.is_silent.ensures) (search picks depth 20)
+returns c = rw (c.error_of.ensures, ← c.is_silent.ensures) (search picks depth 20)

@@ -51,10 +51,10 @@ pub returns-then-not-all_in_range : goal.returns-then-not-all_in_range
 unfolding judgement first_says pick
 returns-then-not-all_in_range c =
     let a = c.args in
-    rw (sizes_at a.number a.s.now, lt-ltb 16 a.number c.if-n-le-MOST_TAGS.false, ← c.all_in_range_lem.ensures, ← c.all_decode.ensures, ← c.signal_in_range.ensures) (search picks depth 20)
+    rw (sizes_at a.number a.s.now, lt-ltb 16 a.number c.if-n-le-MOST_TAGS.false, ← c.all_in_range.ensures, ← c.all_decode.ensures, ← c.signal_in_range.ensures) (search picks depth 20)
 
 pub returns : goal.returns
 unfolding judgement first_says pick
 returns c =
     let a = c.args in
-    rw (sizes_at a.number a.s.now, tags_number a.number a.s.now, lt-ltb 16 a.number c.if-n-le-MOST_TAGS.false, or_second (eqb a.number 0) true refl, ← c.all_in_range_lem.ensures, ← c.all_decode.ensures, ← c.signal_in_range.ensures) (search picks depth 20)
+    rw (sizes_at a.number a.s.now, tags_number a.number a.s.now, lt-ltb 16 a.number c.if-n-le-MOST_TAGS.false, or_second (eqb a.number 0) true refl, ← c.all_in_range.ensures, ← c.all_decode.ensures, ← c.signal_in_range.ensures) (search picks depth 20)

@@ -20,5 +20,5 @@ returns c =
     
     
     let a = c.args in
-    said (length_of a.v a.m.now) _ (good (c.length_byte_lem.result ∷ [])) c.byte.ensures
-    (rw c.length_byte_lem.ensures (search picks depth 20))
+    said (length_of a.v a.m.now) _ (good (c.length_byte.result ∷ [])) c.byte.ensures
+    (rw c.length_byte.ensures (search picks depth 20))

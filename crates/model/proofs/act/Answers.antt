@@ -10,7 +10,7 @@ returns-in-Wire c =
     
     let a = c.args in
     rw c.in-Wire.is
-    (ap (λ (e : FreshResult). step_result e.answer e.tag e.memory a.out.now) c.by_wire_lem.ensures)
+    (ap (λ (e : FreshResult). step_result e.answer e.tag e.memory a.out.now) c.by_wire.ensures)
 
 -- src/lib.rt:159:1
 pub returns-in-Field : goal.returns-in-Field

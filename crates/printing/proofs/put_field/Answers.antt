@@ -26,5 +26,5 @@ returns c =
     let t = c.put_mark-name in
     let room : length o ≤ last_place = omega arith in
     c.put_name.ensures
-    ∙ behind o t.last.0 (0x09 ∷ []) (name_at a.rule) a.at t.result room t.ensures
+    ∙ behind o t.new.text (0x09 ∷ []) (name_at a.rule) a.at t.result room t.ensures
     ∙ ap (λ (l : List ℕ). text_at o a.at l) (field_parts a.rule c.if-rule-eq0.false)

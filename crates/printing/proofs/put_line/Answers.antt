@@ -30,12 +30,12 @@ returns c =
     let w = c.put_answer-field in
     let f = c.put_field-end in
     let room : length o ≤ last_place = omega arith in
-    let to-tab = t.ensures ∙ behind o n.last.0 d (0x09 ∷ []) 0 n.result room n.ensures in
-    let to-answer = w.ensures ∙ behind o t.last.0 (d ++ 0x09 ∷ []) x 0 t.result room to-tab in
-    let to-field = f.ensures ∙ behind o w.last.1.1.0 ((d ++ 0x09 ∷ []) ++ x) y 0 w.result room to-answer in
-    let e : stored end.result end.new.0 ≡ text_at o 0 (line_text a.number (x ++ y)) =
+    let to-tab = t.ensures ∙ behind o n.new.text d (0x09 ∷ []) 0 n.result room n.ensures in
+    let to-answer = w.ensures ∙ behind o t.new.text (d ++ 0x09 ∷ []) x 0 t.result room to-tab in
+    let to-field = f.ensures ∙ behind o w.new.text ((d ++ 0x09 ∷ []) ++ x) y 0 w.result room to-answer in
+    let e : stored end.result end.new.text ≡ text_at o 0 (line_text a.number (x ++ y)) =
     end.ensures
-    ∙ behind o f.last.0 (((d ++ 0x09 ∷ []) ++ x) ++ y) (0x0A ∷ []) 0 f.result room to-field
+    ∙ behind o f.new.text (((d ++ 0x09 ∷ []) ++ x) ++ y) (0x0A ∷ []) 0 f.result room to-field
     ∙ ap (λ (l : List ℕ). text_at o 0 l) (line_parts a.number x y) in
     let k : length a.out.now ≡ 643 = search rules in
     record { value = omega (arith, ap (λ (s : Stored). s.next) e, length_line a.number (x ++ y), length-append x y, digits_most 20 a.number, answer_most a.said a.out.now k, field_most a.rule); text_after = ap (λ (s : Stored). s.buffer) e }

@@ -45,7 +45,7 @@ returns-then-not-all_in_range c =
     
     
     
-    rw (counted c, ← c.signal_in_range.ensures, ← c.all_in_range_lem.ensures) (search picks depth 20)
+    rw (counted c, ← c.signal_in_range.ensures, ← c.all_in_range.ensures) (search picks depth 20)
 
 pub returns-then-n-eq0 : goal.returns-then-n-eq0
 unfolding judgement first_says
@@ -53,7 +53,7 @@ returns-then-n-eq0 c =
     
     
     
-    rw (counted c, ← c.signal_in_range.ensures, ← c.all_in_range_lem.ensures) (search picks depth 20)
+    rw (counted c, ← c.signal_in_range.ensures, ← c.all_in_range.ensures) (search picks depth 20)
 
 pub returns-then-to_all-n : goal.returns-then-to_all-n
 unfolding judgement first_says
@@ -62,7 +62,7 @@ returns-then-to_all-n c =
     
     
     
-    rw (counted c, ← c.signal_in_range.ensures, ← c.all_in_range_lem.ensures, ← c.to_all.ensures) (search picks depth 20)
+    rw (counted c, ← c.signal_in_range.ensures, ← c.all_in_range.ensures, ← c.to_all.ensures) (search picks depth 20)
 
 pub returns-then-equal_uids : goal.returns-then-equal_uids
 unfolding judgement first_says
@@ -72,7 +72,7 @@ returns-then-equal_uids c =
     
     
     
-    rw (counted c, ← c.signal_in_range.ensures, ← c.all_in_range_lem.ensures, ← c.to_all.ensures, ← c.equal_uids.ensures) (search picks depth 20)
+    rw (counted c, ← c.signal_in_range.ensures, ← c.all_in_range.ensures, ← c.to_all.ensures, ← c.equal_uids.ensures) (search picks depth 20)
 
 pub returns : goal.returns
 unfolding judgement first_says
@@ -82,4 +82,4 @@ returns c =
     
     
     
-    rw (counted c, ← c.signal_in_range.ensures, ← c.all_in_range_lem.ensures, ← c.to_all.ensures, ← c.equal_uids.ensures) (search picks depth 20)
+    rw (counted c, ← c.signal_in_range.ensures, ← c.all_in_range.ensures, ← c.to_all.ensures, ← c.equal_uids.ensures) (search picks depth 20)

@@ -19,7 +19,7 @@ returns-then-answered c =
     let t = c.put_mark-digits in
     let room : length o ≤ last_place = omega arith in
     c.put_decimal.ensures
-    ∙ behind o t.last.0 (a.mark ∷ []) (decimal a.n) a.at t.result room t.ensures
+    ∙ behind o t.new.text (a.mark ∷ []) (decimal a.n) a.at t.result room t.ensures
     ∙ ap (λ (l : List ℕ). text_at o a.at l) (pick_true (a.mark ∷ decimal a.n) [] (a.mark ∷ decimal a.n) a.answered c.if-answered.true refl)
 
 pub returns : goal.returns

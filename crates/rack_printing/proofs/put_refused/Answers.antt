@@ -21,5 +21,5 @@ returns c =
     let t = c.put_mark-digits in
     let room : length o ≤ last_place = omega arith in
     c.put_decimal.ensures
-    ∙ behind o t.last.0 (0x21 ∷ []) (decimal n.result) a.at t.result room t.ensures
+    ∙ behind o t.new.text (0x21 ∷ []) (decimal n.result) a.at t.result room t.ensures
     ∙ ap (λ (k : ℕ). text_at o a.at (0x21 ∷ decimal k)) n.ensures

@@ -33,11 +33,11 @@ loop-i-preserved c =
     let t = pick one (l.mark ∷ decimal l.i) [] in
     let rest = numbers_from (l.i + 1) (drop (l.i + 1) a.t3) in
     let room : length l.text ≤ last_place = omega arith in (
-      ap (λ (m : ℕ). text_at p.last.0 p.result (numbers_text m rest)) c.next_mark-mark.ensures
-          ∙ behind l.text p.last.0 t (numbers_text (pick one 0x2C l.mark) rest) l.to p.result room p.ensures
+      ap (λ (m : ℕ). text_at p.new.text p.result (numbers_text m rest)) c.next_mark-mark.ensures
+          ∙ behind l.text p.new.text t (numbers_text (pick one 0x2C l.mark) rest) l.to p.result room p.ensures
           ∙ ap (λ (s : List ℕ). text_at l.text l.to s) (sym (report_more a.t3 l.i l.mark (omega arith)))
           ∙ l.invariant.0,
-      (omega arith, (omega (arith, ap (λ (s : Stored). s.next) p.ensures), same_room l.text p.last.0 t l.to p.result p.ensures ∙ l.invariant.1.1.1)),
+      (omega arith, (omega (arith, ap (λ (s : Stored). s.next) p.ensures), same_room l.text p.new.text t l.to p.result p.ensures ∙ l.invariant.1.1.1)),
     )
 
 pub shape_of-text : goal.shape_of-text

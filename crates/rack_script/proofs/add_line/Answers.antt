@@ -25,7 +25,7 @@ returns c =
     let w = c.add-next in
     let u = c.uid_of-uid in
     let st = rack_state a.bench a.m.now a.reply.now in
-    c.none_line.ensures w.new.1.0
+    c.none_line.ensures w.new.m
     ∙ ap (λ (r : RackAdded). stores_line (numbered (rack_state r.bench r.memory a.reply.now) none_text) a.text.now)
     (w.ensures ∙ ap (λ (x : Uid). added_tag x a.bench a.m.now) u.ensures)
     ∙ ap (λ (r : LineAnswer RackState). stores_line r a.text.now)

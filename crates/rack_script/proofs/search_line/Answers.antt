@@ -15,5 +15,5 @@ returns c =
     let t = c.search-o in
     let l = c.memory_length-end in
     let a = c.args in
-    search_stored a.bench a.m.now a.reply.now a.text.now t.result.tags t.new.1.1.0 t.new.1.1.1.0 p.new.0 l.result n.result p.result
+    search_stored a.bench a.m.now a.reply.now a.text.now t.result.tags t.new.memory t.new.out p.new.text l.result n.result p.result
     l.ensures.value t.ensures.tags_value n.ensures a.frame.now t.result.answer t.ensures.out_after p.ensures.value p.ensures.text_after

@@ -3,4 +3,4 @@ use Rattle.refusals.proofs.in_range.Goals as goal
 
 pub returns : goal.returns
 unfolding tag_in_range
-returns c = rw (c.bus_in_range.ensures, c.in_range_lem.ensures)
+returns c = rw (c.bus_in_range.ensures, c.in_range.ensures)

@@ -8,7 +8,7 @@ unfolding first_says error_applies first_applying
 returns-then-first-ge-BLOCKS c dynamic busy =
     
     
-    rw (← c.param-first.ensures, ← c.more_blocks_lem.ensures) (search picks depth 20)
+    rw (← c.param-first.ensures, ← c.more_blocks.ensures) (search picks depth 20)
 
 pub returns-then-leaves_area : goal.returns-then-leaves_area
 unfolding first_says error_applies first_applying
@@ -16,7 +16,7 @@ returns-then-leaves_area c dynamic busy =
     
     
     
-    rw (← c.param-first.ensures, ← c.more_blocks_lem.ensures, ← c.leaves_area.ensures) (search picks depth 20)
+    rw (← c.param-first.ensures, ← c.more_blocks.ensures, ← c.leaves_area.ensures) (search picks depth 20)
 
 pub returns-then-not-may_read : goal.returns-then-not-may_read
 unfolding first_says error_applies first_applying
@@ -25,7 +25,7 @@ returns-then-not-may_read c dynamic busy =
     
     
     
-    rw (← c.param-first.ensures, ← c.more_blocks_lem.ensures, ← c.leaves_area.ensures, ← c.may_read_lem.ensures) (search picks depth 20)
+    rw (← c.param-first.ensures, ← c.more_blocks.ensures, ← c.leaves_area.ensures, ← c.may_read.ensures) (search picks depth 20)
 
 pub returns : goal.returns
 unfolding first_says error_applies first_applying
@@ -34,4 +34,4 @@ returns c dynamic busy =
     
     
     
-    rw (← c.param-first.ensures, ← c.more_blocks_lem.ensures, ← c.leaves_area.ensures, ← c.may_read_lem.ensures) (search picks depth 20)
+    rw (← c.param-first.ensures, ← c.more_blocks.ensures, ← c.leaves_area.ensures, ← c.may_read.ensures) (search picks depth 20)

@@ -25,4 +25,4 @@ returns-in-Numbered c =
     let mark = c.put_mark-number in
     let room : length o ≤ last_place = omega arith in
     rw c.in-Numbered.is
-    (c.put_decimal.ensures ∙ behind o mark.last.0 (0x20 ∷ []) (decimal _) a.at mark.result room mark.ensures)
+    (c.put_decimal.ensures ∙ behind o mark.new.text (0x20 ∷ []) (decimal _) a.at mark.result room mark.ensures)

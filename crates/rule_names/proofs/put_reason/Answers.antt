@@ -26,7 +26,7 @@ returns-in-SessionNeeded c =
     let words : name_at number.result ≡ string_bytes (reason_words a.reason) = ap name_at number.ensures ∙ reason_named a.reason in
     let room : length o ≤ last_place = omega arith in
     rw (← words, c.in-SessionNeeded.is)
-    (c.put_key.ensures ∙ behind o name.last.0 (name_at number.result) (key_text _) a.at name.result room name.ensures)
+    (c.put_key.ensures ∙ behind o name.new.text (name_at number.result) (key_text _) a.at name.result room name.ensures)
 
 pub returns-in_default : goal.returns-in_default
 unfolding reason_text

@@ -21,9 +21,9 @@ returns-then-c c =
     let o = c.bad_line in
     let bad = bad_result a.bench a.m.now a.reply.now in
     let p : bad ≡ bench_of a.named a.bench a.m.now a.reply.now a.s.now =
-    pick_true bad (bench_call a.named a.bench a.m.now a.reply.now k.code k.value (take k.length g.last.1.0)) bad k.bad c.if-c.true refl
+    pick_true bad (bench_call a.named a.bench a.m.now a.reply.now k.code k.value (take k.length g.new.frame)) bad k.bad c.if-c.true refl
     ∙ g.ensures.frame_after a.named a.bench a.m.now a.reply.now in
-    let e : line_buffers o.result.bench o.result.length a.m.now a.reply.now o.new.1.1.0 ≡ put_line (bench_of a.named a.bench a.m.now a.reply.now a.s.now) a.text.now =
+    let e : line_buffers o.result.bench o.result.length a.m.now a.reply.now o.new.m ≡ put_line (bench_of a.named a.bench a.m.now a.reply.now a.s.now) a.text.now =
     o.ensures a.m.now ∙ ap (λ (x : LineResult). put_line x a.text.now) p in
     record { text_after = e; length_le_longest_text = omega (arith, ap (λ (x : LineBuffers). x.length) e, text_fits a.named (bench_state a.bench a.m.now a.reply.now) a.s.now); frame_after = g.ensures.frame_after_2 }
 
@@ -41,12 +41,12 @@ returns c =
     let g = c.arguments_of-c in
     let k = g.result in
     let o = c.call in
-    let said = bench_call a.named a.bench a.m.now a.reply.now k.code k.value (take k.length g.new.1.0) in
+    let said = bench_call a.named a.bench a.m.now a.reply.now k.code k.value (take k.length g.new.frame) in
     let p : said ≡ bench_of a.named a.bench a.m.now a.reply.now a.s.now =
     pick_false (bad_result a.bench a.m.now a.reply.now) said said k.bad c.if-c.false refl
     ∙ g.ensures.frame_after a.named a.bench a.m.now a.reply.now in
-    let e : line_buffers o.result.bench o.result.length o.new.1.1.0 o.new.1.1.1.0 o.new.1.1.1.1.1.1.1.0 ≡ put_line (bench_of a.named a.bench a.m.now a.reply.now a.s.now) a.text.now =
+    let e : line_buffers o.result.bench o.result.length o.new.m o.new.reply o.new.text ≡ put_line (bench_of a.named a.bench a.m.now a.reply.now a.s.now) a.text.now =
     o.ensures
-    ∙ ap (λ (n : ℕ). put_line (bench_call a.named a.bench a.m.now a.reply.now k.code k.value (take n g.new.1.0)) a.text.now) (sub-zero k.length)
+    ∙ ap (λ (n : ℕ). put_line (bench_call a.named a.bench a.m.now a.reply.now k.code k.value (take n g.new.frame)) a.text.now) (sub-zero k.length)
     ∙ ap (λ (x : LineResult). put_line x a.text.now) p in
     record { text_after = e; length_le_longest_text = omega (arith, ap (λ (x : LineBuffers). x.length) e, text_fits a.named (bench_state a.bench a.m.now a.reply.now) a.s.now); frame_after = g.ensures.frame_after_2 }

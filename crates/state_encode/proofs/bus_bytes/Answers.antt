@@ -9,7 +9,7 @@ pub returns-in-Started : goal.returns-in-Started
 unfolding bus_bytes
 returns-in-Started c =
     
-    rw (c.transfer_byte_lem.ensures, c.flag_byte_lem.ensures, c.is_open_transfer.ensures, c.in-Started.is)
+    rw (c.transfer_byte.ensures, c.flag_byte.ensures, c.is_open_transfer.ensures, c.in-Started.is)
 
 pub returns-in-ReadLeg : goal.returns-in-ReadLeg
 unfolding bus_bytes

@@ -7,4 +7,4 @@ unfolding bytes_at air_bytes
 returns c =
     
     
-    rw (c.put_bytes.ensures, c.radio_number.ensures, c.flag_byte_lem.ensures)
+    rw (c.put_bytes.ensures, c.radio_number.ensures, c.flag_byte.ensures)

@@ -10,4 +10,4 @@ returns c =
     
     
     
-    rw (c.put_bytes.ensures, c.flag_byte-5.ensures, c.flag_byte-4.ensures, c.flag_byte-3.ensures, c.flag_byte-2.ensures, c.flag_byte_lem.ensures)
+    rw (c.put_bytes.ensures, c.flag_byte-5.ensures, c.flag_byte-4.ensures, c.flag_byte-3.ensures, c.flag_byte-2.ensures, c.flag_byte.ensures)

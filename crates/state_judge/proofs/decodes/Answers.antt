@@ -3,4 +3,4 @@ use Rattle.state_judge.proofs.decodes.Goals as goal
 
 pub returns : goal.returns
 unfolding decodes
-returns c = rw (c.mailbox_decodes_lem.ensures, c.host_decodes_lem.ensures, c.air_decodes_lem.ensures)
+returns c = rw (c.mailbox_decodes.ensures, c.host_decodes.ensures, c.air_decodes.ensures)

@@ -8,7 +8,6 @@ returns-in-Plain c = rw (← c.row_of-row.ensures, c.in-Plain.is)
 pub returns-in-AreaEnd : goal.returns-in-AreaEnd
 unfolding end_allows
 returns-in-AreaEnd c =
-    
     rw (c.end_accepted.ensures, ← c.row_of-row.ensures, c.in-AreaEnd.is)
 
 pub returns-in-MailboxMode : goal.returns-in-MailboxMode

@@ -5,11 +5,6 @@ use Rattle.block_bytes.proofs.put_block.Goals as goal
 
 pub returns-then-option : goal.returns-then-option
 returns-then-option c =
-    
-    
-    
-    
-    
     let h = c.if-option.true in
     let a = c.args in
     record { value = sym (length_with a.c.registers a.session a.m.now a.option a.block h); part_after = c.put_bytes.ensures
@@ -18,9 +13,6 @@ returns-then-option c =
 
 pub returns : goal.returns
 returns c =
-    
-    
-    
     let h = c.if-option.false in
     let a = c.args in
     record { value = sym (length_plain a.c.registers a.session a.m.now a.option a.block h); part_after = c.put_bytes-2.ensures

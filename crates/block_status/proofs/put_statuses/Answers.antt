@@ -15,10 +15,6 @@ loop-k-init c = (omega arith, (refl, refl))
 
 pub loop-k-preserved : goal.loop-k-preserved
 loop-k-preserved c =
-    
-    
-    
-    
     let l = c.loop-k in
     let a = c.args in
     let done = statuses_of a.c.registers a.session a.first l.k in

@@ -13,19 +13,12 @@ use Rattle.block_status.proofs.status.Goals as goal
 pub returns-then-first-ge-BLOCKS : goal.returns-then-first-ge-BLOCKS
 unfolding status_reply
 returns-then-first-ge-BLOCKS c =
-    
-    
     let a = c.args in
     said (status_reply a.v a.m.now a.first a.more) _ (fault NoSuchBlock) c.error-answer.ensures (search picks depth 20)
 
 pub returns : goal.returns
 unfolding status_reply
 returns c =
-    
-    
-    
-    
-    
     let a = c.args in
     let n = c.lesser-n.result in
     let statuses = statuses_of a.v.core.registers a.v.air.session a.first n in

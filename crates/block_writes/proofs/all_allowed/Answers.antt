@@ -13,8 +13,6 @@ loop-k-init c = (omega arith, refl)
 pub loop-k-preserved : goal.loop-k-preserved
 unfolding all_allowed
 loop-k-preserved c =
-    
-    
     let l = c.loop-k in
     let a = c.args in
     let one = c.is_allowed-one.ensures ∙ ap is_allowed c.verdict-verdict.ensures in
@@ -23,7 +21,6 @@ loop-k-preserved c =
 pub returns : goal.returns
 returns c =
     let l = c.loop-k in
-    
     let a = c.args in
     let e : l.k ≡ a.more + 1 = omega arith in
     l.invariant.1 ∙ ap (all_allowed a.c a.session a.first) e

@@ -9,17 +9,12 @@ use Rattle.block_writes.proofs.lock.Goals as goal
 pub returns-then-block-gt1 : goal.returns-then-block-gt1
 unfolding lock_of
 returns-then-block-gt1 c =
-    
-    
     let a = c.args in
     said (lock_of a.v a.m.now a.block) _ (fault NotLockable) c.error-answer.ensures (search picks depth 20)
 
 pub returns-then-is_locked : goal.returns-then-is_locked
 unfolding lock_of
 returns-then-is_locked c =
-    
-    
-    
     let a = c.args in
     said (lock_of a.v a.m.now a.block) _ (fault AlreadyLocked) c.error-answer-then-is_locked.ensures
     (rw (← c.is_locked.ensures) (search picks depth 20))
@@ -27,12 +22,6 @@ returns-then-is_locked c =
 pub returns : goal.returns
 unfolding lock_of
 returns c =
-    
-    
-    
-    
-    
-    
     let a = c.args in
     said (lock_of a.v a.m.now a.block) _ (good []) c.done-answer.ensures
     (rw (c.with_registers-next.ensures, c.write_to.ensures, c.keep.ensures, ← c.is_locked.ensures) (search picks depth 20))

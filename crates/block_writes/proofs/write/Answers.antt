@@ -14,25 +14,18 @@ use Rattle.block_writes.proofs.write.Goals as goal
 pub returns-then-more-gt3 : goal.returns-then-more-gt3
 unfolding write_of
 returns-then-more-gt3 c =
-    
-    
     let a = c.args in
     said (write_of a.v a.m.now a.first a.more a.frame.now a.at) _ (fault TooManyBlocks) c.error-answer.ensures (search picks depth 20)
 
 pub returns-then-first-ge-BLOCKS : goal.returns-then-first-ge-BLOCKS
 unfolding write_of
 returns-then-first-ge-BLOCKS c =
-    
-    
     let a = c.args in
     said (write_of a.v a.m.now a.first a.more a.frame.now a.at) _ (fault NoSuchBlock) c.error-answer-then-first-ge-BLOCKS.ensures (search picks depth 20)
 
 pub returns-then-leaves_area : goal.returns-then-leaves_area
 unfolding write_of
 returns-then-leaves_area c =
-    
-    
-    
     let a = c.args in
     said (write_of a.v a.m.now a.first a.more a.frame.now a.at) _ (fault WriteLeavesArea) c.error-answer-then-leaves_area.ensures
     (rw (← c.leaves_area.ensures) (search picks depth 20))
@@ -40,12 +33,7 @@ returns-then-leaves_area c =
 pub returns-then-not-all_allowed : goal.returns-then-not-all_allowed
 unfolding write_of
 returns-then-not-all_allowed c =
-    
-    
-    
-    
     let a = c.args in
-    
     let within = inside _ _ _ (sym c.leaves_area.ensures ∙ c.if-leaves_area.false) in
     let may = writes_by_verdict a.v.core a.v.air.session a.first (a.more + 1) (omega (arith, within)) ∙ sym c.all_allowed.ensures in
     said (write_of a.v a.m.now a.first a.more a.frame.now a.at) _ (fault WriteForbidden) c.error-answer-then-not-all_allowed.ensures
@@ -54,13 +42,7 @@ returns-then-not-all_allowed c =
 pub returns : goal.returns
 unfolding write_of
 returns c =
-    
-    
-    
-    
-    
     let a = c.args in
-    
     let within = inside _ _ _ (sym c.leaves_area.ensures ∙ c.if-leaves_area.false) in
     let may = writes_by_verdict a.v.core a.v.air.session a.first (a.more + 1) (omega (arith, within)) ∙ sym c.all_allowed.ensures in
     said (write_of a.v a.m.now a.first a.more a.frame.now a.at) _ (good []) c.done-answer.ensures

@@ -17,9 +17,6 @@ loop-k-init c = (omega arith, (refl, (refl, refl)))
 
 pub overflow_add-at : goal.overflow_add-at
 overflow_add-at c =
-    
-    
-    
     let l = c.loop-k in
     let a = c.args in
     let h : c.put_block_at-at.result ≤ 5 = subst (λ (n : ℕ). n ≤ 5) (sym c.put_block_at-at.ensures.value) (block_le _ _ _ _ _) in
@@ -27,9 +24,6 @@ overflow_add-at c =
 
 pub loop-k-preserved : goal.loop-k-preserved
 loop-k-preserved c =
-    
-    
-    
     let l = c.loop-k in
     let a = c.args in
     let done = blocks_of a.c.registers a.session a.m.now a.option a.first l.k in
@@ -58,7 +52,6 @@ shape_of-out c = c.loop-k.invariant.1.1.1
 
 pub returns : goal.returns
 returns c =
-    
     let l = c.loop-k in
     let a = c.args in
     let e : l.k ≡ a.n = omega arith in

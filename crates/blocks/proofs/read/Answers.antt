@@ -12,17 +12,12 @@ use Rattle.blocks.proofs.read.Goals as goal
 pub returns-then-above : goal.returns-then-above
 unfolding read_of
 returns-then-above c =
-    
-    
     let a = c.args in
     said (read_of a.v a.m.now a.option a.first a.more) _ (fault NoSuchBlock) c.error-answer.ensures (search picks depth 20)
 
 pub returns-then-leaving : goal.returns-then-leaving
 unfolding read_of
 returns-then-leaving c =
-    
-    
-    
     let a = c.args in
     said (read_of a.v a.m.now a.option a.first a.more) _ (fault ReadLeavesArea) c.error-answer-then-leaving.ensures
     (rw (← c.leaves_area-leaving.ensures) (search picks depth 20))
@@ -30,10 +25,6 @@ returns-then-leaving c =
 pub returns-then-not-may_read : goal.returns-then-not-may_read
 unfolding read_of
 returns-then-not-may_read c =
-    
-    
-    
-    
     let a = c.args in
     said (read_of a.v a.m.now a.option a.first a.more) _ (fault ReadProtected) c.error-answer-then-not-may_read.ensures
     (rw (← c.leaves_area-leaving.ensures, ← c.may_read.ensures) (search picks depth 20))
@@ -41,12 +32,6 @@ returns-then-not-may_read c =
 pub returns : goal.returns
 unfolding read_of
 returns c =
-    
-    
-    
-    
-    
-    
     let a = c.args in
     let blocks = blocks_of a.v.core.registers a.v.air.session a.m.now a.option a.first (a.more + 1) in
     said (read_of a.v a.m.now a.option a.first a.more) _ (good blocks)

@@ -10,16 +10,10 @@ use Rattle.capi.proofs.st25dv_fresh.Goals as goal
 pub returns-in-RefusedBy : goal.returns-in-RefusedBy
 unfolding fresh_call unless_refused
 returns-in-RefusedBy c =
-    
     rw (c.number.ensures, sym c.fresh_call_refusal-judged.ensures ∙ c.in-RefusedBy.is)
 
 pub returns-in-NoRefusal : goal.returns-in-NoRefusal
 returns-in-NoRefusal c =
-    
-    
-    
-    
-    
     let a = c.args in
     let o = c.fresh-o in
     freshened a.uid.now a.m.now a.s.now (fresh_result o.result.answer o.result.tag o.new.m) c.answer_number.result c.keep.new.s

@@ -11,7 +11,6 @@ use Rattle.capi.proofs.st25dv_step.Goals as goal
 pub returns-in-RefusedBy : goal.returns-in-RefusedBy
 unfolding step_call unless_refused
 returns-in-RefusedBy c =
-    
     rw (c.number.ensures, sym c.step_refusal-judged.ensures ∙ c.in-RefusedBy.is)
 
 pub returns-in-NoRefusal : goal.returns-in-NoRefusal

@@ -20,12 +20,6 @@ returns-in-RefusedBy c =
 
 pub returns-in-NoRefusal : goal.returns-in-NoRefusal
 returns-in-NoRefusal c =
-    
-    
-    
-    
-    
-    
     let a = c.args in
     let o = c.search-o in
     searched a.number a.s.now a.m.now a.out.now a.frame.now o.result.answer o.result.tags o.new.memory o.new.out c.encode_tags.new.s

@@ -22,12 +22,6 @@ returns-in-RefusedBy c =
 
 pub returns-in-NoRefusal : goal.returns-in-NoRefusal
 returns-in-NoRefusal c =
-    
-    
-    
-    
-    
-    
     let a = c.args in
     let o = c.step-o in
     let call = rack_call (handed_in a.out.now a.code a.value a.frame.now) a.to in

@@ -10,37 +10,30 @@ use Rattle.parts.proofs.Below.{are_below}
 use Rattle.rack.specs.Rack.{rack_of}
 use Rattle.rack.specs.Step.{rack_entry}
 use Rattle.rack_search.specs.declared.SearchAnswer.{SearchAnswer}
-use Rattle.rack_search.specs.declared.SearchAnswer.TheVariants.{Collision}
+use Rattle.rack_search.specs.declared.SearchAnswer.TheVariants.{NoCollision, Collision}
 use Rattle.rack_search.specs.Search.{sends_frame, search_result, look}
 use Rattle.rack_search.proofs.Search.{formed_of}
 use Rattle.collision_search.proofs.Slots.{count, Counted, none_counted, on_silence, on_first, on_second, at_end, Looking, looking_first, none_left, collided, looking_next}
 use borrow.Author.Rules.{rules}
 use Rattle.collision_search.proofs.look_into.Goals as goal
 
--- ---- the frame is bytes, and sixteen tags may have answered
-bytes : (c : tie.After-shared-slice-known invariant-loop decreases-loop invariant-search decreases-search) → are_bytes c.before.before.before.args.frame.now ≡ true
-bytes c = are_below _ (λ i. let p = c.shared-slice-known.given i in omega (arith, p))
-
-noted : (c : tie.After-open-slot invariant-loop decreases-loop invariant-search decreases-search) → length c.open-slot.result.heard.answered ≡ 16
-noted c = search rules
-
 -- a slot in which fewer than two answered, and one in which two did
 fewer : (c : tie.After-open-slot invariant-loop decreases-loop invariant-search decreases-search) → count c.open-slot.result.heard.answered < 2
     → let a = c.before.before.before.before.before.before.before.before.args in
     let call = c.open-slot in
-    Looking a.number a.slots a.frame.now a.tags a.memory.now a.out.now (suc c.before.before.before.before.search.slot) call.result.tags call.new.memory call.new.out
+    Looking a.number a.slots a.frame.now a.tags a.memory.now a.out.now (suc c.before.before.before.before.search.slot) call.result.tags call.new.1.1.0 call.new.1.1.1.0
 fewer c less =
     let s = c.before.before.before.before.search in
     let start = c.before.before.before.before.before.before.before.before in
     let a = start.args in
     let call = c.open-slot in
     looking_next a.number a.slots a.frame.now start.requires.0 (bytes c.before.before.before.before.before) a.tags a.memory.now a.out.now s.slot s.left s.memory s.out s.invariant.1
-    call.result.heard call.result.tags call.new.memory call.new.out call.ensures c.before.before.before.search-test.true less call.auto.memory call.auto.out
+    call.result.heard call.result.tags call.new.1.1.0 call.new.1.1.1.0 call.ensures c.before.before.before.search-test.true less call.auto.1.1.0 call.auto.1.1.1.0
 
 two : (c : tie.After-open-slot invariant-loop decreases-loop invariant-search decreases-search) → 2 ≤ count c.open-slot.result.heard.answered
     → let a = c.before.before.before.before.before.before.before.before.args in
     let call = c.open-slot in
-    (search_result (Collision c.before.before.before.before.search.slot) (rack_of (take a.number call.result.tags) call.new.memory) call.new.out
+    (search_result (Collision c.before.before.before.before.search.slot) (rack_of (take a.number call.result.tags) call.new.1.1.0) call.new.1.1.1.0
     ≡ look rack_entry a.slots 0 (rack_of (take a.number a.tags) a.memory.now) (sends_frame a.out.now a.frame.now))
     × (drop a.number call.result.tags ≡ drop a.number a.tags)
 two c enough =
@@ -49,11 +42,10 @@ two c enough =
     let a = start.args in
     let call = c.open-slot in
     collided a.number a.slots a.frame.now start.requires.0 (bytes c.before.before.before.before.before) a.tags a.memory.now a.out.now s.slot s.left s.memory s.out s.invariant.1
-    call.result.heard call.result.tags call.new.memory call.new.out call.ensures c.before.before.before.search-test.true enough
+    call.result.heard call.result.tags call.new.1.1.0 call.new.1.1.1.0 call.ensures c.before.before.before.search-test.true enough
 
 pub search-init : goal.search-init
 search-init c =
-    
     let a = c.args in
     let e : length a.tags ≡ 16 = search rules in
     let p = formed_of (rack_of (take a.number a.tags) a.memory.now) a.out.now c.requires.1 in
@@ -64,27 +56,27 @@ loop-i-init c = (c.search.invariant.0, none_counted _)
 
 pub loop-i-preserved : goal.loop-i-preserved
 loop-i-preserved c =
+    let noted_here : length c.open_slot-opened.result.heard.answered ≡ 16 = search rules in
     let l = c.loop-i in
-    
     let bs = c.open_slot-opened.result.heard.answered in
     let within : l.i < 16 = omega arith in
     let next : Counted bs c.if-answered-i.seen (suc l.i) = ⊎_elim
-    (λ p. subst (λ (b : Bool). Counted bs b (suc l.i)) (sym p.2) (on_first bs l.seen l.i (noted c) l.invariant.1 within p.0.true p.1.left))
-    (λ p. subst (λ (b : Bool). Counted bs b (suc l.i)) (sym p.1) (on_silence bs l.seen l.i (noted c) l.invariant.1 within p.0.left))
+    (λ p. subst (λ (b : Bool). Counted bs b (suc l.i)) (sym p.2) (on_first bs l.seen l.i noted_here l.invariant.1 within p.0.true p.1.left))
+    (λ p. subst (λ (b : Bool). Counted bs b (suc l.i)) (sym p.1) (on_silence bs l.seen l.i noted_here l.invariant.1 within p.0.left))
     c.if-answered-i.branch in
     (l.invariant.0, subst (Counted bs c.if-answered-i.seen) (sym (add-one l.i)) next)
 
 pub search-preserved : goal.search-preserved
 search-preserved c =
+    let noted_here : length c.open_slot-opened.result.heard.answered ≡ 16 = search rules in
     let l = c.loop-i in
-    
     let bs = c.open_slot-opened.result.heard.answered in
     let a = c.args in
     let call = c.open_slot-opened in (
       l.invariant.0,
-      subst (λ (k : ℕ). Looking a.number a.slots a.frame.now a.tags a.memory.now a.out.now k call.result.tags call.new.memory call.new.out)
+      subst (λ (k : ℕ). Looking a.number a.slots a.frame.now a.tags a.memory.now a.out.now k call.result.tags call.new.1.1.0 call.new.1.1.1.0)
           (sym (add-one c.search.slot))
-          (fewer c (at_end bs l.seen l.i (noted c) l.invariant.1 c.loop-i-test.false)),
+          (fewer c (at_end bs l.seen l.i noted_here l.invariant.1 c.loop-i-test.false)),
     )
 
 pub shape_of-memory-after-search : goal.shape_of-memory-after-search
@@ -95,11 +87,11 @@ shape_of-out-after-search c = c.search.invariant.1.reply_size
 
 pub returns-after-search : goal.returns-after-search
 returns-after-search c =
+    let bytes_here : are_bytes c.args.frame.now ≡ true = are_below _ (λ i. let p = c.shared_slice_known-1.given i in omega (arith, p)) in
     let s = c.search in
-    
     let a = c.args in
     record { out_after = ap (λ (x : SearchAnswer). search_result x (rack_of (take a.number s.left) s.memory) s.out) s.invariant.0
-          ∙ none_left a.number a.slots a.frame.now c.requires.0 (bytes c) a.tags a.memory.now a.out.now s.slot s.left s.memory s.out s.invariant.1 c.search-test.false; tags_value = s.invariant.1.others }
+          ∙ none_left a.number a.slots a.frame.now c.requires.0 bytes_here a.tags a.memory.now a.out.now s.slot s.left s.memory s.out s.invariant.1 c.search-test.false; tags_value = s.invariant.1.others }
 
 pub shape_of-memory-then-seen : goal.shape_of-memory-then-seen
 shape_of-memory-then-seen c = c.open_slot-opened.auto.memory ∙ c.search.invariant.1.size
@@ -109,8 +101,8 @@ shape_of-out-then-seen c = c.open_slot-opened.auto.out ∙ c.search.invariant.1.
 
 pub returns-then-seen : goal.returns-then-seen
 returns-then-seen c =
+    let noted_here : length c.open_slot-opened.result.heard.answered ≡ 16 = search rules in
     let l = c.loop-i in
-    
     let bs = c.open_slot-opened.result.heard.answered in
     let within : l.i < 16 = omega arith in
-    two c (on_second bs l.seen l.i (noted c) l.invariant.1 within c.if-answered-i.true c.if-seen.true)
+    two c (on_second bs l.seen l.i noted_here l.invariant.1 within c.if-answered-i.true c.if-seen.true)

@@ -7,8 +7,6 @@ use Rattle.collision_search.proofs.open_slot.Goals as goal
 
 pub returns-then-slot-eq0 : goal.returns-then-slot-eq0
 returns-then-slot-eq0 c =
-    
-    
     let a = c.args in
     c.hear_sixteen.ensures
     ∙ ap (hear_all_of 16 a.tags a.memory.now a.out.now a.frame.now) c.hear_start-heard.ensures
@@ -16,8 +14,6 @@ returns-then-slot-eq0 c =
 
 pub returns : goal.returns
 returns c =
-    
-    
     let a = c.args in
     c.hear_sixteen-2.ensures
     ∙ ap (hear_all_of 16 a.tags a.memory.now a.out.now []) c.hear_start-heard-2.ensures

@@ -17,5 +17,4 @@ returns-in-AreaEnd c = rw (← c.row_of-row.ensures, c.in-AreaEnd.is)
 pub returns-else-x-eq1 : goal.returns-else-x-eq1
 unfolding mailbox_after_write
 returns-else-x-eq1 c =
-    
     rw (c.disable.ensures, ← c.row_of-row.ensures, c.in-MailboxMode.is) (search picks depth 20)

@@ -11,19 +11,12 @@ use Rattle.config.proofs.read.Goals as goal
 pub returns-then-not-row : goal.returns-then-not-row
 unfolding read_config_of
 returns-then-not-row c =
-    
-    
-    
     let a = c.args in
     said (read_config_of a.v a.m.now a.pointer) _ (fault NoSuchRegister) c.error.ensures (rw (← ap (λ (row : RegisterRow). row.radio) c.row_of-row.ensures) (search picks depth 20))
 
 pub returns : goal.returns
 unfolding read_config_of
 returns c =
-    
-    
-    
-    
     let a = c.args in
     said (read_config_of a.v a.m.now a.pointer) _ (good (c.read-x.result ∷ [])) c.byte.ensures
     (rw (c.read-x.ensures, ← ap (λ (row : RegisterRow). row.radio) c.row_of-row.ensures) (search picks depth 20))

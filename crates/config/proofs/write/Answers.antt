@@ -9,25 +9,15 @@ use Rattle.config.proofs.write.Goals as goal
 pub returns-in-Allowed : goal.returns-in-Allowed
 unfolding config_by
 returns-in-Allowed c =
-    
-    
     let a = c.args in
     let by = config_by_verdict a.v a.m.now a.pointer a.x in
-    
-    
-    
     said (write_config_of a.v a.m.now a.pointer a.x) _ (good []) c.done.ensures
     (rw (by, ← c.verdict-verdict.ensures, c.in-Allowed.is, c.written_core-core.ensures))
 
 pub returns-in-Forbidden : goal.returns-in-Forbidden
 unfolding config_by
 returns-in-Forbidden c =
-    
-    
     let a = c.args in
     let by = config_by_verdict a.v a.m.now a.pointer a.x in
-    
-    
-    
     said (write_config_of a.v a.m.now a.pointer a.x) _ (fault c.config_error.result) c.error.ensures
     (rw (by, ← c.verdict-verdict.ensures, c.in-Forbidden.is, c.config_error.ensures))

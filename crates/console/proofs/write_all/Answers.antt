@@ -35,32 +35,26 @@ slice_bounds-write-start c = omega (arith, c.loop-done.invariant)
 
 pub returns-then-got-interrupted : goal.returns-then-got-interrupted
 returns-then-got-interrupted c = λ e.
-    
     absurd (omega (arith, e, bytes_left c))
 
 pub slice_bounds-count-count : goal.slice_bounds-count-count
 slice_bounds-count-count c =
-    
     omega (arith, c.loop-done.invariant)
 
 pub slice_bounds-count-start : goal.slice_bounds-count-start
 slice_bounds-count-start c =
-    
     omega (arith, c.loop-done.invariant)
 
 pub overflow_add-done : goal.overflow_add-done
 overflow_add-done c =
-    
     omega (arith, moved c, c.good.1.0.0)
 
 pub overflow_sub-calls : goal.overflow_sub-calls
 overflow_sub-calls c =
-    
     omega (arith, calls-left c)
 
 pub loop-done-smaller : goal.loop-done-smaller
 loop-done-smaller c =
-    
     omega (arith, calls-left c)
 
 pub loop-done-preserved : goal.loop-done-preserved

@@ -23,7 +23,6 @@ bounds-out-n-2 c = simp length-set (omega arith)
 
 pub returns : goal.returns
 returns c =
-    
     let a = c.args in
     let o = a.out.now in
     let e : c.crc-c.result ≡ crc_of (take a.n o) = c.crc-c.ensures ∙ ap (λ (k : ℕ). crc_of (take k o)) (sub-zero a.n) in

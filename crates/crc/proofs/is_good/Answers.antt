@@ -13,9 +13,6 @@ returns-then-s-lt2 c = simp (lt-leb _ _ c.if-s-lt2.true)
 pub returns : goal.returns
 unfolding good_frame
 returns c =
-    
-    
-    
     let s = c.args.s.now in
     let k = length s - 2 in
     let e : c.crc-c.result ≡ crc_of (take k s) = c.crc-c.ensures ∙ ap (λ (n : ℕ). crc_of (take n s)) (sub-zero k) in

@@ -12,13 +12,10 @@ loop-i-init c = (omega arith, refl)
 
 pub feed-c-requires : goal.feed-c-requires
 feed-c-requires c =
-    
     c.requires
 
 pub loop-i-preserved : goal.loop-i-preserved
 loop-i-preserved c =
-    
-    
     let s = c.args.s.now in (
       omega arith,
       ap (λ (x : ℕ). run x (drop (c.loop-i.i + 1) s)) c.feed-c.ensures
@@ -28,6 +25,5 @@ loop-i-preserved c =
 pub returns : goal.returns
 unfolding crc_of
 returns c =
-    
     let s = c.args.s.now in
     ap (λ (x : ℕ). bit_xor x 0xffff) (sym (run_end s c.loop-i.i c.loop-i.c (omega arith)) ∙ c.loop-i.invariant.1)

@@ -21,6 +21,5 @@ pub returns : goal.returns
 unfolding defined_only
 returns c =
     let l = c.loop-i in
-    
     let e : l.i ≡ register_count = omega arith in
     l.invariant.0 ∙ rw (e, c.to_bytes-s.ensures)

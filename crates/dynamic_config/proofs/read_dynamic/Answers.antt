@@ -9,17 +9,12 @@ use Rattle.dynamic_config.proofs.read_dynamic.Goals as goal
 pub returns-then-pointer-ne-MB_CTRL_POINTER : goal.returns-then-pointer-ne-MB_CTRL_POINTER
 unfolding read_dynamic_of
 returns-then-pointer-ne-MB_CTRL_POINTER c =
-    
-    
     let a = c.args in
     said (read_dynamic_of a.v a.m.now a.pointer) _ (fault NoSuchDynamicRegister) c.error.ensures (search picks depth 20)
 
 pub returns : goal.returns
 unfolding read_dynamic_of
 returns c =
-    
-    
-    
     let a = c.args in
     said (read_dynamic_of a.v a.m.now a.pointer) _ (good (c.control_byte-x.result ∷ [])) c.byte.ensures
     (rw c.control_byte-x.ensures (search picks depth 20))

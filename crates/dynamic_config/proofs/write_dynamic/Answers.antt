@@ -9,18 +9,12 @@ use Rattle.dynamic_config.proofs.write_dynamic.Goals as goal
 pub returns-then-pointer-ne-MB_CTRL_POINTER : goal.returns-then-pointer-ne-MB_CTRL_POINTER
 unfolding write_dynamic_of
 returns-then-pointer-ne-MB_CTRL_POINTER c =
-    
-    
     let a = c.args in
     said (write_dynamic_of a.v a.m.now a.vcc a.pointer a.x) _ (fault NoSuchDynamicRegister) c.error.ensures (search picks depth 20)
 
 pub returns : goal.returns
 unfolding write_dynamic_of
 returns c =
-    
-    
-    
-    
     let a = c.args in
     said (write_dynamic_of a.v a.m.now a.vcc a.pointer a.x) _ (good []) c.done.ensures
     (rw (c.with_mailbox-next.ensures, c.control.ensures) (search picks depth 20))

@@ -9,8 +9,6 @@ loop-at-smaller c =
 
 pub loop-at-preserved : goal.loop-at-preserved
 loop-at-preserved c =
-    
-    
     let i = c.loop-at.invariant in
     let k = c.line-r.kept in
     (k.1.1.0 ∙ i.0, (k.1.1.1.0 ∙ i.1.0, k.1.1.1.1.0 ∙ i.1.1))

@@ -18,7 +18,6 @@ slice_bounds-result-end-2 c =
 
 pub returns : goal.returns
 returns c =
-    
     let a = c.args in
     let e : c.line_end-end.result - a.at ≡ line_length (drop a.at a.s.now) = omega (arith, c.line_end-end.ensures) in
     ap (λ (n : ℕ). take n (drop a.at a.s.now)) e

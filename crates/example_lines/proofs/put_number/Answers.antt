@@ -10,8 +10,6 @@ use Rattle.example_lines.proofs.put_number.Goals as goal
 
 pub returns : goal.returns
 returns c =
-    
-    
     let a = c.args in
     let n = c.put_decimal-tab in
     let o = a.text.now in

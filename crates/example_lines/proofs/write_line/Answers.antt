@@ -3,15 +3,10 @@ use Rattle.text.specs.Place.{Stored}
 use borrow.Author.Rules.{rules}
 use Rattle.example_lines.proofs.write_line.Goals as goal
 
-slice-aggregate-write-all : tie.Need-slice-aggregate-write-all
-slice-aggregate-write-all c = search rules
-
 pub returns-then-write_all : goal.returns-then-write_all
 returns-then-write_all c =
-    
     ap (λ (s : Stored). s.buffer) c.put_mark-end.ensures
 
 pub returns : goal.returns
 returns c =
-    
     ap (λ (s : Stored). s.buffer) c.put_mark-end.ensures

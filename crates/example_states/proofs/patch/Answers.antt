@@ -9,8 +9,6 @@ use Rattle.example_states.proofs.patch.Goals as goal
 pub returns-then-not-store : goal.returns-then-not-store
 unfolding patch_by
 returns-then-not-store c =
-    
-    
     let t = c.args.t in
     let e = c.encode in
     pick_false _ _ _ _ (not-true _ c.if-not-store.true) refl
@@ -19,9 +17,6 @@ returns-then-not-store c =
 pub returns-then-not-decodes : goal.returns-then-not-decodes
 unfolding patch_by
 returns-then-not-decodes c =
-    
-    
-    
     let t = c.args.t in
     let e = c.encode in
     pick_true _ _ _ _ (not-false _ c.if-not-store.false) (pick_false _ _ _ _ (sym c.decodes.ensures ∙ not-true _ c.if-not-decodes.true) refl)

@@ -10,8 +10,6 @@ use Rattle.example_states.proofs.put_state.Goals as goal
 
 pub returns : goal.returns
 returns c =
-    
-    
     let a = c.args in
     let e = c.encode.ensures in
     c.put_hex.ensures

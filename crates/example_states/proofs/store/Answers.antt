@@ -17,5 +17,4 @@ returns-then-m-at-2 c = rw (← c.word_at-at.ensures) (search picks depth 20)
 pub returns : goal.returns
 unfolding store_of
 returns c =
-    
     rw (c.put_bytes.ensures, ← c.word_at-at.ensures) (search picks depth 20)

@@ -8,7 +8,6 @@ returns-in-Silence c = rw c.in-Silence.is
 pub returns-in-Error : goal.returns-in-Error
 unfolding verdict_number
 returns-in-Error c =
-    
     rw c.in-Error.is c.number.ensures
 
 pub returns-in-Request : goal.returns-in-Request

@@ -8,5 +8,4 @@ returns-in-Allowed c = rw c.in-Allowed.is
 pub returns-in-Forbidden : goal.returns-in-Forbidden
 unfolding write_number
 returns-in-Forbidden c =
-    
     rw c.in-Forbidden.is c.number.ensures

@@ -12,7 +12,6 @@ loop-i-init c = (refl, omega arith)
 
 pub loop-i-preserved : goal.loop-i-preserved
 loop-i-preserved c =
-    
     let l = c.loop-i in
     let s = c.args.s.now in (
       ap (λ (b : Bool). l.all && b && all_hex (drop (l.i + 1) s)) c.is_hex-all.ensures ∙ all_hex_more l.all s l.i (omega arith) ∙ l.invariant.0,

@@ -14,10 +14,6 @@ loop-i-init c = (refl, (omega arith, refl))
 
 pub loop-i-preserved : goal.loop-i-preserved
 loop-i-preserved c =
-    
-    
-    
-    
     let l = c.loop-i in
     let s = c.args.s.now in
     let b = hex_byte (get_or s (2 * l.i) 0) (get_or s (2 * l.i + 1) 0) in
@@ -35,7 +31,6 @@ shape_of-out c = c.loop-i.invariant.1.1
 
 pub returns : goal.returns
 returns c =
-    
     let l = c.loop-i in
     let s = c.args.s.now in
     record { value = sym (length_hex_bytes s); out_after = sym (ap (λ (x : List ℕ). sets l.out l.i x) (hex_bytes_end (drop (2 * l.i) s) (simp length-drop (omega arith)))) ∙ l.invariant.0 }

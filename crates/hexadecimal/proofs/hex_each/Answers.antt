@@ -18,8 +18,6 @@ loop-i-init c =
 
 pub loop-i-preserved : goal.loop-i-preserved
 loop-i-preserved c =
-    
-    
     let p = c.put_byte-to in
     let l = c.loop-i in
     let a = c.args in
@@ -32,14 +30,12 @@ loop-i-preserved c =
 
 pub shape_of-text : goal.shape_of-text
 shape_of-text c =
-    
     let l = c.loop-i in
     let a = c.args in
     same_room a.text.now l.text (hex_text (take l.i a.s.now)) a.at l.to l.invariant.0
 
 pub returns : goal.returns
 returns c =
-    
     let l = c.loop-i in
     let a = c.args in
     let e : l.i ≡ a.n = omega arith in

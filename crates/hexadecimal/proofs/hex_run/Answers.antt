@@ -19,8 +19,6 @@ bounds-text-at-in-loop-i c = simp length-set (omega arith)
 
 pub loop-i-preserved : goal.loop-i-preserved
 loop-i-preserved c =
-    
-    
     let l = c.loop-i in
     let a = c.args in (
       rw (c.hex_digit-in-loop-i.ensures, c.hex_digit.ensures, l.invariant.0) (hex_text_stored a.text.now a.s.now a.at l.i (omega arith)),
@@ -32,7 +30,6 @@ shape_of-text c = c.loop-i.invariant.1.1
 
 pub returns : goal.returns
 returns c =
-    
     let l = c.loop-i in
     let a = c.args in
     let e : l.i ≡ a.n = omega arith in

@@ -18,8 +18,6 @@ hex_run-requires c = omega (arith, c.least-count.ensures)
 
 pub returns-then-count-text : goal.returns-then-count-text
 returns-then-count-text c =
-    
-    
     let r = c.hex_run in
     let g = c.least-count in
     let k = g.result in
@@ -36,8 +34,6 @@ hex_each-requires c = omega (arith, c.least-count.ensures)
 
 pub returns : goal.returns
 returns c =
-    
-    
     let g = c.least-count in
     let a = c.args in
     c.hex_each.ensures ∙ ap (λ (t : List ℕ). text_at a.text.now a.at (hex_text t)) (clipped a.s.now a.n g.result g.ensures)

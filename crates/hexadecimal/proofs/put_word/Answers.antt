@@ -9,8 +9,6 @@ use Rattle.hexadecimal.proofs.put_word.Goals as goal
 pub returns : goal.returns
 unfolding hex_text
 returns c =
-    
-    
     let low = c.put_byte in
     let high = c.put_byte-low in
     let a = c.args in

@@ -4,7 +4,4 @@ use Rattle.inventory.proofs.inventory_silent.Goals as goal
 pub returns : goal.returns
 unfolding inventory_silent
 returns c =
-    
-    
-    
     rw (c.is_malformed.ensures, c.is_quiet.ensures, c.answers_now.ensures)

@@ -9,6 +9,4 @@ returns-then-byte_at-eq1 c = rw (← c.byte_at.ensures) (search picks depth 20)
 pub returns : goal.returns
 unfolding own_slot
 returns c =
-    
-    
     rw (← c.byte_at.ensures, c.slot_number.ensures.value, c.mask_bits.ensures) (search picks depth 20)

@@ -12,14 +12,10 @@ loop-i-init c = (refl, omega arith)
 pub loop-i-preserved : goal.loop-i-preserved
 unfolding same_bits
 loop-i-preserved c =
-    
-    
-    
     let l = c.loop-i in (rw (add-one l.i, c.bit_at.ensures.value, c.bit_at-in-loop-i.ensures.value, l.invariant.0), omega arith)
 
 pub returns : goal.returns
 returns c =
-    
     let l = c.loop-i in
     let e : l.i ≡ c.args.n = omega arith in
     rw (← e) l.invariant.0

@@ -7,16 +7,10 @@ use Rattle.inventory_reply.proofs.end_of_frame.Goals as goal
 pub returns-then-takes_part : goal.returns-then-takes_part
 unfolding end_of_frame_of pick
 returns-then-takes_part c =
-    
-    
-    
-    
     rw (← c.takes_part.ensures, c.if-takes_part.true, ← c.less_one.ensures) c.leave_slots.ensures
 
 pub returns : goal.returns
 unfolding end_of_frame_of
 returns c =
-    
-    
     let a = c.args in
     silent (end_of_frame_of a.v a.u a.dynamic a.busy a.m.now) (rw (← c.takes_part.ensures) (search picks depth 20))

@@ -8,11 +8,6 @@ use Rattle.inventory_reply.proofs.put_reply.Goals as goal
 
 pub returns : goal.returns
 returns c =
-    
-    
-    
-    
-    
     let a = c.args in
     let uid = bytes_at a.u.bytes 0 8 in
     good_run (a.dsfid.bits ∷ uid) a.out.now _ 10 (omega (arith, length_bytes_at a.u.bytes 0 8))

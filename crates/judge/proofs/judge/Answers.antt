@@ -4,15 +4,6 @@ use Rattle.parts.proofs.Picks.{picks}
 use Rattle.judge.proofs.Muted.{muted, judge_muted}
 use Rattle.judge.proofs.judge.Goals as goal
 
-enum_told : tie.Need-enum-told
-enum_told c = search rules
-
-enum-known-error : tie.Need-enum-known-error
-enum-known-error c = search rules
-
-enum-told-2 : tie.Need-enum-told-2
-enum-told-2 c = search rules
-
 pub returns-then-is_silent : goal.returns-then-is_silent
 returns-then-is_silent c =
     rw (judge_muted, ← c.is_silent.ensures) (search picks depth 20)
@@ -20,24 +11,14 @@ returns-then-is_silent c =
 pub returns-in-Silence : goal.returns-in-Silence
 unfolding muted pick
 returns-in-Silence c =
-    
-    
-    
     rw (judge_muted, ← c.is_silent.ensures, c.if-is_silent.false, ← c.first_error.ensures, c.in-Silence.is)
 
 pub returns-in-Error : goal.returns-in-Error
 unfolding muted pick
 returns-in-Error c =
-    
-    
-    
-    
     rw (judge_muted, ← c.is_silent.ensures, c.if-is_silent.false, ← c.first_error.ensures, c.in-Error.is, c.error_of.ensures)
 
 pub returns-in-Request : goal.returns-in-Request
 unfolding muted pick
 returns-in-Request c =
-    
-    
-    
     rw (judge_muted, ← c.is_silent.ensures, c.if-is_silent.false, ← c.first_error.ensures, c.in-Request.is)

@@ -4,7 +4,6 @@ use Rattle.leg.proofs.leg_written.Goals as goal
 pub returns-in-User : goal.returns-in-User
 unfolding leg_written
 returns-in-User c =
-    
     rw (c.user_written.ensures, c.in-User.is)
 
 pub returns-in-System : goal.returns-in-System

@@ -49,9 +49,7 @@ loop-i-smaller c = omega (arith, c.requires.0, c.requires.1)
 
 pub loop-i-preserved : goal.loop-i-preserved
 loop-i-preserved c =
-    
     let l = c.loop-i in
-    
     let a = c.args in
     let first = first_tag a.s.now l.at (l.at + 87 - l.at) _ _ (omega arith) (omega (arith, c.requires.0)) (ap (λ (tags : List Tag). get_or tags 0 _) c.decode_tags-tags.ensures) in (
       ranges_more a.s.now a.m.now l.all c.in_range.result l.i a.n l.at l.from (l.at + 87 - l.at) (l.from + 1024 - l.from) _

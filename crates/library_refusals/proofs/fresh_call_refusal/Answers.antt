@@ -10,7 +10,6 @@ use Rattle.library_refusals.proofs.fresh_call_refusal.Goals as goal
 pub returns-then-s-ne-STATE_BYTES : goal.returns-then-s-ne-STATE_BYTES
 unfolding judgement first_says
 returns-then-s-ne-STATE_BYTES c =
-    
     let a = c.args in
     let first = fresh_rules a.m.now in
     let rest = state_rule a.s.now ∷ uid_rule a.uid.now ∷ [] in
@@ -19,8 +18,6 @@ returns-then-s-ne-STATE_BYTES c =
 pub returns-then-uid-ne8 : goal.returns-then-uid-ne8
 unfolding judgement first_says
 returns-then-uid-ne8 c =
-    
-    
     let a = c.args in
     let first = fresh_rules a.m.now in
     let rest = state_rule a.s.now ∷ uid_rule a.uid.now ∷ [] in
@@ -28,7 +25,6 @@ returns-then-uid-ne8 c =
 
 pub returns-in-RefusedBy : goal.returns-in-RefusedBy
 returns-in-RefusedBy c =
-    
     let a = c.args in
     let first = fresh_rules a.m.now in
     let rest = state_rule a.s.now ∷ uid_rule a.uid.now ∷ [] in
@@ -37,8 +33,6 @@ returns-in-RefusedBy c =
 pub returns-else-uid-ne8 : goal.returns-else-uid-ne8
 unfolding judgement first_says
 returns-else-uid-ne8 c =
-    
-    
     let a = c.args in
     let first = fresh_rules a.m.now in
     let rest = state_rule a.s.now ∷ uid_rule a.uid.now ∷ [] in

@@ -11,7 +11,6 @@ use Rattle.library_refusals.proofs.step_refusal.Goals as goal
 pub returns-then-s-ne-STATE_BYTES : goal.returns-then-s-ne-STATE_BYTES
 unfolding judgement first_says
 returns-then-s-ne-STATE_BYTES c =
-    
     let a = c.args in
     let first = call_rules a.m.now (handed_in a.out.now a.code a.value a.frame.now) in
     let rest = state_rule a.s.now ∷ decodes_rule a.s.now ∷ [] in
@@ -20,8 +19,6 @@ returns-then-s-ne-STATE_BYTES c =
 pub returns-then-not-decodes : goal.returns-then-not-decodes
 unfolding judgement first_says
 returns-then-not-decodes c =
-    
-    
     let a = c.args in
     let first = call_rules a.m.now (handed_in a.out.now a.code a.value a.frame.now) in
     let rest = state_rule a.s.now ∷ decodes_rule a.s.now ∷ [] in
@@ -29,7 +26,6 @@ returns-then-not-decodes c =
 
 pub returns-in-RefusedBy : goal.returns-in-RefusedBy
 returns-in-RefusedBy c =
-    
     let a = c.args in
     let first = call_rules a.m.now (handed_in a.out.now a.code a.value a.frame.now) in
     let rest = state_rule a.s.now ∷ decodes_rule a.s.now ∷ [] in
@@ -38,8 +34,6 @@ returns-in-RefusedBy c =
 pub returns-else-not-decodes : goal.returns-else-not-decodes
 unfolding judgement first_says
 returns-else-not-decodes c =
-    
-    
     let a = c.args in
     let first = call_rules a.m.now (handed_in a.out.now a.code a.value a.frame.now) in
     let rest = state_rule a.s.now ∷ decodes_rule a.s.now ∷ [] in

@@ -14,7 +14,6 @@ returns-then-s-lt4 c = rw (lt-leb 4 _ c.if-s-lt4.true)
 pub returns : goal.returns
 unfolding has_bytes
 returns c =
-    
     let s = c.args.s.now in
     let e : take (length s - 2) (drop 2 s) ≡ drop 2 s = take_all (length s - 2) (drop 2 s) (omega (arith, length-drop 2 s)) in
     rw (le-leb 4 (length s) c.if-s-lt4.false, rw e at c.all_hex.ensures)

@@ -16,7 +16,6 @@ returns-then-s-lt2 c =
 
 pub returns : goal.returns
 returns c =
-    
     let a = c.args in
     let s = a.s.now in
     let d = c.decode in

@@ -9,16 +9,12 @@ use Rattle.message.proofs.length.Goals as goal
 pub returns-then-not-b : goal.returns-then-not-b
 unfolding length_of
 returns-then-not-b c =
-    
-    
     let a = c.args in
     said (length_of a.v a.m.now) _ (fault MailboxDisabled) c.error.ensures (search picks depth 20)
 
 pub returns : goal.returns
 unfolding length_of
 returns c =
-    
-    
     let a = c.args in
     said (length_of a.v a.m.now) _ (good (c.length_byte.result ∷ [])) c.byte.ensures
     (rw c.length_byte.ensures (search picks depth 20))

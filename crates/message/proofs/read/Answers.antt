@@ -13,17 +13,12 @@ use Rattle.message.proofs.read.Goals as goal
 pub returns-then-not-b : goal.returns-then-not-b
 unfolding read_message_of
 returns-then-not-b c =
-    
-    
     let a = c.args in
     said (read_message_of a.v a.m.now a.pointer a.n) _ (fault MailboxDisabled) c.error.ensures (search picks depth 20)
 
 pub returns-then-b-pointer : goal.returns-then-b-pointer
 unfolding read_message_of
 returns-then-b-pointer c =
-    
-    
-    
     let a = c.args in
     said (read_message_of a.v a.m.now a.pointer a.n) _ (fault PastMessage) c.error-then-b-pointer.ensures
     (rw (← c.asked-count.ensures) (search picks depth 20))
@@ -37,8 +32,6 @@ overflow_add-count c = omega (arith, c.asked-count.type-inv)
 pub returns : goal.returns
 unfolding read_message_of
 returns c =
-    
-    
     let count = c.asked-count in
     let a = c.args in
     let bytes = bytes_at a.m.now (mailbox_place + a.pointer) count.result in

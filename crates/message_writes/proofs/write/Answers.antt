@@ -9,9 +9,6 @@ use Rattle.message_writes.proofs.write.Goals as goal
 pub returns-then-not-takes_message : goal.returns-then-not-takes_message
 unfolding write_message_of
 returns-then-not-takes_message c =
-    
-    
-    
     let a = c.args in
     said (write_message_of a.v a.m.now a.more a.frame.now a.at) _ (fault MailboxUnavailable) c.error.ensures
     (rw (← c.takes_message.ensures) (search picks depth 20))
@@ -19,8 +16,6 @@ returns-then-not-takes_message c =
 pub returns : goal.returns
 unfolding write_message_of
 returns c =
-    
-    
     let a = c.args in
     said (write_message_of a.v a.m.now a.more a.frame.now a.at) _ (good []) c.done.ensures
     (rw (c.with_mailbox-next.ensures, c.radio_put.ensures, c.put_bytes.ensures, ← c.takes_message.ensures) (search (picks, c.if-not-takes_message.false) depth 20))

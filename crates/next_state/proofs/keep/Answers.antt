@@ -13,9 +13,6 @@ returns-then-s-ne-STATE_BYTES c = pick_false _ _ _ _ (ne_eqb _ _ c.if-s-ne-STATE
 pub returns-then-not-is_refused : goal.returns-then-not-is_refused
 unfolding state_after kept_state
 returns-then-not-is_refused c =
-    
-    
-    
     let a = c.args in
     pick_true _ _ _ _ (eq-eqb _ _ c.if-s-ne-STATE_BYTES.false)
     (pick_false _ _ _ _ (sym c.is_refused.ensures ∙ not-true _ c.if-not-is_refused.true)

@@ -14,12 +14,10 @@ loop-i-init c = (refl, omega arith)
 
 pub returns-then-not-allowed : goal.returns-then-not-allowed
 returns-then-not-allowed c =
-    
     refused_at _ _ _ _ _ _ _ (omega arith) (rw c.byte_in-x.ensures at (sym c.allowed.ensures ∙ not-true _ c.if-not-allowed.true))
 
 pub loop-i-preserved : goal.loop-i-preserved
 loop-i-preserved c =
-    
     let l = c.loop-i in
     (next_acked _ _ _ _ _ _ l.invariant.0 (rw c.byte_in-x.ensures at (sym c.allowed.ensures ∙ not-false _ c.if-not-allowed.false)), omega arith)
 

@@ -17,10 +17,6 @@ loop-i-init c = (refl, omega arith)
 
 pub returns-then-not-allowed : goal.returns-then-not-allowed
 returns-then-not-allowed c =
-    
-    
-    
-    
     let a = c.args in
     refused a.c a.session a.first a.m.now a.k c.if-k-eq0.false c.loop-i.i (omega (arith, c.places-n.ensures))
     (rw c.place.ensures c (sym c.allowed.ensures ∙ not-true _ c.if-not-allowed.true))
@@ -28,18 +24,12 @@ returns-then-not-allowed c =
 pub loop-i-preserved : goal.loop-i-preserved
 unfolding asked_to
 loop-i-preserved c =
-    
-    
-    
-    
     let a = c.args in
     let here = rw c.place.ensures c (sym c.allowed.ensures ∙ not-false _ c.if-not-allowed.false) in
     (rw (add-one c.loop-i.i) (and_both (asked_to a.c a.session a.first a.m.now a.k c.loop-i.i) (acked_at a.c a.session a.first a.m.now a.k c.loop-i.i) c.loop-i.invariant.0 here), omega arith)
 
 pub returns : goal.returns
 returns c =
-    
-    
     let a = c.args in
     let e : c.loop-i.i ≡ c.places-n.result = omega arith in
     accepted a.c a.session a.first a.m.now a.k c.if-k-eq0.false

@@ -13,9 +13,6 @@ loop-i-init c = (refl, (omega arith, refl))
 pub loop-i-preserved : goal.loop-i-preserved
 unfolding copied
 loop-i-preserved c =
-    
-    
-    
     let l = c.loop-i in
     (c.put_in.ensures ∙ rw (c.byte_in-b.ensures, l.invariant.0, add-one l.i), (omega arith, ap length c.put_in.ensures ∙ simp length-set l.invariant.1.1))
 

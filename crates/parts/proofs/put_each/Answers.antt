@@ -15,10 +15,6 @@ loop-i-init c = (refl, (omega arith, refl))
 pub loop-i-preserved : goal.loop-i-preserved
 unfolding bytes_at
 loop-i-preserved c =
-    
-    
-    
-    
     let l = c.loop-i in
     let a = c.args in
     let r = bytes_at a.s.now a.from l.i in (
@@ -34,7 +30,6 @@ shape_of-m c = c.loop-i.invariant.1.1
 
 pub returns : goal.returns
 returns c =
-    
     let l = c.loop-i in
     let a = c.args in
     let e : l.i ≡ a.n = omega arith in

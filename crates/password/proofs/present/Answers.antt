@@ -9,15 +9,12 @@ use Rattle.password.proofs.present.Goals as goal
 pub returns-then-n-gt-LAST : goal.returns-then-n-gt-LAST
 unfolding present_of
 returns-then-n-gt-LAST c =
-    
     let a = c.args in
     said (present_of a.v a.m.now a.n a.frame.now a.at) _ (fault NoSuchPassword) c.error.ensures (search picks depth 20)
 
 pub returns-then-not-equals : goal.returns-then-not-equals
 unfolding present_of
 returns-then-not-equals c =
-    
-    
     let a = c.args in
     let same = rw (c.radio.ensures, c.at.ensures) at c.equals.ensures in
     said (present_of a.v a.m.now a.n a.frame.now a.at) _ (fault WrongPassword) c.error-then-not-equals.ensures
@@ -26,8 +23,6 @@ returns-then-not-equals c =
 pub returns : goal.returns
 unfolding present_of
 returns c =
-    
-    
     let a = c.args in
     let same = rw (c.radio.ensures, c.at.ensures) at c.equals.ensures in
     said (present_of a.v a.m.now a.n a.frame.now a.at) _ (good []) c.done.ensures

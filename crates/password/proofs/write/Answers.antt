@@ -9,10 +9,6 @@ use Rattle.password.proofs.write.Goals as goal
 pub returns-in-Forbidden : goal.returns-in-Forbidden
 unfolding password_by
 returns-in-Forbidden c =
-    
-    
-    
-    
     let a = c.args in
     said (write_password_of a.v a.m.now a.n a.frame.now a.at) _ (fault c.password_error.result) c.error.ensures
     (rw (password_by_verdict a.v a.m.now a.n a.frame.now a.at, ← c.verdict-verdict.ensures, c.in-Forbidden.is, c.password_error.ensures))
@@ -20,10 +16,6 @@ returns-in-Forbidden c =
 pub returns : goal.returns
 unfolding password_by
 returns c =
-    
-    
-    
-    
     let a = c.args in
     said (write_password_of a.v a.m.now a.n a.frame.now a.at) _ (good []) c.done.ensures
     (rw (password_by_verdict a.v a.m.now a.n a.frame.now a.at, ← c.verdict-verdict.ensures, c.in-Allowed.is, c.with_passwords.ensures, c.with_radio-passwords.ensures, c.at.ensures))

@@ -18,11 +18,8 @@ returns-then-rule-eq0 c =
 
 pub returns : goal.returns
 returns c =
-    
-    
     let a = c.args in
     let o = a.text.now in
-    
     let t = c.put_mark-name in
     let room : length o ≤ last_place = omega arith in
     c.put_name.ensures

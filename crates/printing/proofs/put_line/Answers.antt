@@ -14,11 +14,6 @@ use Rattle.printing.proofs.put_line.Goals as goal
 
 pub returns : goal.returns
 returns c =
-    
-    
-    
-    
-    
     let end = c.put_mark in
     let a = c.args in
     let o = a.text.now in

@@ -10,10 +10,6 @@ use Rattle.rack_hear.proofs.act_at.Goals as goal
 pub returns-then-heard : goal.returns-then-heard
 unfolding act_at
 returns-then-heard c =
-    
-    
-    
-    
     let a = c.args.heard in
     let i = c.args.i in
     let m = c.args.memory.now in
@@ -26,10 +22,6 @@ returns-then-heard c =
 pub returns : goal.returns
 unfolding act_at
 returns c =
-    
-    
-    
-    
     let a = c.args.heard in
     let i = c.args.i in
     let m = c.args.memory.now in

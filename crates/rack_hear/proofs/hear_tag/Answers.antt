@@ -28,14 +28,6 @@ returns-then-memory-heard-lt-MEMORY_BYTES c = search picks depth 20
 pub returns-then-to_all-i : goal.returns-then-to_all-i
 unfolding hear_of
 returns-then-to_all-i c =
-    
-    
-    
-    
-    
-    
-    
-    
     let a = c.args.heard in
     let i = c.args.i in
     let m = c.args.memory.now in
@@ -50,5 +42,4 @@ returns-then-to_all-i c =
 pub returns : goal.returns
 unfolding hear_of
 returns c =
-    
     rw (c.passed-next.ensures, ← c.to_all.ensures) (search picks depth 20)

@@ -40,7 +40,6 @@ loop-i-smaller c = let p = c.requires in omega (arith, p.0)
 pub loop-i-preserved : goal.loop-i-preserved
 loop-i-preserved c =
     let l = c.loop-i in
-    
     let a = c.args in
     let p = c.requires in
     let number : length a.t1 ≡ 16 = search rules in (

@@ -23,63 +23,39 @@ counted c =
 pub returns-then-memory-n : goal.returns-then-memory-n
 unfolding judgement first_says
 returns-then-memory-n c =
-    
     rw (counted c) (search picks depth 20)
 
 pub returns-then-out-lt-REPLY_BYTES : goal.returns-then-out-lt-REPLY_BYTES
 unfolding judgement first_says
 returns-then-out-lt-REPLY_BYTES c =
-    
     rw (counted c) (search picks depth 20)
 
 pub returns-then-not-signal_in_range : goal.returns-then-not-signal_in_range
 unfolding judgement first_says
 returns-then-not-signal_in_range c =
-    
-    
     rw (counted c, ← c.signal_in_range.ensures) (search picks depth 20)
 
 pub returns-then-not-all_in_range : goal.returns-then-not-all_in_range
 unfolding judgement first_says
 returns-then-not-all_in_range c =
-    
-    
-    
     rw (counted c, ← c.signal_in_range.ensures, ← c.all_in_range.ensures) (search picks depth 20)
 
 pub returns-then-n-eq0 : goal.returns-then-n-eq0
 unfolding judgement first_says
 returns-then-n-eq0 c =
-    
-    
-    
     rw (counted c, ← c.signal_in_range.ensures, ← c.all_in_range.ensures) (search picks depth 20)
 
 pub returns-then-to_all-n : goal.returns-then-to_all-n
 unfolding judgement first_says
 returns-then-to_all-n c =
-    
-    
-    
-    
     rw (counted c, ← c.signal_in_range.ensures, ← c.all_in_range.ensures, ← c.to_all.ensures) (search picks depth 20)
 
 pub returns-then-equal_uids : goal.returns-then-equal_uids
 unfolding judgement first_says
 returns-then-equal_uids c =
-    
-    
-    
-    
-    
     rw (counted c, ← c.signal_in_range.ensures, ← c.all_in_range.ensures, ← c.to_all.ensures, ← c.equal_uids.ensures) (search picks depth 20)
 
 pub returns : goal.returns
 unfolding judgement first_says
 returns c =
-    
-    
-    
-    
-    
     rw (counted c, ← c.signal_in_range.ensures, ← c.all_in_range.ensures, ← c.to_all.ensures, ← c.equal_uids.ensures) (search picks depth 20)

@@ -17,7 +17,6 @@ loop-i-preserved c =
 
 pub returns : goal.returns
 returns c =
-    
     let l = c.loop-i in
     let e : l.i ≡ c.args.n = omega arith in
     rw (← e) l.invariant.0

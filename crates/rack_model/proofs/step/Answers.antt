@@ -7,11 +7,6 @@ use Rattle.rack_model.proofs.step.Goals as goal
 
 pub returns : goal.returns
 returns c =
-    
-    
-    
-    
-    
     let a = c.args in
     let number : length a.tags ≡ 16 = search rules in
     let is = stepped a.tags a.memory.now a.out.now a.frame.now a.number a.code a.value a.to c.rack_refusal-judged.result c.tag_count-n.result

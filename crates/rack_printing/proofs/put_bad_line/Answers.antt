@@ -12,9 +12,6 @@ use Rattle.rack_printing.proofs.put_bad_line.Goals as goal
 
 pub returns : goal.returns
 returns c =
-    
-    
-    
     let end = c.put_mark in
     let a = c.args in
     let o = a.text.now in

@@ -10,8 +10,6 @@ use Rattle.rack_printing.proofs.put_head.Goals as goal
 
 pub returns : goal.returns
 returns c =
-    
-    
     let a = c.args in
     let o = a.text.now in
     let n = c.put_decimal-tab in

@@ -11,9 +11,6 @@ use Rattle.rack_printing.proofs.put_number.Goals as goal
 
 pub returns-then-answered : goal.returns-then-answered
 returns-then-answered c =
-    
-    
-    
     let a = c.args in
     let o = a.text.now in
     let t = c.put_mark-digits in

@@ -12,9 +12,6 @@ use Rattle.rack_printing.proofs.put_refused.Goals as goal
 pub returns : goal.returns
 unfolding refused_text
 returns c =
-    
-    
-    
     let a = c.args in
     let o = a.text.now in
     let n = c.number-n in

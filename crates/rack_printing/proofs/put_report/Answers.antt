@@ -22,9 +22,6 @@ loop-i-init c = (refl, (omega arith, (omega arith, refl)))
 
 pub loop-i-preserved : goal.loop-i-preserved
 loop-i-preserved c =
-    
-    
-    
     let l = c.loop-i in
     let a = c.args in
     let p = c.put_number-to in
@@ -46,7 +43,6 @@ shape_of-text c = c.loop-i.invariant.1.1.1
 pub returns : goal.returns
 unfolding numbers_text numbers_from
 returns c =
-    
     let l = c.loop-i in
     let a = c.args in
     let k = flags c in

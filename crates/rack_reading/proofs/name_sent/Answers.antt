@@ -22,7 +22,6 @@ returns-then-s-ne9 c = search picks depth 20
 pub returns : goal.returns
 unfolding name_sent
 returns c =
-    
     let s = c.args.s.now in
     let e : take (length s - 2) (drop 2 s) ≡ drop 2 s = take_all (length s - 2) (drop 2 s) (omega (arith, length-drop 2 s)) in
     rw (rw e at c.number_sent.ensures) (search picks depth 20)

@@ -32,8 +32,6 @@ loop-i-init c = (refl, (refl, (omega arith, omega arith)))
 pub returns-then-not-is_digit : goal.returns-then-not-is_digit
 unfolding rack_line_by
 returns-then-not-is_digit c =
-    
-    
     let l = c.loop-i in
     let s = c.args.s.now in
     let d = failed _ _ c.is_digit.ensures c.if-not-is_digit.true in
@@ -51,8 +49,6 @@ overflow_add-n c = omega (arith, digit_most _ (held _ _ c.is_digit.ensures c.if-
 pub returns-then-n-gt255 : goal.returns-then-n-gt255
 unfolding rack_line_by
 returns-then-n-gt255 c =
-    
-    
     let l = c.loop-i in
     let s = c.args.s.now in
     let n = 10 * l.n + (get_or s l.i 0 - 0x30) in
@@ -60,8 +56,6 @@ returns-then-n-gt255 c =
 
 pub loop-i-preserved : goal.loop-i-preserved
 loop-i-preserved c =
-    
-    
     let l = c.loop-i in
     let s = c.args.s.now in
     let d = held _ _ c.is_digit.ensures c.if-not-is_digit.false in (
@@ -72,7 +66,6 @@ loop-i-preserved c =
 pub returns : goal.returns
 unfolding rack_line_by all_digits number_from
 returns c =
-    
     let l = c.loop-i in
     let s = c.args.s.now in
     let e : drop l.i s ≡ [] = drop_of_length-le s {i = l.i} (omega arith) in

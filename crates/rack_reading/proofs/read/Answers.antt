@@ -15,13 +15,11 @@ read-so s r x e h = ap (λ (line : ScriptLine). or_own line s) (sym (ap (λ (y :
 pub returns-in-Bad : goal.returns-in-Bad
 unfolding line_by or_own
 returns-in-Bad c =
-    
     c.own_line.ensures ∙ read-so _ _ _ c.read.ensures c.in-Bad.is
 
 pub returns-in-Signal : goal.returns-in-Signal
 unfolding rack_line_by line_by or_own
 returns-in-Signal c =
-    
     read-so _ _ _ c.read.ensures c.in-Signal.is
 
 pub returns-in-Frame : goal.returns-in-Frame

@@ -12,5 +12,4 @@ uid s = record { bytes = s }
 pub returns : goal.returns
 unfolding uid
 returns c =
-    
     ap uid (c.decode.ensures.out_after ∙ over_zeros 8 (hex_bytes c.args.s.now))

@@ -10,8 +10,6 @@ loop-r-init c = (refl, refl)
 
 pub turn-r-requires : goal.turn-r-requires
 turn-r-requires c =
-    
-    
     omega (arith, c.loop-r.invariant.1, c.requires)
 
 pub overflow_sub-reads : goal.overflow_sub-reads
@@ -22,8 +20,6 @@ loop-r-smaller c = omega (arith, ltb-true 0 c.loop-r.reads (and_right c.loop-r.r
 
 pub loop-r-preserved : goal.loop-r-preserved
 loop-r-preserved c =
-    
-    
     let k = c.turn-r.kept in
     (k.1.1.1.1.0 ∙ c.loop-r.invariant.0, k.1.1.1.1.1.0 ∙ c.loop-r.invariant.1)
 

@@ -13,23 +13,18 @@ loop-at-init c = record { carried_is = refl; held_is = refl; out_len = refl; wit
 
 pub slice_bounds-step-count : goal.slice_bounds-step-count
 slice_bounds-step-count c =
-    
     omega (arith, c.loop-at.invariant.within)
 
 pub slice_bounds-step-start : goal.slice_bounds-step-start
 slice_bounds-step-start c =
-    
     omega (arith, c.loop-at.invariant.within)
 
 pub slice_bounds-say-end : goal.slice_bounds-say-end
 slice_bounds-say-end c =
-    
     omega (arith, c.step-t.ensures.used_in_bounds.1, c.step-t.kept.1.1.1.1.1.1.0)
 
 pub shape_of-out-then-not-say : goal.shape_of-out-then-not-say
 shape_of-out-then-not-say c =
-    
-    
     c.step-t.kept.1.1.1.1.1.1.0 ∙ c.loop-at.invariant.out_len
 
 pub returns-then-not-say : goal.returns-then-not-say
@@ -68,7 +63,6 @@ shape_of-out c = c.loop-at.invariant.out_len
 
 pub returns : goal.returns
 returns c =
-    
     let a = c.args in
     let l = c.loop-at in
     all_used rack_program (rack_state a.run.bench a.m.now a.reply.now) (take a.run.have a.kept.now) a.s.now a.out.now (rack_state l.bench l.m l.reply) (take l.have l.auto) l.out l.at l.invariant c.loop-at-test.false true

@@ -19,7 +19,6 @@ returns-then-not-takes_tag c =
 pub returns : goal.returns
 unfolding add_answered
 returns c =
-    
     let t = c.takes_tag in
     let a = c.args in
     let w = c.add-next in

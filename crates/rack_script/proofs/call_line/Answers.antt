@@ -5,7 +5,6 @@ use Rattle.rack_script.proofs.call_line.Goals as goal
 pub slice_bounds-step-end-2 : goal.slice_bounds-step-end-2
 slice_bounds-step-end-2 c =
     let l = c.memory_length-end in
-    
     omega (arith, l.ensures.upper_bound, c.requires, length-take l.result c.args.m.now)
 
 pub returns : goal.returns

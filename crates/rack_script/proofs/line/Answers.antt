@@ -1,4 +1,4 @@
-use Rattle.std.proofs.Common.{ℕ, List, drop, refl, ap, ◌∙◌, arith, length-drop, length-take}
+use Rattle.std.proofs.Common.{◌≡◌, ℕ, List, drop, refl, ap, ◌∙◌, arith, length-drop, length-take, rules}
 use Rattle.reading.proofs.LineLaws.{Framed}
 use Rattle.line_stream.specs.Step.{line_stored, stores_line}
 use Rattle.rack_reading.specs.declared.RackReading.TheVariants.{Bad, Signal, Frame, Add, Name, Search}
@@ -8,56 +8,65 @@ use Rattle.rack_script.specs.Script.{rack_state, call_answered, search_answered,
 use Rattle.rack_script.proofs.Said.{said, said_framed, behind_tab, settled}
 use Rattle.rack_script.proofs.line.Goals as goal
 
--- a line with digits behind its tab is not too long, and has its letter and its tab
-frame-framed : (c : tie.After-enum-told2) → Framed c.before.before.before.before.before.args.s.now
-unfolding rack_line_by has_digits
-frame-framed c = said_framed c.before.before.before.before.before.args.s.now _ Frame c.before.before.read.ensures c.enum-told2.given.1 refl
-
-add-framed : (c : tie.After-enum-told3) → Framed c.before.before.before.before.before.args.s.now
-unfolding rack_line_by has_digits
-add-framed c = said_framed c.before.before.before.before.before.args.s.now _ Add c.before.before.read.ensures c.enum-told3.given.1 refl
-
-search-framed : (c : tie.After-enum-told4) → Framed c.before.before.before.before.before.args.s.now
-unfolding rack_line_by has_digits
-search-framed c = said_framed c.before.before.before.before.before.args.s.now _ Search c.before.before.read.ensures c.enum-told4.given.1 refl
-
 pub slice_bounds-put_frame-count : goal.slice_bounds-put_frame-count
-slice_bounds-put_frame-count c = omega (arith, frame-framed c)
+unfolding rack_line_by has_digits
+slice_bounds-put_frame-count c =
+    let frame_framed_here : Framed c.args.s.now = said_framed c.args.s.now _ Frame c.read.ensures c.in-Frame.is refl in
+    omega (arith, frame_framed_here)
 
 pub slice_bounds-put_frame-start : goal.slice_bounds-put_frame-start
-slice_bounds-put_frame-start c = omega (arith, frame-framed c)
+unfolding rack_line_by has_digits
+slice_bounds-put_frame-start c =
+    let frame_framed_here : Framed c.args.s.now = said_framed c.args.s.now _ Frame c.read.ensures c.in-Frame.is refl in
+    omega (arith, frame_framed_here)
 
 pub put_frame-n-requires : goal.put_frame-n-requires
+unfolding rack_line_by has_digits
 put_frame-n-requires c =
+    let frame_framed_here : Framed c.args.s.now = said_framed c.args.s.now _ Frame c.read.ensures c.in-Frame.is refl in
     let s = c.args.s.now in
-    rw (behind_tab s) (omega (arith, frame-framed c, length-drop 2 s))
+    rw (behind_tab s) (omega (arith, frame_framed_here, length-drop 2 s))
 
 pub slice_bounds-call_line-end-in-Frame-2 : goal.slice_bounds-call_line-end-in-Frame-2
 slice_bounds-call_line-end-in-Frame-2 c =
     let w = c.put_frame-n in
-    omega (arith, w.ensures.upper_bound, length-take w.result w.new.m)
+    omega (arith, w.ensures.upper_bound, length-take w.result w.new.1.0)
 
 pub slice_bounds-add_line-count : goal.slice_bounds-add_line-count
-slice_bounds-add_line-count c = omega (arith, add-framed c)
+unfolding rack_line_by has_digits
+slice_bounds-add_line-count c =
+    let add_framed_here : Framed c.args.s.now = said_framed c.args.s.now _ Add c.read.ensures c.in-Add.is refl in
+    omega (arith, add_framed_here)
 
 pub slice_bounds-add_line-start : goal.slice_bounds-add_line-start
-slice_bounds-add_line-start c = omega (arith, add-framed c)
+unfolding rack_line_by has_digits
+slice_bounds-add_line-start c =
+    let add_framed_here : Framed c.args.s.now = said_framed c.args.s.now _ Add c.read.ensures c.in-Add.is refl in
+    omega (arith, add_framed_here)
 
 pub slice_bounds-put_frame-count-in-Search : goal.slice_bounds-put_frame-count-in-Search
-slice_bounds-put_frame-count-in-Search c = omega (arith, search-framed c)
+unfolding rack_line_by has_digits
+slice_bounds-put_frame-count-in-Search c =
+    let search_framed_here : Framed c.args.s.now = said_framed c.args.s.now _ Search c.read.ensures c.in-Search.is refl in
+    omega (arith, search_framed_here)
 
 pub slice_bounds-put_frame-start-in-Search : goal.slice_bounds-put_frame-start-in-Search
-slice_bounds-put_frame-start-in-Search c = omega (arith, search-framed c)
+unfolding rack_line_by has_digits
+slice_bounds-put_frame-start-in-Search c =
+    let search_framed_here : Framed c.args.s.now = said_framed c.args.s.now _ Search c.read.ensures c.in-Search.is refl in
+    omega (arith, search_framed_here)
 
 pub put_frame-n-requires-in-Search : goal.put_frame-n-requires-in-Search
+unfolding rack_line_by has_digits
 put_frame-n-requires-in-Search c =
+    let search_framed_here : Framed c.args.s.now = said_framed c.args.s.now _ Search c.read.ensures c.in-Search.is refl in
     let s = c.args.s.now in
-    rw (behind_tab s) (omega (arith, search-framed c, length-drop 2 s))
+    rw (behind_tab s) (omega (arith, search_framed_here, length-drop 2 s))
 
 pub slice_bounds-search_line-end-in-Search : goal.slice_bounds-search_line-end-in-Search
 slice_bounds-search_line-end-in-Search c =
     let w = c.put_frame-n-in-Search in
-    omega (arith, w.ensures.upper_bound, length-take w.result w.new.m)
+    omega (arith, w.ensures.upper_bound, length-take w.result w.new.1.0)
 
 pub returns-in-Bad : goal.returns-in-Bad
 unfolding rack_line_by rack_line_answer rack_frame
@@ -67,7 +76,7 @@ returns-in-Bad c =
     let w = c.bad_line in
     let s = a.s.now in
     let st = rack_state a.bench a.m.now a.reply.now in
-    settled st s a.text.now (rack_line_by Bad (drop 2 s)) (line_stored (rack_state w.result.bench a.m.now a.reply.now) w.result.length w.new.m) a.frame.now a.frame.now
+    settled st s a.text.now (rack_line_by Bad (drop 2 s)) (line_stored (rack_state w.result.bench a.m.now a.reply.now) w.result.length w.new.1.0) a.frame.now a.frame.now
     (said s _ Bad r.ensures c.in-Bad.is)
     (w.ensures a.m.now a.reply.now)
     refl
@@ -80,7 +89,7 @@ returns-in-Signal c =
     let w = c.call_line in
     let s = a.s.now in
     let st = rack_state a.bench a.m.now a.reply.now in
-    settled st s a.text.now (rack_line_by (Signal _ _) (drop 2 s)) (line_stored (rack_state w.result.bench w.new.m w.new.reply) w.result.length w.new.1.1.1.1.1.1.0) a.frame.now a.frame.now
+    settled st s a.text.now (rack_line_by (Signal _ _) (drop 2 s)) (line_stored (rack_state w.result.bench w.new.1.0 w.new.1.1.0) w.result.length w.new.1.1.1.1.1.1.0) a.frame.now a.frame.now
     (said s _ (Signal _ _) r.ensures c.in-Signal.is)
     w.ensures
     refl
@@ -94,7 +103,7 @@ returns-in-Frame c =
     let f = c.put_frame-n in
     let s = a.s.now in
     let st = rack_state a.bench a.m.now a.reply.now in
-    settled st s a.text.now (rack_line_by Frame (drop 2 s)) (line_stored (rack_state w.result.bench w.new.m w.new.reply) w.result.length w.new.1.1.1.1.1.1.0) a.frame.now f.new.frame
+    settled st s a.text.now (rack_line_by Frame (drop 2 s)) (line_stored (rack_state w.result.bench w.new.1.0 w.new.1.1.0) w.result.length w.new.1.1.1.1.1.1.0) a.frame.now f.new.1.0
     (said s _ Frame r.ensures c.in-Frame.is)
     (w.ensures ∙ ap (λ (z : List ℕ). stores_line (call_answered 8 0 st z) a.text.now) (rw (behind_tab s) at f.ensures.frame_after))
     (rw (behind_tab s) at f.ensures.frame_after_2)
@@ -107,7 +116,7 @@ returns-in-Add c =
     let w = c.add_line in
     let s = a.s.now in
     let st = rack_state a.bench a.m.now a.reply.now in
-    settled st s a.text.now (rack_line_by Add (drop 2 s)) (line_stored (rack_state w.result.bench w.new.m a.reply.now) w.result.length w.new.text) a.frame.now a.frame.now
+    settled st s a.text.now (rack_line_by Add (drop 2 s)) (line_stored (rack_state w.result.bench w.new.1.0 a.reply.now) w.result.length w.new.1.1.1.1.0) a.frame.now a.frame.now
     (said s _ Add r.ensures c.in-Add.is)
     (w.ensures ∙ ap (λ (z : List ℕ). stores_line (add_answered (uid_of z) st) a.text.now) (behind_tab s))
     refl
@@ -120,7 +129,7 @@ returns-in-Name c =
     let w = c.name_line in
     let s = a.s.now in
     let st = rack_state a.bench a.m.now a.reply.now in
-    settled st s a.text.now (rack_line_by (Name _) (drop 2 s)) (line_stored (rack_state w.result.bench a.m.now a.reply.now) w.result.length w.new.frame) a.frame.now a.frame.now
+    settled st s a.text.now (rack_line_by (Name _) (drop 2 s)) (line_stored (rack_state w.result.bench a.m.now a.reply.now) w.result.length w.new.1.1.1.0) a.frame.now a.frame.now
     (said s _ (Name _) r.ensures c.in-Name.is)
     (w.ensures a.m.now)
     refl
@@ -134,7 +143,7 @@ returns-in-Search c =
     let f = c.put_frame-n-in-Search in
     let s = a.s.now in
     let st = rack_state a.bench a.m.now a.reply.now in
-    settled st s a.text.now (rack_line_by Search (drop 2 s)) (line_stored (rack_state w.result.bench w.new.m w.new.reply) w.result.length w.new.text) a.frame.now f.new.frame
+    settled st s a.text.now (rack_line_by Search (drop 2 s)) (line_stored (rack_state w.result.bench w.new.1.0 w.new.1.1.0) w.result.length w.new.1.1.1.1.0) a.frame.now f.new.1.0
     (said s _ Search r.ensures c.in-Search.is)
     (w.ensures ∙ ap (λ (z : List ℕ). stores_line (search_answered st z) a.text.now) (rw (behind_tab s) at f.ensures.frame_after))
     (rw (behind_tab s) at f.ensures.frame_after_2)

@@ -9,13 +9,11 @@ use Rattle.rack_script.proofs.put_frame.Goals as goal
 
 pub overflow_add-result : goal.overflow_add-result
 overflow_add-result c =
-    
     omega (arith, c.requires, c.decode-n.ensures.value, length_hex_bytes c.args.s.now)
 
 pub returns : goal.returns
 returns c =
     let d = c.decode-n in
-    
     let a = c.args in
     let s = a.s.now in
     let n = d.result in

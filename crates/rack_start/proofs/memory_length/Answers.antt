@@ -10,13 +10,11 @@ sixteen c = sym (length-map c.args.bench.tags (Tag.the_field).into) ∙ c.well_f
 
 pub returns-then-bench-lt16 : goal.returns-then-bench-lt16
 returns-then-bench-lt16 c =
-    
     let b = c.args.bench in
     let h = c.if-bench-lt16.true in
     record { value = sym (place_is b.tags b.count (omega (arith, h, sixteen c))); upper_bound = omega (arith, h) }
 
 pub returns : goal.returns
 returns c =
-    
     let b = c.args.bench in
     record { value = omega (arith, c.if-bench-lt16.false, sixteen c, sizes_are (take b.count b.tags), length-take b.count b.tags); upper_bound = omega arith }

@@ -11,7 +11,6 @@ use Rattle.rack_stream.proofs.end.Goals as goal
 
 pub returns-then-held-eq0 : goal.returns-then-held-eq0
 returns-then-held-eq0 c =
-    
     let a = c.args in
     let n = c.kept_count-held in
     record { out_after = ap (λ (r : PieceResult RackState). puts r a.out.now) (sym (end_none rack_program (length a.out.now) (rack_state a.bench a.m.now a.reply.now) (take a.have a.kept.now) (omega (arith, n.ensures, c.if-held-eq0.true, length-take a.have a.kept.now)))); wrote_in_bounds = omega arith }

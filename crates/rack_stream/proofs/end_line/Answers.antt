@@ -9,9 +9,6 @@ use Rattle.rack_stream.proofs.end_line.Goals as goal
 
 pub returns : goal.returns
 returns c =
-    
-    
-    
     let a = c.args in
     let st = rack_state a.bench a.m.now a.reply.now in
     record { text_after = c.line.ensures.text_after

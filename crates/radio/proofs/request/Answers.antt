@@ -11,16 +11,11 @@ verdict c = rw (← c.before.before.counted-dynamic.ensures, ← c.before.is-ope
 pub returns-in-Silence : goal.returns-in-Silence
 unfolding verdict_result answer_of buffer_of
 returns-in-Silence c =
-    
     rw (← verdict c, c.in-Silence.is)
 
 pub returns-in-Error : goal.returns-in-Error
 unfolding verdict_result
 returns-in-Error c =
-    
-    
-    
-    
     let a = c.args in
     said (verdict_result (verdict_of a.v a.u a.transfer a.programming a.f.now) a.v a.u a.vcc a.m.now a.f.now) a.out.now _ c.error.ensures
     (rw (← verdict c, c.in-Error.is))
@@ -28,8 +23,4 @@ returns-in-Error c =
 pub returns-in-Request : goal.returns-in-Request
 unfolding verdict_result
 returns-in-Request c =
-    
-    
-    
-    
     rw (← verdict c, c.in-Request.is, ← c.fields.ensures) c.serve.ensures

@@ -12,7 +12,6 @@ returns-then-s-ne2 c = rw (ne_eqb _ 2 c.if-s-ne2.true)
 pub returns-then-all_hex : goal.returns-then-all_hex
 unfolding line_by byte_sent
 returns-then-all_hex c =
-    
     rw (c.hex_byte-x.ensures, c.byte_at-then-all_hex.ensures, c.byte_at.ensures, eq-eqb _ 2 c.if-s-ne2.false, ← c.all_hex.ensures) (search picks depth 20)
 
 pub returns : goal.returns

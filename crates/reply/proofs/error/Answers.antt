@@ -5,8 +5,4 @@ use Rattle.reply.proofs.error.Goals as goal
 pub returns : goal.returns
 unfolding answer_of buffer_of
 returns c =
-    
-    
-    
-    
     c.close.ensures ∙ rw (c.put-2.ensures, c.code.ensures, c.put.ensures)

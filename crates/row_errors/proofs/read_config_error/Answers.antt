@@ -8,13 +8,9 @@ use Rattle.row_errors.proofs.read_config_error.Goals as goal
 pub returns-then-not-row : goal.returns-then-not-row
 unfolding first_says error_applies first_applying
 returns-then-not-row c dynamic busy =
-    
-    
     rw (← c.param.ensures, ← ap (λ (row : RegisterRow). row.radio) c.row_of-row.ensures) (search picks depth 20)
 
 pub returns : goal.returns
 unfolding first_says error_applies first_applying
 returns c dynamic busy =
-    
-    
     rw (← c.param.ensures, ← ap (λ (row : RegisterRow). row.radio) c.row_of-row.ensures) (search picks depth 20)

@@ -6,11 +6,9 @@ use Rattle.row_errors.proofs.status_error.Goals as goal
 pub returns-then-param-ge-BLOCKS : goal.returns-then-param-ge-BLOCKS
 unfolding first_says error_applies first_applying
 returns-then-param-ge-BLOCKS c dynamic busy =
-    
     rw (← c.param.ensures) (search picks depth 20)
 
 pub returns : goal.returns
 unfolding first_says error_applies first_applying
 returns c dynamic busy =
-    
     rw (← c.param.ensures) (search picks depth 20)

@@ -8,21 +8,16 @@ use Rattle.row_errors.proofs.write_password_error.Goals as goal
 pub returns-then-n-gt3 : goal.returns-then-n-gt3
 unfolding first_says error_applies first_applying
 returns-then-n-gt3 c dynamic busy =
-    
     rw (← c.param-n.ensures) (search picks depth 20)
 
 pub returns-then-v-n : goal.returns-then-v-n
 unfolding first_says error_applies first_applying
 returns-then-v-n c dynamic busy =
-    
-    
     let low : c.param-n.result < 4 = omega (arith, c.if-n-gt3.false) in
     rw (← c.param-n.ensures) (search (picks, low) depth 20)
 
 pub returns : goal.returns
 unfolding first_says error_applies first_applying
 returns c dynamic busy =
-    
-    
     let low : c.param-n.result < 4 = omega (arith, c.if-n-gt3.false) in
     rw (← c.param-n.ensures) (search (picks, low) depth 20)

@@ -17,9 +17,6 @@ returns-in-Unnumbered c = rw c.in-Unnumbered.is (nothing_stored _ _ (omega arith
 pub returns-in-Numbered : goal.returns-in-Numbered
 unfolding key_text
 returns-in-Numbered c =
-    
-    
-    
     let a = c.args in
     let o = a.text.now in
     let mark = c.put_mark-number in

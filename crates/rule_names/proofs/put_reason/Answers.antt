@@ -15,10 +15,6 @@ use Rattle.rule_names.proofs.put_reason.Goals as goal
 pub returns-in-SessionNeeded : goal.returns-in-SessionNeeded
 unfolding reason_text after_words
 returns-in-SessionNeeded c =
-    
-    
-    
-    
     let a = c.args in
     let o = a.text.now in
     let number = c.number in
@@ -31,8 +27,6 @@ returns-in-SessionNeeded c =
 pub returns-in_default : goal.returns-in_default
 unfolding reason_text
 returns-in_default c =
-    
-    
     let a = c.args in
     let number = c.number in
     let words : name_at number.result ≡ string_bytes (reason_words a.reason) = ap name_at number.ensures ∙ reason_named a.reason in

@@ -4,17 +4,12 @@ use Rattle.rule_names.specs.Text.{verdict_text}
 use borrow.Author.Rules.{rules}
 use Rattle.rule_names.proofs.put_verdict.Goals as goal
 
-slice-aggregate-put-part : tie.Need-slice-aggregate-put-part
-slice-aggregate-put-part c = search rules
-
 pub returns-in-Allowed : goal.returns-in-Allowed
 unfolding verdict_text string_bytes bytes_at
 returns-in-Allowed c =
-    
     rw c.in-Allowed.is c.put_part.ensures
 
 pub returns-in-Forbidden : goal.returns-in-Forbidden
 unfolding verdict_text
 returns-in-Forbidden c =
-    
     rw c.in-Forbidden.is c.put_reason.ensures

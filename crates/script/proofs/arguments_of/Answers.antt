@@ -33,7 +33,6 @@ slice_bounds-put_frame-start c = omega (arith, is_framed c)
 
 pub put_frame-requires : goal.put_frame-requires
 put_frame-requires c =
-    
     let s = c.args.s.now in
     let f = is_framed c in
     let e : take (length s - 2) (drop 2 s) ≡ drop 2 s = take_all (length s - 2) (drop 2 s) (omega (arith, length-drop 2 s)) in
@@ -42,7 +41,6 @@ put_frame-requires c =
 pub returns-in-Bad : goal.returns-in-Bad
 unfolding bench_of line_result line_by closed_frame pick
 returns-in-Bad c =
-    
     let a = c.args in
     let s = a.s.now in
     let f = a.frame.now in
@@ -52,7 +50,6 @@ returns-in-Bad c =
 pub returns-in-Signal : goal.returns-in-Signal
 unfolding bench_of line_result line_by closed_frame pick
 returns-in-Signal c =
-    
     let a = c.args in
     let s = a.s.now in
     let f = a.frame.now in
@@ -62,8 +59,6 @@ returns-in-Signal c =
 pub returns-in-Frame : goal.returns-in-Frame
 unfolding bench_of line_result line_by closed_frame pick
 returns-in-Frame c =
-    
-    
     let a = c.args in
     let s = a.s.now in
     let e = said s _ _ c.read.ensures c.in-Frame.is in

@@ -7,5 +7,4 @@ use Rattle.script.proofs.bad_line.Goals as goal
 pub returns : goal.returns
 unfolding answer_text name_field pick
 returns c =
-    
     λ (m : List ℕ). rw (c.put_line-length.ensures.text_after, c.put_line-length.ensures.value, c.next_line-number.ensures)

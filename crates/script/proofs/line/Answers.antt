@@ -11,10 +11,6 @@ use Rattle.script.proofs.line.Goals as goal
 
 pub returns-then-c : goal.returns-then-c
 returns-then-c c =
-    
-    
-    
-    
     let g = c.arguments_of-c in
     let k = g.result in
     let a = c.args in
@@ -29,14 +25,10 @@ returns-then-c c =
 
 pub slice_bounds-call-end : goal.slice_bounds-call-end
 slice_bounds-call-end c =
-    
     c.arguments_of-c.ensures.length_in_bounds
 
 pub returns : goal.returns
 returns c =
-    
-    
-    
     let a = c.args in
     let g = c.arguments_of-c in
     let k = g.result in

@@ -8,7 +8,6 @@ returns-in-Idle c = rw (c.no_ack.ensures, c.in-Idle.is)
 pub returns-in-Started : goal.returns-in-Started
 unfolding send_at
 returns-in-Started c =
-    
     rw c.in-Started.is (rw c.kept_of.ensures at c.select.ensures)
 
 pub returns-in-ReadLeg : goal.returns-in-ReadLeg
@@ -26,5 +25,4 @@ returns-in-LowAddress c = rw (c.low_address.ensures, c.in-LowAddress.is)
 pub returns-in-DataLeg : goal.returns-in-DataLeg
 unfolding send_at
 returns-in-DataLeg c =
-    
     rw c.in-DataLeg.is c.send_data.ensures

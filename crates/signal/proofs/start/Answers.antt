@@ -11,5 +11,4 @@ returns-then-not-w c = pick_false _ _ _ _ (not-true _ c.if-not-w.true) refl
 pub returns : goal.returns
 unfolding start_of
 returns c =
-    
     pick_true _ _ _ _ (not-false _ c.if-not-w.false) c.start_at.ensures

@@ -7,14 +7,10 @@ returns-then-spoiled-count c = none_due _ _ _ _ _ c.if-spoiled-count.true
 
 pub returns-then-acts_at_start : goal.returns-then-acts_at_start
 returns-then-acts_at_start c =
-    
-    
-    
     c.leg_written.ensures
     ∙ acts_started _ _ _ _ _ (sym c.acts_at_start.ensures ∙ c.if-acts_at_start.true)
     ∙ rw c.first_of-first.ensures (some_due _ _ _ _ _ c.if-spoiled-count.false)
 
 pub returns : goal.returns
 returns c =
-    
     dropped_started _ _ _ _ _ _ c.if-spoiled-count.false (rw c.first_of-first.ensures at (sym c.acts_at_start.ensures ∙ c.if-acts_at_start.false))

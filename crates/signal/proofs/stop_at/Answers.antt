@@ -17,7 +17,6 @@ returns-in-Started c = rw (c.with_bus-next.ensures, c.in-Started.is)
 pub returns-in-ReadLeg : goal.returns-in-ReadLeg
 unfolding stop_at due_of
 returns-in-ReadLeg c =
-    
     rw (c.End-read.ensures, c.with_bus-next.ensures, c.in-ReadLeg.is) (ap (λ (r : LegResult). wire_result Nothing r.side r.memory) (read_stopped _ _ _))
 
 pub returns-in-WriteLeg : goal.returns-in-WriteLeg
@@ -31,6 +30,4 @@ returns-in-LowAddress c = rw (c.with_bus-next.ensures, c.in-LowAddress.is)
 pub returns-in-DataLeg : goal.returns-in-DataLeg
 unfolding stop_at due_of
 returns-in-DataLeg c =
-    
-    
     rw c.in-DataLeg.is (rw c.with_bus-next.ensures at (ap (λ (r : LegResult). wire_result Nothing r.side r.memory) c.stop_write.ensures))

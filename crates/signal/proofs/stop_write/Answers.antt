@@ -7,6 +7,4 @@ returns-then-spoiled-count c = none_due _ _ _ _ _ c.if-spoiled-count.true
 
 pub returns : goal.returns
 returns c =
-    
-    
     c.leg_written.ensures ∙ acts_stopped _ _ _ _ _ ∙ rw c.first_of-first.ensures (some_due _ _ _ _ _ c.if-spoiled-count.false)

@@ -22,7 +22,6 @@ returns-then-code-value-3 c = search picks depth 20
 -- a byte sent is a byte
 pub overflow_cast-result : goal.overflow_cast-result
 overflow_cast-result c =
-    
     let a = c.args in omega (arith, leb-true a.value 255 (and_right (eqb a.code 4) _ c.if-code-value-4.true))
 
 pub returns-then-code-value-4 : goal.returns-then-code-value-4

@@ -15,7 +15,6 @@ returns-then-rule-ne0 c =
 pub returns : goal.returns
 unfolding request_silences first_silence pick
 returns c =
-    
     let a = c.args in
     let holds = silence_holds a.f.now a.a a.u a.dynamic in
     rw (says_append holds silence_number 0 reception_silences address_silences, numbered_or holds silence_number numbered _ reception_silences, ← c.first_of_reception-rule.ensures a.u, eq-eqb _ 0 c.if-rule-ne0.false) (c.first_of_address.ensures a.dynamic)

@@ -6,6 +6,5 @@ use Rattle.silence.proofs.is_silent.Goals as goal
 pub returns : goal.returns
 unfolding first_silence is_silent
 returns c =
-    
     let a = c.args in
     rw (numbered_any (silence_holds a.f.now a.a a.u a.dynamic) silence_number numbered request_silences, c.first_silence.ensures)

@@ -9,6 +9,4 @@ returns-then-byte_at-ne1 c = rw (← c.byte_at.ensures, ne_eqb _ 1 c.if-byte_at-
 pub returns : goal.returns
 unfolding uid_differs
 returns c =
-    
-    
     rw (c.own_uid-own.ensures, c.command-select.ensures, c.param_place-at.ensures.value, c.crc_place-end.ensures, ← c.byte_at.ensures, eq-eqb _ 1 c.if-byte_at-ne1.false)

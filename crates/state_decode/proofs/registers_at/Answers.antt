@@ -8,7 +8,6 @@ use Rattle.state_decode.proofs.registers_at.Goals as goal
 pub returns : goal.returns
 unfolding registers_at
 returns c =
-    
     let a = c.args in
     let bytes = bytes_at a.s.now a.at registers_part_length in
     c.from_bytes.ensures ∙ ap registers_of (c.put_bytes.ensures ∙ replaced bytes _ (sym (length_bytes_at a.s.now a.at registers_part_length)))

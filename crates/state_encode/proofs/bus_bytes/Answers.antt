@@ -8,13 +8,11 @@ returns-in-Idle c = rw c.in-Idle.is
 pub returns-in-Started : goal.returns-in-Started
 unfolding bus_bytes
 returns-in-Started c =
-    
     rw (c.transfer_byte.ensures, c.flag_byte.ensures, c.is_open_transfer.ensures, c.in-Started.is)
 
 pub returns-in-ReadLeg : goal.returns-in-ReadLeg
 unfolding bus_bytes
 returns-in-ReadLeg c =
-    
     rw (c.flag_byte-in-ReadLeg-2.ensures, c.flag_byte-in-ReadLeg.ensures, c.space_number.ensures, c.in-ReadLeg.is)
 
 pub returns-in-WriteLeg : goal.returns-in-WriteLeg

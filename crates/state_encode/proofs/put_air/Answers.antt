@@ -5,6 +5,4 @@ use Rattle.state_encode.proofs.put_air.Goals as goal
 pub returns : goal.returns
 unfolding bytes_at air_bytes
 returns c =
-    
-    
     rw (c.put_bytes.ensures, c.radio_number.ensures, c.flag_byte.ensures)

@@ -6,7 +6,5 @@ use Rattle.state_encode.proofs.put_registers.Goals as goal
 
 pub returns : goal.returns
 returns c =
-    
-    
     let a = c.args in
     rw (c.put_bytes.ensures, c.to_bytes-b.ensures, bytes_at_whole (register_bytes a.r) register_count (bytes_count a.r))

@@ -13,9 +13,6 @@ use Rattle.stream.proofs.end_line.Goals as goal
 
 pub returns : goal.returns
 returns c =
-    
-    
-    
     let a = c.args in
     let st = bench_state a.bench a.m.now a.reply.now in
     record { text_after = c.line.ensures.text_after

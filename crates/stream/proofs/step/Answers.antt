@@ -11,28 +11,13 @@ use Rattle.script.specs.Lines.{bench_state}
 use Rattle.script.specs.Bench.{LineBuffers}
 use Rattle.line_stream.specs.Step.{line_stored, piece_by, puts}
 use Rattle.unfinished.proofs.Held.{take_within}
-use Rattle.line_stream.proofs.Turn.{begins, turns, ends}
+use Rattle.line_stream.proofs.Turn.{Goes, begins, turns, ends}
 use Rattle.stream.specs.Program.{bench_program}
 use Rattle.stream.proofs.Program.{bench_tells}
 use Rattle.stream.proofs.step.Goals as goal
 
--- a turn: a line feed is left, and room for a text
-less : (c : tie.In-loop invariant-loop decreases-loop) → c.before.loop.end < length c.before.before.before.before.before.before.before.before.args.s.now
-less c =
-    let start : tie.Start invariant-loop decreases-loop = search rules in
-    let e = c.before.loop.end in
-    let n = length start.args.s.now in
-    ltb-true e n (and_left (ltb e n) (leb 1342 (length c.before.loop.out - c.before.loop.at)) c.loop-test.true)
-
-roomy : (c : tie.In-loop invariant-loop decreases-loop) → 1342 ≤ length c.before.loop.out - c.before.loop.at
-roomy c =
-    let start : tie.Start invariant-loop decreases-loop = search rules in
-    let r = length c.before.loop.out - c.before.loop.at in
-    leb-true 1342 r (and_right (ltb c.before.loop.end (length start.args.s.now)) (leb 1342 r) c.loop-test.true)
-
 pub loop-end-init : goal.loop-end-init
 loop-end-init c =
-    
     let a = c.args in
     let n = c.kept_count-n in
     let k : length a.kept.now ≡ 1201 = search rules in
@@ -43,54 +28,62 @@ overflow_sub-out c = omega (arith, c.loop-end.invariant.fits, c.loop-end.invaria
 
 pub slice_bounds-end_line-count : goal.slice_bounds-end_line-count
 slice_bounds-end_line-count c =
-    
     omega (arith, c.loop-end.invariant.next)
 
 pub slice_bounds-end_line-start : goal.slice_bounds-end_line-start
 slice_bounds-end_line-start c =
-    
     omega (arith, c.loop-end.invariant.next)
 
 pub slice_bounds-end_line-end : goal.slice_bounds-end_line-end
 slice_bounds-end_line-end c =
-    
     omega (arith, c.loop-end.invariant.within)
 
 pub slice_bounds-end_line-count-in-loop-end : goal.slice_bounds-end_line-count-in-loop-end
 slice_bounds-end_line-count-in-loop-end c =
-    
     omega (arith, c.loop-end.invariant.fits, c.loop-end.invariant.out_len)
 
 pub slice_bounds-end_line-start-in-loop-end : goal.slice_bounds-end_line-start-in-loop-end
 slice_bounds-end_line-start-in-loop-end c =
-    
     omega (arith, c.loop-end.invariant.fits, c.loop-end.invariant.out_len)
 
 pub end_line-o-requires : goal.end_line-o-requires
 end_line-o-requires c =
-    
     c.loop-end.invariant.few
 
 pub overflow_add-at : goal.overflow_add-at
-overflow_add-at c = omega (arith, c.end_line-o.ensures.length_le_text_room, roomy c, c.loop-end.invariant.out_len, c.loop-end.invariant.fits, c.well_formed.1.1.1.1.1.1.1.0.0)
+overflow_add-at c =
+    let roomy_here : 1342 ≤ length c.loop-end.out - c.loop-end.at = let r = length c.loop-end.out - c.loop-end.at in
+    leb-true 1342 r (and_right (ltb c.loop-end.end (length c.args.s.now)) (leb 1342 r) c.loop-end-test.true) in
+    omega (arith, c.end_line-o.ensures.length_le_text_room, roomy_here, c.loop-end.invariant.out_len, c.loop-end.invariant.fits, c.well_formed.1.1.1.1.1.1.1.0.0)
 
 pub overflow_add-from : goal.overflow_add-from
-overflow_add-from c = omega (arith, less c, c.well_formed.1.1.1.1.1.1.0.0)
+overflow_add-from c =
+    let less_here : c.loop-end.end < length c.args.s.now = let e = c.loop-end.end in
+    let n = length c.args.s.now in
+    ltb-true e n (and_left (ltb e n) (leb 1342 (length c.loop-end.out - c.loop-end.at)) c.loop-end-test.true) in
+    omega (arith, less_here, c.well_formed.1.1.1.1.1.1.0.0)
 
 pub loop-end-smaller : goal.loop-end-smaller
 loop-end-smaller c =
-    
-    omega (arith, less c, c.line_end-end-in-loop-end.ensures)
+    let less_here : c.loop-end.end < length c.args.s.now = let e = c.loop-end.end in
+    let n = length c.args.s.now in
+    ltb-true e n (and_left (ltb e n) (leb 1342 (length c.loop-end.out - c.loop-end.at)) c.loop-end-test.true) in
+    omega (arith, less_here, c.line_end-end-in-loop-end.ensures)
 
 pub loop-end-preserved : goal.loop-end-preserved
 loop-end-preserved c =
+    let less_here : c.loop-end.end < length c.args.s.now = let e = c.loop-end.end in
+    let n = length c.args.s.now in
+    ltb-true e n (and_left (ltb e n) (leb 1342 (length c.loop-end.out - c.loop-end.at)) c.loop-end-test.true) in
+    let roomy_here : 1342 ≤ length c.loop-end.out - c.loop-end.at = let r = length c.loop-end.out - c.loop-end.at in
+    leb-true 1342 r (and_right (ltb c.loop-end.end (length c.args.s.now)) (leb 1342 r) c.loop-end-test.true) in
     let a = c.args in
     let n = c.kept_count-n in
     let l = c.loop-end in
     let o = c.end_line-o in
     turns (bench_program a.named) (bench_state a.bench a.m.now a.reply.now) (take n.result a.kept.now) a.s.now a.out.now (bench_state l.bench l.m l.reply) l.auto l.out l.n l.from l.at l.end l.invariant
-    (bench_tells a.named) (bench_state o.result.bench o.new.m o.new.reply) o.result.length o.new.kept o.new.text c.line_end-end-in-loop-end.result
-    (less c) (roomy c) (ap (λ (x : LineBuffers). line_stored (bench_state x.bench x.memory x.reply) x.length x.buffer) o.ensures.text_after) o.ensures.length_le_text_room o.auto.text c.line_end-end-in-loop-end.ensures
+    (bench_tells a.named) (bench_state o.result.bench o.new.1.1.0 o.new.1.1.1.0) o.result.length o.new.1.1.1.1.0 o.new.1.1.1.1.1.1.1.1.0 c.line_end-end-in-loop-end.result
+    less_here roomy_here (ap (λ (x : LineBuffers). line_stored (bench_state x.bench x.memory x.reply) x.length x.buffer) o.ensures.text_after) o.ensures.length_le_text_room o.auto.1.1.1.1.1.1.1.1.0 c.line_end-end-in-loop-end.ensures
 
 pub slice_bounds-hold-count : goal.slice_bounds-hold-count
 slice_bounds-hold-count c = omega (arith, c.loop-end.invariant.next)
@@ -103,14 +96,10 @@ slice_bounds-hold-end c = omega (arith, c.loop-end.invariant.within)
 
 pub shape_of-out : goal.shape_of-out
 shape_of-out c =
-    
     c.loop-end.invariant.out_len
 
 pub returns : goal.returns
 returns c =
-    
-    
-    
     let a = c.args in
     let l = c.loop-end in
     let n = c.kept_count-n in

@@ -12,10 +12,6 @@ returns-then-k-lt17 c = rw (length_bytes_at _ 768 _) (search picks depth 20)
 pub returns-then-byte_at-eq9 : goal.returns-then-byte_at-eq9
 unfolding password_written
 returns-then-byte_at-eq9 c =
-    
-    
-    
-    
     let a = c.args in
     let m = a.m.now in
     let k = a.k in
@@ -24,11 +20,6 @@ returns-then-byte_at-eq9 c =
 pub returns-then-equals : goal.returns-then-equals
 unfolding password_written
 returns-then-equals c =
-    
-    
-    
-    
-    
     let a = c.args in
     let m = a.m.now in
     let k = a.k in
@@ -38,9 +29,6 @@ returns-then-equals c =
 pub returns : goal.returns
 unfolding password_written
 returns c =
-    
-    
-    
     let a = c.args in
     let m = a.m.now in
     let k = a.k in

@@ -10,14 +10,12 @@ use Rattle.unfinished.proofs.hold.Goals as goal
 
 pub overflow_sub-at : goal.overflow_sub-at
 overflow_sub-at c =
-    
     let k = c.kept_count-at in
     let l : length c.args.kept.now ≡ 1201 = search rules in
     omega (arith, l, k.ensures)
 
 pub overflow_add-result : goal.overflow_add-result
 overflow_add-result c =
-    
     let k = c.kept_count-at in
     let n = c.least-n in
     let l : length c.args.kept.now ≡ 1201 = search rules in
@@ -25,7 +23,6 @@ overflow_add-result c =
 
 pub returns : goal.returns
 returns c =
-    
     let a = c.args in
     let k = c.kept_count-at in
     let n = c.least-n in

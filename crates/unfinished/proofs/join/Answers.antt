@@ -14,7 +14,6 @@ returns-then-have-eq0 c =
 
 pub returns : goal.returns
 returns c =
-    
     let a = c.args in
     let held = c.hold.ensures in
     let some : a.have ≡ 0 → ⊥ = λ z. c.if-have-eq0.false (omega (arith, z)) in

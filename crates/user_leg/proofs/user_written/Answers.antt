@@ -8,7 +8,6 @@ use Rattle.user_leg.proofs.user_written.Goals as goal
 pub returns-then-first-lt512 : goal.returns-then-first-lt512
 unfolding user_written
 returns-then-first-lt512 c =
-    
     let stored = c.copy_bytes.ensures ∙ copied_down _ _ 768 _ (omega arith) in
     rw (c.start_programming.ensures, stored) (search picks depth 20)
 
@@ -23,7 +22,5 @@ returns-then-first-eq-MB_CTRL_DYN c = rw (c.with_core-then-first-eq-MB_CTRL_DYN.
 pub returns : goal.returns
 unfolding user_written
 returns c =
-    
-    
     let stored = c.copy_bytes-2.ensures ∙ copied_down _ 512 768 _ (omega arith) in
     rw (c.with_core-2.ensures, c.host_put-mailbox.ensures, stored, length_bytes_at _ 768 _) (search picks depth 20)

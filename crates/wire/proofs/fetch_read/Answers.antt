@@ -9,7 +9,5 @@ returns-then-over c = pick_true _ _ _ _ c.if-over.true (rw c.no_byte.ensures)
 pub returns : goal.returns
 unfolding fetch_at
 returns c =
-    
-    
     pick_false _ _ _ _ c.if-over.false
     (simp (c.with_line.ensures, c.Next-address.ensures, c.is_last-reached.ensures, c.fetched-x.ensures))

@@ -4,13 +4,11 @@ use Rattle.wire.proofs.step.Goals as goal
 pub returns-in-Start : goal.returns-in-Start
 unfolding signal_of
 returns-in-Start c =
-    
     rw (c.nothing.ensures, c.in-Start.is) c.start.ensures
 
 pub returns-in-Send : goal.returns-in-Send
 unfolding signal_of
 returns-in-Send c =
-    
     rw c.in-Send.is c.IsSend-at.ensures
 
 pub returns-in-Fetch : goal.returns-in-Fetch
@@ -20,7 +18,6 @@ returns-in-Fetch c = rw c.in-Fetch.is c.fetch_at.ensures
 pub returns-in-Stop : goal.returns-in-Stop
 unfolding signal_of
 returns-in-Stop c =
-    
     rw (c.nothing-in-Stop.ensures, c.in-Stop.is) c.stop_at.ensures
 
 pub returns-in-Vcc : goal.returns-in-Vcc

@@ -11,5 +11,4 @@ returns-in-Pointer c = rw (c.pointer_write.ensures, c.in-Pointer.is)
 
 pub returns-in-PasswordOf : goal.returns-in-PasswordOf
 returns-in-PasswordOf c =
-    
     rw (c.password_write.ensures c.args.c, c.in-PasswordOf.is)

@@ -17,8 +17,6 @@ loop-i-init c = (refl, omega arith)
 pub loop-i-preserved : goal.loop-i-preserved
 unfolding bytes_at
 loop-i-preserved c =
-    
-    
     let l = c.loop-i in
     let a = c.args in
     let xs = bytes_at a.m.now 768 l.i in (

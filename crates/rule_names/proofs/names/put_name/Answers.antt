@@ -10,5 +10,4 @@ returns-then-i-ge-COUNT c = rw (past_last _ c.if-i-ge-COUNT.true) (nothing_store
 pub returns : goal.returns
 unfolding end_to_end starts_from lengths_of names all_rules rule_words silence_words error_words string_bytes
 returns c =
-    
     rw (← piece_is _ c.if-i-ge-COUNT.false) c.put_part.ensures

@@ -18,9 +18,6 @@ loop-i-init c =
 
 pub loop-i-preserved : goal.loop-i-preserved
 loop-i-preserved c =
-    
-    
-    
     let l = c.loop-i in
     let p = c.put_in in
     let at = c.args.at in
@@ -39,7 +36,6 @@ shape_of-text c = c.loop-i.invariant.1.1.1
 pub returns : goal.returns
 unfolding digits_of
 returns c =
-    
     let l = c.loop-i in
     let k = c.digit_count-k in
     let a = c.args in

@@ -57,7 +57,7 @@ fn from_radio(answer: reply::RadioAnswer) -> Answer
 
 // ---- a signal that is not refused
 fn by_wire(t: Tag, m: &mut [u8], signal: WireSignal) -> Outcome
-    ensures* { λ r. ⌜ fresh_result r.answer r.tag m.new ≡ (let result = signal_of (wire_side t) t.uid m.old signal in fresh_result (from_wire result.answer) (with_wire result.side t) result.memory) ⌝ }
+    ensures { fresh_result result.answer result.tag m.new ≡ (let stepped = signal_of (wire_side t) t.uid m.old signal in fresh_result (from_wire stepped.answer) (with_wire stepped.side t) stepped.memory) }
 {
     let host = t.host;
     let core = t.core;

@@ -1,6 +1,6 @@
 -- The rule on a data byte is the verdict's yes or no. Assumes nothing.
 use mathlib.Core.Path.{◌≡◌, refl, sym, ap, ◌∙◌}
-use mathlib.Core.Bool.{Bool, true, false, not, ◌&&◌, ◌||◌, and-true, and-false, and_comm, and_assoc, or_false, false≢true, not-not}
+use mathlib.Core.Bool.{Bool, true, false, not, ◌&&◌, ◌||◌, and-true, and-false, and_comm, and_assoc, or-false, false≢true, not-not}
 use mathlib.Core.List.{List}
 use Prim.Native.Nat.{ℕ, ◌+◌, ◌/◌, ◌≤◌, ◌<◌}
 use native.Mathlib.Omega.{arith}
@@ -130,10 +130,10 @@ module _ (c : Core) (session : Bool) (first k : ℕ) (earlier : List ℕ) (x : �
   password_more true true true h g i = absurd (omega (arith, eqb-true x 0x07 g, eqb-true x 0x09 i))
   password_more true true false h g i =
       let n : k ≡ 8 = eqb-true k 8 h in
-      rw (password_chain, h, g, i, lt-leb 17 k (omega arith), lt-ltb k 256 (omega arith)) (simp bools (rw or_false (and_comm (not c.mailbox.enabled) session)))
+      rw (password_chain, h, g, i, lt-leb 17 k (omega arith), lt-ltb k 256 (omega arith)) (simp bools (rw or-false (and_comm (not c.mailbox.enabled) session)))
   password_more true false e h g i =
       let n : k ≡ 8 = eqb-true k 8 h in
-      rw (password_chain, h, g, i, lt-leb 17 k (omega arith), lt-ltb k 256 (omega arith)) (simp bools (sym (or_false e)))
+      rw (password_chain, h, g, i, lt-leb 17 k (omega arith), lt-ltb k 256 (omega arith)) (simp bools (sym (or-false e)))
   password_more false d e h g i = rw (password_chain, h) (simp bools (not_leb 17 k ∙ narrower k (ltb k 17) refl))
 
   -- ---- user space past the memory

@@ -1,6 +1,6 @@
 -- A read leg past its select. Assumes nothing.
 use mathlib.Core.Path.{◌≡◌, refl, ◌∙◌}
-use mathlib.Core.Bool.{Bool, true, false, not, ◌||◌, or_false, or_assoc}
+use mathlib.Core.Bool.{Bool, true, false, not, ◌||◌, or-false, or_assoc}
 use mathlib.Core.List.{List, [], ◌∷◌}
 use Prim.Native.Nat.{ℕ}
 use Rattle.parts.specs.Pick.{pick}
@@ -37,7 +37,7 @@ pub fetch_run : (ms : List Move) (w : WireSide) (u : Uid) (m : List ℕ) (kept :
     → run_of (side_line c (ReadLeg kept s false l) w) u m (signals ms)
     ≡ transfer_result (replies 0 (bytes_fetched s w u m c (served ms)) ms) (side_line (onward (served ms) c) (ReadLeg kept s (over ms) (l || last_among s w c (served ms))) w) m
 unfolding run_of signals replies served onward bytes_fetched last_among over signal_of wire_signal send_at fetch_at pick
-fetch_run [] w u m kept s c l = rw or_false
+fetch_run [] w u m kept s c l = rw or-false
 fetch_run (move_send x ∷ ms) w u m kept s c l =
     first_then (side_line c (ReadLeg kept s false l) w) u m (NotedSend x) (signals ms) _ _ refl (fetch_run ms w u m kept s c l)
 fetch_run (move_fetch true ∷ ms) w u m kept s c l =
@@ -47,4 +47,4 @@ fetch_run (move_fetch true ∷ ms) w u m kept s c l =
 fetch_run (move_fetch false ∷ ms) w u m kept s c l =
     first_then (side_line c (ReadLeg kept s false l) w) u m (NotedFetch false) (signals ms) _ _ (fetch_step kept s l c w u m false)
     (still _ u m (λ x. refl) (λ a. refl) ms)
-    ∙ rw or_false
+    ∙ rw or-false

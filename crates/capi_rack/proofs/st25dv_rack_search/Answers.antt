@@ -10,9 +10,6 @@ use Rattle.rack_search.specs.Search.{search_entry}
 use Rattle.capi_rack.proofs.Calls.{refused_search, searched}
 use Rattle.capi_rack.proofs.st25dv_rack_search.Goals as goal
 
-sixteen : (c : tie.After-search) → length c.search.result.tags ≡ 16
-sixteen c = sym (length-map c.search.result.tags (tag-type.the_type).to) ∙ c.search.type-inv.1.1.1.0.1.0.1
-
 pub returns-in-RefusedBy : goal.returns-in-RefusedBy
 returns-in-RefusedBy c =
     let a = c.args in
@@ -20,6 +17,7 @@ returns-in-RefusedBy c =
 
 pub returns-in-NoRefusal : goal.returns-in-NoRefusal
 returns-in-NoRefusal c =
+    let sixteen_here : length c.search-o.result.tags ≡ 16 = sym (length-map c.search-o.result.tags (tag-type.the_type).to) ∙ c.search-o.type_inv.1.1.1.0.1.0.1 in
     let a = c.args in
     let o = c.search-o in
     searched a.number a.s.now a.m.now a.out.now a.frame.now o.result.answer o.result.tags o.new.memory o.new.out c.encode_tags.new.s
@@ -27,4 +25,4 @@ returns-in-NoRefusal c =
     (are_below _ (λ i. let p = c.slice_known-1.given i in omega (arith, p)))
     (sym c.rack_bytes_refusal-judged.ensures ∙ c.in-NoRefusal.is)
     (o.ensures.out_after ∙ ap (λ (tags : List Tag). search_entry (rack_of (take a.number tags) a.m.now) a.out.now a.frame.now) c.decode_tags-tags.ensures)
-    (sixteen c) c.encode_tags.ensures c.search_number.ensures
+    sixteen_here c.encode_tags.ensures c.search_number.ensures

@@ -11,9 +11,6 @@ use Rattle.rack.specs.Step.{rack_entry}
 use Rattle.capi_rack.proofs.Calls.{refused_step, stepped}
 use Rattle.capi_rack.proofs.st25dv_rack_step.Goals as goal
 
-sixteen : (c : tie.After-step) → length c.step.result.tags ≡ 16
-sixteen c = sym (length-map c.step.result.tags (tag-type.the_type).to) ∙ c.step.type-inv.1.1.1.1.0.1.0.1
-
 pub returns-in-RefusedBy : goal.returns-in-RefusedBy
 returns-in-RefusedBy c =
     let a = c.args in
@@ -22,6 +19,7 @@ returns-in-RefusedBy c =
 
 pub returns-in-NoRefusal : goal.returns-in-NoRefusal
 returns-in-NoRefusal c =
+    let sixteen_here : length c.step-o.result.tags ≡ 16 = sym (length-map c.step-o.result.tags (tag-type.the_type).to) ∙ c.step-o.type_inv.1.1.1.1.0.1.0.1 in
     let a = c.args in
     let o = c.step-o in
     let call = rack_call (handed_in a.out.now a.code a.value a.frame.now) a.to in
@@ -30,4 +28,4 @@ returns-in-NoRefusal c =
     (are_below _ (λ i. let p = c.slice_known-1.given i in omega (arith, p)))
     (sym c.rack_bytes_refusal-judged.ensures ∙ c.in-NoRefusal.is)
     (o.ensures.memory_after ∙ ap (λ (tags : List Tag). rack_entry (rack_of (take a.number tags) a.m.now) call) c.decode_tags-tags.ensures)
-    (sixteen c) c.encode_tags.ensures c.answer_number.ensures c.mask.ensures
+    sixteen_here c.encode_tags.ensures c.answer_number.ensures c.mask.ensures

@@ -10,7 +10,7 @@ use Rattle.parts.proofs.Below.{are_below}
 use Rattle.rack.specs.Rack.{rack_of}
 use Rattle.rack.specs.Step.{rack_entry}
 use Rattle.rack_search.specs.declared.SearchAnswer.{SearchAnswer}
-use Rattle.rack_search.specs.declared.SearchAnswer.TheVariants.{NoCollision, Collision}
+use Rattle.rack_search.specs.declared.SearchAnswer.TheVariants.{Collision}
 use Rattle.rack_search.specs.Search.{sends_frame, search_result, look}
 use Rattle.rack_search.proofs.Search.{formed_of}
 use Rattle.collision_search.proofs.Slots.{count, Counted, none_counted, on_silence, on_first, on_second, at_end, Looking, looking_first, none_left, collided, looking_next}
@@ -21,19 +21,19 @@ use Rattle.collision_search.proofs.look_into.Goals as goal
 fewer : (c : tie.After-open-slot invariant-loop decreases-loop invariant-search decreases-search) → count c.open-slot.result.heard.answered < 2
     → let a = c.before.before.before.before.before.before.before.before.args in
     let call = c.open-slot in
-    Looking a.number a.slots a.frame.now a.tags a.memory.now a.out.now (suc c.before.before.before.before.search.slot) call.result.tags call.new.1.1.0 call.new.1.1.1.0
+    Looking a.number a.slots a.frame.now a.tags a.memory.now a.out.now (suc c.before.before.before.before.search.slot) call.result.tags call.new.memory call.new.out
 fewer c less =
     let s = c.before.before.before.before.search in
     let start = c.before.before.before.before.before.before.before.before in
     let a = start.args in
     let call = c.open-slot in
     looking_next a.number a.slots a.frame.now start.requires.0 (bytes c.before.before.before.before.before) a.tags a.memory.now a.out.now s.slot s.left s.memory s.out s.invariant.1
-    call.result.heard call.result.tags call.new.1.1.0 call.new.1.1.1.0 call.ensures c.before.before.before.search-test.true less call.auto.1.1.0 call.auto.1.1.1.0
+    call.result.heard call.result.tags call.new.memory call.new.out call.ensures c.before.before.before.search-test.true less call.auto.memory call.auto.out
 
 two : (c : tie.After-open-slot invariant-loop decreases-loop invariant-search decreases-search) → 2 ≤ count c.open-slot.result.heard.answered
     → let a = c.before.before.before.before.before.before.before.before.args in
     let call = c.open-slot in
-    (search_result (Collision c.before.before.before.before.search.slot) (rack_of (take a.number call.result.tags) call.new.1.1.0) call.new.1.1.1.0
+    (search_result (Collision c.before.before.before.before.search.slot) (rack_of (take a.number call.result.tags) call.new.memory) call.new.out
     ≡ look rack_entry a.slots 0 (rack_of (take a.number a.tags) a.memory.now) (sends_frame a.out.now a.frame.now))
     × (drop a.number call.result.tags ≡ drop a.number a.tags)
 two c enough =
@@ -42,7 +42,7 @@ two c enough =
     let a = start.args in
     let call = c.open-slot in
     collided a.number a.slots a.frame.now start.requires.0 (bytes c.before.before.before.before.before) a.tags a.memory.now a.out.now s.slot s.left s.memory s.out s.invariant.1
-    call.result.heard call.result.tags call.new.1.1.0 call.new.1.1.1.0 call.ensures c.before.before.before.search-test.true enough
+    call.result.heard call.result.tags call.new.memory call.new.out call.ensures c.before.before.before.search-test.true enough
 
 pub search-init : goal.search-init
 search-init c =
@@ -74,7 +74,7 @@ search-preserved c =
     let a = c.args in
     let call = c.open_slot-opened in (
       l.invariant.0,
-      subst (λ (k : ℕ). Looking a.number a.slots a.frame.now a.tags a.memory.now a.out.now k call.result.tags call.new.1.1.0 call.new.1.1.1.0)
+      subst (λ (k : ℕ). Looking a.number a.slots a.frame.now a.tags a.memory.now a.out.now k call.result.tags call.new.memory call.new.out)
           (sym (add-one c.search.slot))
           (fewer c (at_end bs l.seen l.i noted_here l.invariant.1 c.loop-i-test.false)),
     )

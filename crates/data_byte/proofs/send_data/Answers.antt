@@ -14,7 +14,7 @@ pub returns-then-is_allowed : goal.returns-then-is_allowed
 returns-then-is_allowed c =
     let a = c.args in
     let j = judged a.kept a.space a.k a.spoiled a.w a.m.now a.x _ _ _ c.asked_of.ensures c.verdict-verdict.ensures c.is_allowed.ensures ∙ c.if-is_allowed.true in
-    rw (c.with_line.ensures, c.Next-address.ensures, c.put_in.ensures, add-one a.k) (taken a.kept a.space a.k a.spoiled a.w a.m.now a.x j)
+    rw (c.with_line.ensures, c.next_address-next.ensures, c.put_in.ensures, add-one a.k) (taken a.kept a.space a.k a.spoiled a.w a.m.now a.x j)
 
 pub returns-then-spoiled : goal.returns-then-spoiled
 returns-then-spoiled c =

@@ -1,6 +1,5 @@
 use mathlib.Core.Path.{ap}
 use Rattle.text.specs.Place.{Stored}
-use borrow.Author.Rules.{rules}
 use Rattle.example_lines.proofs.write_line.Goals as goal
 
 pub returns-then-write_all : goal.returns-then-write_all

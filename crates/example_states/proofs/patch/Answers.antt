@@ -1,6 +1,5 @@
 use mathlib.Core.Path.{refl, sym, ap, ◌∙◌}
 use mathlib.Core.Bool.{true}
-use borrow.Author.Tests.{not-true, not-false}
 use Rattle.parts.proofs.Picks.{pick_true, pick_false}
 use Rattle.example_states.specs.States.{patch_outcome, patch_by}
 use Rattle.example_states.proofs.States.{encoded, patched_by}
@@ -11,7 +10,7 @@ unfolding patch_by
 returns-then-not-store c =
     let t = c.args.t in
     let e = c.encode in
-    pick_false _ _ _ _ (not-true _ c.if-not-store.true) refl
+    pick_false _ _ _ _ (c.if-not-store.true) refl
     ∙ patched_by t _ _ _ (encoded t _ _ refl e.ensures.t_len e.ensures.s_after) c.store.ensures
 
 pub returns-then-not-decodes : goal.returns-then-not-decodes
@@ -19,7 +18,7 @@ unfolding patch_by
 returns-then-not-decodes c =
     let t = c.args.t in
     let e = c.encode in
-    pick_true _ _ _ _ (not-false _ c.if-not-store.false) (pick_false _ _ _ _ (sym c.decodes.ensures ∙ not-true _ c.if-not-decodes.true) refl)
+    pick_true _ _ _ _ (c.if-not-store.false) (pick_false _ _ _ _ (sym c.decodes.ensures ∙ c.if-not-decodes.true) refl)
     ∙ patched_by t _ _ _ (encoded t _ _ refl e.ensures.t_len e.ensures.s_after) c.store.ensures
 
 pub returns : goal.returns
@@ -27,6 +26,6 @@ unfolding patch_by
 returns c =
     let t = c.args.t in
     let e = c.encode in
-    pick_true _ _ _ _ (not-false _ c.if-not-store.false)
-    (pick_true _ _ _ _ (sym c.decodes.ensures ∙ not-false _ c.if-not-decodes.false) (ap (patch_outcome true) c.decode.ensures))
+    pick_true _ _ _ _ (c.if-not-store.false)
+    (pick_true _ _ _ _ (sym c.decodes.ensures ∙ c.if-not-decodes.false) (ap (patch_outcome true) c.decode.ensures))
     ∙ patched_by t _ _ _ (encoded t _ _ refl e.ensures.t_len e.ensures.s_after) c.store.ensures

@@ -13,5 +13,5 @@ returns c =
     let a = c.args in
     let e = c.encode.ensures in
     c.put_hex.ensures
-    ∙ ap (λ (l : List ℕ). text_at a.text.now a.at (hex_text (take state_bytes l))) (encoded a.t _ _ refl e.1 e.0)
-    ∙ ap (λ (l : List ℕ). text_at a.text.now a.at (hex_text l)) (all_bytes a.t e.1)
+    ∙ ap (λ (l : List ℕ). text_at a.text.now a.at (hex_text (take state_bytes l))) (encoded a.t _ _ refl e.t_len e.s_after)
+    ∙ ap (λ (l : List ℕ). text_at a.text.now a.at (hex_text l)) (all_bytes a.t e.t_len)

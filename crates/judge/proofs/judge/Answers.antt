@@ -1,4 +1,3 @@
-use borrow.Author.Rules.{rules}
 use Rattle.parts.specs.Pick.{pick}
 use Rattle.parts.proofs.Picks.{picks}
 use Rattle.judge.proofs.Muted.{muted, judge_muted}

@@ -24,10 +24,10 @@ returns-then-b-pointer c =
     (rw (← c.asked-count.ensures) (search picks depth 20))
 
 pub overflow_cast-count-3 : goal.overflow_cast-count-3
-overflow_cast-count-3 c = omega (arith, c.asked-count.type-inv)
+overflow_cast-count-3 c = omega (arith, c.asked-count.type_inv)
 
 pub overflow_add-count : goal.overflow_add-count
-overflow_add-count c = omega (arith, c.asked-count.type-inv)
+overflow_add-count c = omega (arith, c.asked-count.type_inv)
 
 pub returns : goal.returns
 unfolding read_message_of

@@ -2,7 +2,6 @@ use mathlib.Core.Path.{◌≡◌, refl, sym, ap, ◌∙◌}
 use mathlib.Core.Bool.{true, false}
 use Prim.Native.Nat.{◌-◌}
 use native.Mathlib.Omega.{arith}
-use borrow.Author.Tests.{not-true, not-false}
 use Rattle.bus.specs.declared.Space.TheVariants.{System}
 use Rattle.page.specs.PageRange.{page_acked}
 use Rattle.page.proofs.Acks.{next_acked, refused_at}
@@ -14,12 +13,12 @@ loop-i-init c = (refl, omega arith)
 
 pub returns-then-not-allowed : goal.returns-then-not-allowed
 returns-then-not-allowed c =
-    refused_at _ _ _ _ _ _ _ (omega arith) (rw c.byte_in-x.ensures at (sym c.allowed.ensures ∙ not-true _ c.if-not-allowed.true))
+    refused_at _ _ _ _ _ _ _ (omega arith) (rw c.byte_in-x.ensures at (sym c.allowed.ensures ∙ c.if-not-allowed.true))
 
 pub loop-i-preserved : goal.loop-i-preserved
 loop-i-preserved c =
     let l = c.loop-i in
-    (next_acked _ _ _ _ _ _ l.invariant.0 (rw c.byte_in-x.ensures at (sym c.allowed.ensures ∙ not-false _ c.if-not-allowed.false)), omega arith)
+    (next_acked _ _ _ _ _ _ l.invariant.0 (rw c.byte_in-x.ensures at (sym c.allowed.ensures ∙ c.if-not-allowed.false)), omega arith)
 
 pub returns : goal.returns
 returns c =

@@ -42,8 +42,8 @@ loop-i-preserved c =
     let l = c.loop-i in
     let a = c.args in
     let p = c.requires in
-    let number : length a.t1 ≡ 16 = search rules in (
-      rw (add-one l.i) (ranges_more a.t1 a.memory.now l.i l.at (l.at + 1024 - l.at) _ l.all c.in_range.result (omega (arith, p.0, number)) l.invariant.1 (omega arith) l.invariant.0 c.in_range.ensures),
+    let number : length a.tags ≡ 16 = search rules in (
+      rw (add-one l.i) (ranges_more a.tags a.memory.now l.i l.at (l.at + 1024 - l.at) _ l.all c.in_range.result (omega (arith, p.0, number)) l.invariant.1 (omega arith) l.invariant.0 c.in_range.ensures),
       omega (arith, l.invariant.1),
       omega arith,
     )

@@ -16,10 +16,10 @@ pub loop-i-preserved : goal.loop-i-preserved
 loop-i-preserved c =
     let l = c.loop-i in
     let a = c.args in
-    let number : length a.t1 ≡ 16 = search rules in
-    let h : l.i < length a.t1 = omega (arith, number) in (
-      rw (add-one l.i) (gathered_next a.t1 l.i _ h number l.uids l.invariant.0),
-      rw (add-one l.i) (equal_next a.t1 l.i _ h number l.uids l.found c.uid_among-one.result l.invariant.0 l.invariant.1 c.uid_among-one.ensures),
+    let number : length a.tags ≡ 16 = search rules in
+    let h : l.i < length a.tags = omega (arith, number) in (
+      rw (add-one l.i) (gathered_next a.tags l.i _ h number l.uids l.invariant.0),
+      rw (add-one l.i) (equal_next a.tags l.i _ h number l.uids l.found c.uid_among-one.result l.invariant.0 l.invariant.1 c.uid_among-one.ensures),
       omega arith,
     )
 

@@ -11,51 +11,82 @@ use Rattle.rack_judge.proofs.Rules.{number_rules, by_number_lem}
 use borrow.Author.Rules.{rules}
 use Rattle.rack_judge.proofs.rack_refusal.Goals as goal
 
--- the rules, by the number of tags
-counted : (c : tie.After-tag-count) → let a = c.before.before.before.args in
-    judgement (rack_rules (rack_of (take a.number a.tags) a.memory.now) (rack_call (handed_in a.out.now a.code a.value []) a.to))
-    ≡ judgement (number_rules a.tags c.tag-count.result a.memory.now (handed_in a.out.now a.code a.value []) a.to)
-counted c =
-    let a = c.before.before.before.args in
-    let number : length a.tags ≡ 16 = search rules in
-    ap judgement (by_number_lem a.tags a.number c.tag-count.result a.memory.now (handed_in a.out.now a.code a.value []) a.to number c.tag-count.ensures)
-
 pub returns-then-memory-n : goal.returns-then-memory-n
 unfolding judgement first_says
 returns-then-memory-n c =
-    rw (counted c) (search picks depth 20)
+    let counted_here : let a = c.args in
+    judgement (rack_rules (rack_of (take a.number a.tags) a.memory.now) (rack_call (handed_in a.out.now a.code a.value []) a.to))
+    ≡ judgement (number_rules a.tags c.tag_count-n.result a.memory.now (handed_in a.out.now a.code a.value []) a.to) = let a = c.args in
+    let number : length a.tags ≡ 16 = search rules in
+    ap judgement (by_number_lem a.tags a.number c.tag_count-n.result a.memory.now (handed_in a.out.now a.code a.value []) a.to number c.tag_count-n.ensures) in
+    rw counted_here (search picks depth 20)
 
 pub returns-then-out-lt-REPLY_BYTES : goal.returns-then-out-lt-REPLY_BYTES
 unfolding judgement first_says
 returns-then-out-lt-REPLY_BYTES c =
-    rw (counted c) (search picks depth 20)
+    let counted_here : let a = c.args in
+    judgement (rack_rules (rack_of (take a.number a.tags) a.memory.now) (rack_call (handed_in a.out.now a.code a.value []) a.to))
+    ≡ judgement (number_rules a.tags c.tag_count-n.result a.memory.now (handed_in a.out.now a.code a.value []) a.to) = let a = c.args in
+    let number : length a.tags ≡ 16 = search rules in
+    ap judgement (by_number_lem a.tags a.number c.tag_count-n.result a.memory.now (handed_in a.out.now a.code a.value []) a.to number c.tag_count-n.ensures) in
+    rw counted_here (search picks depth 20)
 
 pub returns-then-not-signal_in_range : goal.returns-then-not-signal_in_range
 unfolding judgement first_says
 returns-then-not-signal_in_range c =
-    rw (counted c, ← c.signal_in_range.ensures) (search picks depth 20)
+    let counted_here : let a = c.args in
+    judgement (rack_rules (rack_of (take a.number a.tags) a.memory.now) (rack_call (handed_in a.out.now a.code a.value []) a.to))
+    ≡ judgement (number_rules a.tags c.tag_count-n.result a.memory.now (handed_in a.out.now a.code a.value []) a.to) = let a = c.args in
+    let number : length a.tags ≡ 16 = search rules in
+    ap judgement (by_number_lem a.tags a.number c.tag_count-n.result a.memory.now (handed_in a.out.now a.code a.value []) a.to number c.tag_count-n.ensures) in
+    rw (counted_here, ← c.signal_in_range.ensures) (search picks depth 20)
 
 pub returns-then-not-all_in_range : goal.returns-then-not-all_in_range
 unfolding judgement first_says
 returns-then-not-all_in_range c =
-    rw (counted c, ← c.signal_in_range.ensures, ← c.all_in_range.ensures) (search picks depth 20)
+    let counted_here : let a = c.args in
+    judgement (rack_rules (rack_of (take a.number a.tags) a.memory.now) (rack_call (handed_in a.out.now a.code a.value []) a.to))
+    ≡ judgement (number_rules a.tags c.tag_count-n.result a.memory.now (handed_in a.out.now a.code a.value []) a.to) = let a = c.args in
+    let number : length a.tags ≡ 16 = search rules in
+    ap judgement (by_number_lem a.tags a.number c.tag_count-n.result a.memory.now (handed_in a.out.now a.code a.value []) a.to number c.tag_count-n.ensures) in
+    rw (counted_here, ← c.signal_in_range.ensures, ← c.all_in_range.ensures) (search picks depth 20)
 
 pub returns-then-n-eq0 : goal.returns-then-n-eq0
 unfolding judgement first_says
 returns-then-n-eq0 c =
-    rw (counted c, ← c.signal_in_range.ensures, ← c.all_in_range.ensures) (search picks depth 20)
+    let counted_here : let a = c.args in
+    judgement (rack_rules (rack_of (take a.number a.tags) a.memory.now) (rack_call (handed_in a.out.now a.code a.value []) a.to))
+    ≡ judgement (number_rules a.tags c.tag_count-n.result a.memory.now (handed_in a.out.now a.code a.value []) a.to) = let a = c.args in
+    let number : length a.tags ≡ 16 = search rules in
+    ap judgement (by_number_lem a.tags a.number c.tag_count-n.result a.memory.now (handed_in a.out.now a.code a.value []) a.to number c.tag_count-n.ensures) in
+    rw (counted_here, ← c.signal_in_range.ensures, ← c.all_in_range.ensures) (search picks depth 20)
 
 pub returns-then-to_all-n : goal.returns-then-to_all-n
 unfolding judgement first_says
 returns-then-to_all-n c =
-    rw (counted c, ← c.signal_in_range.ensures, ← c.all_in_range.ensures, ← c.to_all.ensures) (search picks depth 20)
+    let counted_here : let a = c.args in
+    judgement (rack_rules (rack_of (take a.number a.tags) a.memory.now) (rack_call (handed_in a.out.now a.code a.value []) a.to))
+    ≡ judgement (number_rules a.tags c.tag_count-n.result a.memory.now (handed_in a.out.now a.code a.value []) a.to) = let a = c.args in
+    let number : length a.tags ≡ 16 = search rules in
+    ap judgement (by_number_lem a.tags a.number c.tag_count-n.result a.memory.now (handed_in a.out.now a.code a.value []) a.to number c.tag_count-n.ensures) in
+    rw (counted_here, ← c.signal_in_range.ensures, ← c.all_in_range.ensures, ← c.to_all.ensures) (search picks depth 20)
 
 pub returns-then-equal_uids : goal.returns-then-equal_uids
 unfolding judgement first_says
 returns-then-equal_uids c =
-    rw (counted c, ← c.signal_in_range.ensures, ← c.all_in_range.ensures, ← c.to_all.ensures, ← c.equal_uids.ensures) (search picks depth 20)
+    let counted_here : let a = c.args in
+    judgement (rack_rules (rack_of (take a.number a.tags) a.memory.now) (rack_call (handed_in a.out.now a.code a.value []) a.to))
+    ≡ judgement (number_rules a.tags c.tag_count-n.result a.memory.now (handed_in a.out.now a.code a.value []) a.to) = let a = c.args in
+    let number : length a.tags ≡ 16 = search rules in
+    ap judgement (by_number_lem a.tags a.number c.tag_count-n.result a.memory.now (handed_in a.out.now a.code a.value []) a.to number c.tag_count-n.ensures) in
+    rw (counted_here, ← c.signal_in_range.ensures, ← c.all_in_range.ensures, ← c.to_all.ensures, ← c.equal_uids.ensures) (search picks depth 20)
 
 pub returns : goal.returns
 unfolding judgement first_says
 returns c =
-    rw (counted c, ← c.signal_in_range.ensures, ← c.all_in_range.ensures, ← c.to_all.ensures, ← c.equal_uids.ensures) (search picks depth 20)
+    let counted_here : let a = c.args in
+    judgement (rack_rules (rack_of (take a.number a.tags) a.memory.now) (rack_call (handed_in a.out.now a.code a.value []) a.to))
+    ≡ judgement (number_rules a.tags c.tag_count-n.result a.memory.now (handed_in a.out.now a.code a.value []) a.to) = let a = c.args in
+    let number : length a.tags ≡ 16 = search rules in
+    ap judgement (by_number_lem a.tags a.number c.tag_count-n.result a.memory.now (handed_in a.out.now a.code a.value []) a.to number c.tag_count-n.ensures) in
+    rw (counted_here, ← c.signal_in_range.ensures, ← c.all_in_range.ensures, ← c.to_all.ensures, ← c.equal_uids.ensures) (search picks depth 20)

@@ -4,7 +4,7 @@ use Rattle.rack_printing.proofs.put_found.Goals as goal
 pub returns-in-Refused : goal.returns-in-Refused
 unfolding search_text
 returns-in-Refused c =
-    rw c.in-Refused.is c.Put-refused.ensures
+    rw c.in-Refused.is c.put_refused.ensures
 
 pub returns-in-NoCollision : goal.returns-in-NoCollision
 unfolding search_text

@@ -28,9 +28,9 @@ returns c =
     let f = c.put_report-end in
     let room : length o ≤ last_place = omega arith in
     let k : length a.out.now ≡ 643 = search rules in
-    let to-report = w.ensures ∙ behind o n.last.0 head x 0 n.result room n.ensures in
-    let to_end = f.ensures ∙ behind o w.last.1.1.0 (head ++ x) y 0 w.result room to-report in
-    let e = end.ensures ∙ behind o f.last.0 ((head ++ x) ++ y) (0x0A ∷ []) 0 f.result room to_end in
-    line_stored_lem o end.new.0 (x ++ y) (((head ++ x) ++ y) ++ 0x0A ∷ []) a.number end.result
+    let to-report = w.ensures ∙ behind o n.new.text head x 0 n.result room n.ensures in
+    let to_end = f.ensures ∙ behind o w.new.text (head ++ x) y 0 w.result room to-report in
+    let e = end.ensures ∙ behind o f.new.text ((head ++ x) ++ y) (0x0A ∷ []) 0 f.result room to_end in
+    line_stored_lem o end.new.text (x ++ y) (((head ++ x) ++ y) ++ 0x0A ∷ []) a.number end.result
     (omega (arith, length-append x y, said_most a.said a.out.now k, report_most a.answered flags_here))
     (line_parts a.number x y) e

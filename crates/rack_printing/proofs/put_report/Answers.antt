@@ -14,25 +14,23 @@ use Rattle.rack_printing.specs.Text.{numbers_text}
 use Rattle.rack_printing.proofs.TextLaws.{report_more}
 use Rattle.rack_printing.proofs.put_report.Goals as goal
 
-flags : (c : tie.Start invariant-loop decreases-loop) → length c.args.t3 ≡ 16
-flags c = search rules
-
 pub loop-i-init : goal.loop-i-init
 loop-i-init c = (refl, (omega arith, (omega arith, refl)))
 
 pub loop-i-preserved : goal.loop-i-preserved
 loop-i-preserved c =
+    let flags_here : length c.args.answered ≡ 16 = search rules in
     let l = c.loop-i in
     let a = c.args in
     let p = c.put_number-to in
-    let k = flags c in
-    let one = get_or a.t3 l.i false in
+    let k = flags_here in
+    let one = get_or a.answered l.i false in
     let t = pick one (l.mark ∷ decimal l.i) [] in
-    let rest = numbers_from (l.i + 1) (drop (l.i + 1) a.t3) in
+    let rest = numbers_from (l.i + 1) (drop (l.i + 1) a.answered) in
     let room : length l.text ≤ last_place = omega arith in (
       ap (λ (m : ℕ). text_at p.new.text p.result (numbers_text m rest)) c.next_mark-mark.ensures
           ∙ behind l.text p.new.text t (numbers_text (pick one 0x2C l.mark) rest) l.to p.result room p.ensures
-          ∙ ap (λ (s : List ℕ). text_at l.text l.to s) (sym (report_more a.t3 l.i l.mark (omega arith)))
+          ∙ ap (λ (s : List ℕ). text_at l.text l.to s) (sym (report_more a.answered l.i l.mark (omega arith)))
           ∙ l.invariant.0,
       (omega arith, (omega (arith, ap (λ (s : Stored). s.next) p.ensures), same_room l.text p.new.text t l.to p.result p.ensures ∙ l.invariant.1.1.1)),
     )
@@ -43,10 +41,11 @@ shape_of-text c = c.loop-i.invariant.1.1.1
 pub returns : goal.returns
 unfolding numbers_text numbers_from
 returns c =
+    let flags_here : length c.args.answered ≡ 16 = search rules in
     let l = c.loop-i in
     let a = c.args in
-    let k = flags c in
-    let e : drop l.i a.t3 ≡ [] = drop_of_length-le a.t3 {i = l.i} (omega arith) in
+    let k = flags_here in
+    let e : drop l.i a.answered ≡ [] = drop_of_length-le a.answered {i = l.i} (omega arith) in
     let n : l.to ≡ min (l.to + 0) last_place = omega arith in
     ap (λ (j : ℕ). stored j l.text) n
     ∙ sym (ap (λ (f : List Bool). text_at l.text l.to (numbers_text l.mark (numbers_from l.i f))) e)

@@ -9,7 +9,7 @@ use Rattle.rack_printing.proofs.put_said.Goals as goal
 pub returns-in-Refused : goal.returns-in-Refused
 unfolding said_text
 returns-in-Refused c =
-    rw c.in-Refused.is c.Put-refused.ensures
+    rw c.in-Refused.is c.put_refused.ensures
 
 pub returns-in_default : goal.returns-in_default
 returns-in_default c =

@@ -9,10 +9,6 @@ use Rattle.rack_reading.specs.Line.{name_line, is_digit, all_digits, number_from
 use Rattle.rack_reading.proofs.NumberLaws.{digits_step, number_step, number_grows, digit_from, digit_most, no_digit, too_much, named}
 use Rattle.rack_reading.proofs.number_sent.Goals as goal
 
--- the text is well begun past the first test
-begun : (c : tie.Else1 invariant-loop decreases-loop) → badly_begun c.before.before.before.args.s.now ≡ false
-begun c = rw (← c.before.byte_at.ensures) c.if1.false
-
 -- a test that was turned round
 held : (b d : Bool) → b ≡ d → not b ≡ false → d ≡ true
 held true d e h = sym e
@@ -32,10 +28,11 @@ loop-i-init c = (refl, (refl, (omega arith, omega arith)))
 pub returns-then-not-is_digit : goal.returns-then-not-is_digit
 unfolding rack_line_by
 returns-then-not-is_digit c =
+    let begun_here : badly_begun c.args.s.now ≡ false = rw (← c.byte_at-first.ensures) c.if-s-first.false in
     let l = c.loop-i in
     let s = c.args.s.now in
     let d = failed _ _ c.is_digit.ensures c.if-not-is_digit.true in
-    no_digit s (begun c) (sym l.invariant.0 ∙ digits_step s l.i (omega arith) ∙ ap (λ (b : Bool). b && all_digits (drop (l.i + 1) s)) d)
+    no_digit s begun_here (sym l.invariant.0 ∙ digits_step s l.i (omega arith) ∙ ap (λ (b : Bool). b && all_digits (drop (l.i + 1) s)) d)
 
 pub overflow_sub-n : goal.overflow_sub-n
 overflow_sub-n c = digit_from _ (held _ _ c.is_digit.ensures c.if-not-is_digit.false)
@@ -49,10 +46,11 @@ overflow_add-n c = omega (arith, digit_most _ (held _ _ c.is_digit.ensures c.if-
 pub returns-then-n-gt255 : goal.returns-then-n-gt255
 unfolding rack_line_by
 returns-then-n-gt255 c =
+    let begun_here : badly_begun c.args.s.now ≡ false = rw (← c.byte_at-first.ensures) c.if-s-first.false in
     let l = c.loop-i in
     let s = c.args.s.now in
     let n = 10 * l.n + (get_or s l.i 0 - 0x30) in
-    too_much s (begun c) (omega (arith, c.if-n-gt255.true, number_grows (drop (l.i + 1) s) n, sym (number_step l.n s l.i (omega arith)) ∙ l.invariant.1.0))
+    too_much s begun_here (omega (arith, c.if-n-gt255.true, number_grows (drop (l.i + 1) s) n, sym (number_step l.n s l.i (omega arith)) ∙ l.invariant.1.0))
 
 pub loop-i-preserved : goal.loop-i-preserved
 loop-i-preserved c =
@@ -66,8 +64,9 @@ loop-i-preserved c =
 pub returns : goal.returns
 unfolding rack_line_by all_digits number_from
 returns c =
+    let begun_here : badly_begun c.args.s.now ≡ false = rw (← c.byte_at-first.ensures) c.if-s-first.false in
     let l = c.loop-i in
     let s = c.args.s.now in
     let e : drop l.i s ≡ [] = drop_of_length-le s {i = l.i} (omega arith) in
     let n : l.n ≡ number_of s = sym (ap (number_from l.n) e) ∙ l.invariant.1.0 in
-    ap name_line n ∙ named s (begun c) (sym l.invariant.0 ∙ ap all_digits e) (omega (arith, sym n))
+    ap name_line n ∙ named s begun_here (sym l.invariant.0 ∙ ap all_digits e) (omega (arith, sym n))

@@ -1,5 +1,4 @@
 use Rattle.std.proofs.Common.{sym, refl, ap, ◌∙◌}
-use borrow.Author.Tests.{not-true, not-false}
 use Rattle.keys.specs.declared.Uid.{Uid}
 use Rattle.parts.proofs.Picks.{pick_true, pick_false}
 use Rattle.line_stream.specs.Step.{LineAnswer, stores_line}
@@ -14,7 +13,7 @@ returns-then-not-takes_tag c =
     let a = c.args in
     c.bad_line.ensures a.m.now a.reply.now
     ∙ ap (λ (r : LineAnswer RackState). stores_line r a.text.now)
-    (pick_false _ _ _ (takes_tag a.bench) (sym t.ensures ∙ not-true t.result c.if-not-takes_tag.true) refl)
+    (pick_false _ _ _ (takes_tag a.bench) (sym t.ensures ∙ c.if-not-takes_tag.true) refl)
 
 pub returns : goal.returns
 unfolding add_answered
@@ -28,4 +27,4 @@ returns c =
     ∙ ap (λ (r : RackAdded). stores_line (numbered (rack_state r.bench r.memory a.reply.now) none_text) a.text.now)
     (w.ensures ∙ ap (λ (x : Uid). added_tag x a.bench a.m.now) u.ensures)
     ∙ ap (λ (r : LineAnswer RackState). stores_line r a.text.now)
-    (pick_true _ _ _ (takes_tag a.bench) (sym t.ensures ∙ not-false t.result c.if-not-takes_tag.false) refl)
+    (pick_true _ _ _ (takes_tag a.bench) (sym t.ensures ∙ c.if-not-takes_tag.false) refl)

@@ -1,4 +1,4 @@
-use Rattle.std.proofs.Common.{◌≡◌, ℕ, List, drop, refl, ap, ◌∙◌, arith, length-drop, length-take, rules}
+use Rattle.std.proofs.Common.{ℕ, List, drop, refl, ap, ◌∙◌, arith, length-drop, length-take}
 use Rattle.reading.proofs.LineLaws.{Framed}
 use Rattle.line_stream.specs.Step.{line_stored, stores_line}
 use Rattle.rack_reading.specs.declared.RackReading.TheVariants.{Bad, Signal, Frame, Add, Name, Search}
@@ -30,7 +30,7 @@ put_frame-n-requires c =
 pub slice_bounds-call_line-end-in-Frame-2 : goal.slice_bounds-call_line-end-in-Frame-2
 slice_bounds-call_line-end-in-Frame-2 c =
     let w = c.put_frame-n in
-    omega (arith, w.ensures.upper_bound, length-take w.result w.new.1.0)
+    omega (arith, w.ensures.upper_bound, length-take w.result w.new.m)
 
 pub slice_bounds-add_line-count : goal.slice_bounds-add_line-count
 unfolding rack_line_by has_digits
@@ -66,7 +66,7 @@ put_frame-n-requires-in-Search c =
 pub slice_bounds-search_line-end-in-Search : goal.slice_bounds-search_line-end-in-Search
 slice_bounds-search_line-end-in-Search c =
     let w = c.put_frame-n-in-Search in
-    omega (arith, w.ensures.upper_bound, length-take w.result w.new.1.0)
+    omega (arith, w.ensures.upper_bound, length-take w.result w.new.m)
 
 pub returns-in-Bad : goal.returns-in-Bad
 unfolding rack_line_by rack_line_answer rack_frame
@@ -76,7 +76,7 @@ returns-in-Bad c =
     let w = c.bad_line in
     let s = a.s.now in
     let st = rack_state a.bench a.m.now a.reply.now in
-    settled st s a.text.now (rack_line_by Bad (drop 2 s)) (line_stored (rack_state w.result.bench a.m.now a.reply.now) w.result.length w.new.1.0) a.frame.now a.frame.now
+    settled st s a.text.now (rack_line_by Bad (drop 2 s)) (line_stored (rack_state w.result.bench a.m.now a.reply.now) w.result.length w.new.m) a.frame.now a.frame.now
     (said s _ Bad r.ensures c.in-Bad.is)
     (w.ensures a.m.now a.reply.now)
     refl
@@ -89,7 +89,7 @@ returns-in-Signal c =
     let w = c.call_line in
     let s = a.s.now in
     let st = rack_state a.bench a.m.now a.reply.now in
-    settled st s a.text.now (rack_line_by (Signal _ _) (drop 2 s)) (line_stored (rack_state w.result.bench w.new.1.0 w.new.1.1.0) w.result.length w.new.1.1.1.1.1.1.0) a.frame.now a.frame.now
+    settled st s a.text.now (rack_line_by (Signal _ _) (drop 2 s)) (line_stored (rack_state w.result.bench w.new.m w.new.reply) w.result.length w.new.1.1.1.1.1.1.0) a.frame.now a.frame.now
     (said s _ (Signal _ _) r.ensures c.in-Signal.is)
     w.ensures
     refl
@@ -103,7 +103,7 @@ returns-in-Frame c =
     let f = c.put_frame-n in
     let s = a.s.now in
     let st = rack_state a.bench a.m.now a.reply.now in
-    settled st s a.text.now (rack_line_by Frame (drop 2 s)) (line_stored (rack_state w.result.bench w.new.1.0 w.new.1.1.0) w.result.length w.new.1.1.1.1.1.1.0) a.frame.now f.new.1.0
+    settled st s a.text.now (rack_line_by Frame (drop 2 s)) (line_stored (rack_state w.result.bench w.new.m w.new.reply) w.result.length w.new.1.1.1.1.1.1.0) a.frame.now f.new.frame
     (said s _ Frame r.ensures c.in-Frame.is)
     (w.ensures ∙ ap (λ (z : List ℕ). stores_line (call_answered 8 0 st z) a.text.now) (rw (behind_tab s) at f.ensures.frame_after))
     (rw (behind_tab s) at f.ensures.frame_after_2)
@@ -116,7 +116,7 @@ returns-in-Add c =
     let w = c.add_line in
     let s = a.s.now in
     let st = rack_state a.bench a.m.now a.reply.now in
-    settled st s a.text.now (rack_line_by Add (drop 2 s)) (line_stored (rack_state w.result.bench w.new.1.0 a.reply.now) w.result.length w.new.1.1.1.1.0) a.frame.now a.frame.now
+    settled st s a.text.now (rack_line_by Add (drop 2 s)) (line_stored (rack_state w.result.bench w.new.m a.reply.now) w.result.length w.new.text) a.frame.now a.frame.now
     (said s _ Add r.ensures c.in-Add.is)
     (w.ensures ∙ ap (λ (z : List ℕ). stores_line (add_answered (uid_of z) st) a.text.now) (behind_tab s))
     refl
@@ -129,7 +129,7 @@ returns-in-Name c =
     let w = c.name_line in
     let s = a.s.now in
     let st = rack_state a.bench a.m.now a.reply.now in
-    settled st s a.text.now (rack_line_by (Name _) (drop 2 s)) (line_stored (rack_state w.result.bench a.m.now a.reply.now) w.result.length w.new.1.1.1.0) a.frame.now a.frame.now
+    settled st s a.text.now (rack_line_by (Name _) (drop 2 s)) (line_stored (rack_state w.result.bench a.m.now a.reply.now) w.result.length w.new.frame) a.frame.now a.frame.now
     (said s _ (Name _) r.ensures c.in-Name.is)
     (w.ensures a.m.now)
     refl
@@ -143,7 +143,7 @@ returns-in-Search c =
     let f = c.put_frame-n-in-Search in
     let s = a.s.now in
     let st = rack_state a.bench a.m.now a.reply.now in
-    settled st s a.text.now (rack_line_by Search (drop 2 s)) (line_stored (rack_state w.result.bench w.new.1.0 w.new.1.1.0) w.result.length w.new.1.1.1.1.0) a.frame.now f.new.1.0
+    settled st s a.text.now (rack_line_by Search (drop 2 s)) (line_stored (rack_state w.result.bench w.new.m w.new.reply) w.result.length w.new.text) a.frame.now f.new.frame
     (said s _ Search r.ensures c.in-Search.is)
     (w.ensures ∙ ap (λ (z : List ℕ). stores_line (search_answered st z) a.text.now) (rw (behind_tab s) at f.ensures.frame_after))
     (rw (behind_tab s) at f.ensures.frame_after_2)

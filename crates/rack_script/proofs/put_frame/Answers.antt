@@ -24,4 +24,4 @@ returns c =
     c.close.ensures
     ∙ ap (λ (x : List ℕ). closed_at x n) d.ensures.out_after
     ∙ closed_at_lem (hex_bytes s) a.frame.now n (sym d.ensures.value) (omega (arith, p, h, l, d.ensures.value)) in
-    record { frame_after = ap (λ (x : List ℕ). take (n + 2) x) e ∙ frame_stored (hex_bytes s) a.frame.now n (sym d.ensures.value) (omega (arith, p, h, l, d.ensures.value)); upper_bound = omega (arith, p, h, l, d.ensures.value, c.close.auto.out ∙ d.auto.1.0); frame_after_2 = e }
+    record { frame_after = ap (λ (x : List ℕ). take (n + 2) x) e ∙ frame_stored (hex_bytes s) a.frame.now n (sym d.ensures.value) (omega (arith, p, h, l, d.ensures.value)); upper_bound = omega (arith, p, h, l, d.ensures.value, c.close.auto.out ∙ d.auto.out); frame_after_2 = e }

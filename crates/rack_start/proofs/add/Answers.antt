@@ -1,8 +1,6 @@
-use borrow.Author.Rules.{rules}
-use mathlib.Core.Path.{◌≡◌, refl, sym, ap, ◌∙◌}
+use mathlib.Core.Path.{◌≡◌, refl, sym, ◌∙◌}
 use mathlib.Core.Bool.{true, false}
 use native.Mathlib.Omega.{arith}
-use borrow.Author.Tests.{not-true, not-false}
 use Prim.Native.Nat.{◌<◌}
 use lib.ListN.{length, length-map}
 use Rattle.tag.specs.contracts.Tag as Tag
@@ -13,26 +11,26 @@ use Rattle.rack_start.proofs.add.Goals as goal
 
 pub returns-then-not-takes_tag : goal.returns-then-not-takes_tag
 unfolding added_tag
-returns-then-not-takes_tag c = pick_false _ _ _ (takes_tag c.args.bench) (sym c.takes_tag.ensures ∙ not-true c.takes_tag.result c.if-not-takes_tag.true) refl
+returns-then-not-takes_tag c = pick_false _ _ _ (takes_tag c.args.bench) (sym c.takes_tag.ensures ∙ c.if-not-takes_tag.true) refl
 
 pub overflow_mul-i : goal.overflow_mul-i
 overflow_mul-i c =
-    let few_here : c.args.bench.count < 16 = room_left c.args.bench (sym c.takes_tag.ensures ∙ not-false c.takes_tag.result c.if-not-takes_tag.false) in
+    let few_here : c.args.bench.count < 16 = room_left c.args.bench (sym c.takes_tag.ensures ∙ c.if-not-takes_tag.false) in
     omega (arith, few_here)
 
 pub offset_bounds-n-i : goal.offset_bounds-n-i
 offset_bounds-n-i c =
-    let few_here : c.args.bench.count < 16 = room_left c.args.bench (sym c.takes_tag.ensures ∙ not-false c.takes_tag.result c.if-not-takes_tag.false) in
+    let few_here : c.args.bench.count < 16 = room_left c.args.bench (sym c.takes_tag.ensures ∙ c.if-not-takes_tag.false) in
     omega (arith, few_here)
 
 pub bounds-n-i : goal.bounds-n-i
 bounds-n-i c =
-    let few_here : c.args.bench.count < 16 = room_left c.args.bench (sym c.takes_tag.ensures ∙ not-false c.takes_tag.result c.if-not-takes_tag.false) in
+    let few_here : c.args.bench.count < 16 = room_left c.args.bench (sym c.takes_tag.ensures ∙ c.if-not-takes_tag.false) in
     few_here
 
 pub overflow_add-n : goal.overflow_add-n
 overflow_add-n c =
-    let few_here : c.args.bench.count < 16 = room_left c.args.bench (sym c.takes_tag.ensures ∙ not-false c.takes_tag.result c.if-not-takes_tag.false) in
+    let few_here : c.args.bench.count < 16 = room_left c.args.bench (sym c.takes_tag.ensures ∙ c.if-not-takes_tag.false) in
     omega (arith, few_here)
 
 pub returns : goal.returns
@@ -40,5 +38,5 @@ returns c =
     let sixteen_here : length c.args.bench.tags ≡ 16 = sym (length-map c.args.bench.tags (Tag.the_field).into) ∙ c.well_formed.0.1.1.0.1.0.1 in
     let a = c.args in
     added_is a.uid a.bench a.m.now c.put_bytes.new.m c.fresh.result
-    (sym c.takes_tag.ensures ∙ not-false c.takes_tag.result c.if-not-takes_tag.false)
+    (sym c.takes_tag.ensures ∙ c.if-not-takes_tag.false)
     sixteen_here c.fresh.ensures c.put_bytes.ensures

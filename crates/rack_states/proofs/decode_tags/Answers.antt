@@ -6,8 +6,7 @@ use lib.ListN.{length}
 use Rattle.parts.proofs.Bools.{and_left, and_right}
 use Rattle.state.specs.Layout.{state_bytes}
 use Rattle.rack_states.proofs.States.{whole_state}
-use Rattle.rack_states.proofs.Decoding.{Decoding, decoding_starts, decoding_more, decoding_ends}
-use borrow.Author.Rules.{rules}
+use Rattle.rack_states.proofs.Decoding.{decoding_starts, decoding_more, decoding_ends}
 use Rattle.rack_states.proofs.decode_tags.Goals as goal
 
 pub loop-i-init : goal.loop-i-init

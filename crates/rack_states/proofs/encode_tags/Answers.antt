@@ -7,7 +7,7 @@ use lib.Dec.{ltb, leb}
 use lib.ListN.{length}
 use Rattle.parts.proofs.Bools.{and_left, and_right}
 use Rattle.state.specs.Layout.{state_bytes}
-use Rattle.rack_states.proofs.Encoding.{Encoding, encoding_starts, encoding_more, encoding_ends}
+use Rattle.rack_states.proofs.Encoding.{encoding_starts, encoding_more, encoding_ends}
 use borrow.Author.Rules.{rules}
 use Rattle.rack_states.proofs.encode_tags.Goals as goal
 
@@ -34,18 +34,18 @@ loop-i-smaller c =
 
 pub loop-i-preserved : goal.loop-i-preserved
 loop-i-preserved c =
-    let sixteen_here : length c.args.t1 ≡ 16 = search rules in
+    let sixteen_here : length c.args.tags ≡ 16 = search rules in
     let fewer_here : c.loop-i.i < 16 = let l = c.loop-i in
     ltb-true l.i 16 (and_left (ltb l.i 16) (leb state_bytes (length l.s - l.at)) c.loop-i-test.true) in
     let room_here : state_bytes ≤ length c.loop-i.s - c.loop-i.at = let l = c.loop-i in
     leb-true state_bytes (length l.s - l.at) (and_right (ltb l.i 16) (leb state_bytes (length l.s - l.at)) c.loop-i-test.true) in
     let l = c.loop-i in
-    encoding_more c.args.s.now c.args.t1 l.s l.i l.at (l.at + 87 - l.at) _ c.encode.new.s
+    encoding_more c.args.s.now c.args.tags l.s l.i l.at (l.at + 87 - l.at) _ c.encode.new.s
     l.invariant sixteen_here fewer_here room_here (omega arith) c.encode.ensures.s_after c.encode.ensures.t_len
     (same_len_mid l.at (l.at + 87 - l.at) l.s c.encode.new.s c.encode.auto.s)
 
 pub returns : goal.returns
 returns c =
-    let sixteen_here : length c.args.t1 ≡ 16 = search rules in
+    let sixteen_here : length c.args.tags ≡ 16 = search rules in
     let l = c.loop-i in
-    encoding_ends c.args.s.now c.args.t1 l.s l.i l.at l.invariant sixteen_here c.loop-i-test.false
+    encoding_ends c.args.s.now c.args.tags l.s l.i l.at l.invariant sixteen_here c.loop-i-test.false

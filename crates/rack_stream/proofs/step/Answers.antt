@@ -9,8 +9,8 @@ use lib.ListN.{length, take}
 use Rattle.parts.proofs.Bools.{and_left, and_right}
 use Rattle.line_stream.specs.Step.{piece_by, puts}
 use Rattle.unfinished.proofs.Held.{take_within}
-use Rattle.line_stream.proofs.Turn.{Goes, begins, turns, ends}
-use Rattle.rack_script.specs.Script.{RackState, rack_state, rack_program}
+use Rattle.line_stream.proofs.Turn.{begins, turns, ends}
+use Rattle.rack_script.specs.Script.{rack_state, rack_program}
 use Rattle.rack_script.proofs.Fits.{rack_tells}
 use Rattle.rack_stream.proofs.step.Goals as goal
 
@@ -80,8 +80,8 @@ loop-end-preserved c =
     let l = c.loop-end in
     let o = c.end_line-o in
     turns rack_program (rack_state a.bench a.m.now a.reply.now) (take n.result a.kept.now) a.s.now a.out.now (rack_state l.bench l.m l.reply) l.auto l.out l.n l.from l.at l.end l.invariant
-    rack_tells (rack_state o.result.bench o.new.1.0 o.new.1.1.0) o.result.length o.new.1.1.1.0 o.new.1.1.1.1.1.1.1.0 c.line_end-end-in-loop-end.result
-    less_here roomy_here o.ensures.text_after o.ensures.length_le_text_room o.auto.1.1.1.1.1.1.1.0 c.line_end-end-in-loop-end.ensures
+    rack_tells (rack_state o.result.bench o.new.m o.new.reply) o.result.length o.new.kept o.new.text c.line_end-end-in-loop-end.result
+    less_here roomy_here o.ensures.text_after o.ensures.length_le_text_room o.auto.text c.line_end-end-in-loop-end.ensures
 
 pub slice_bounds-hold-count : goal.slice_bounds-hold-count
 slice_bounds-hold-count c = omega (arith, c.loop-end.invariant.next)

@@ -1,7 +1,6 @@
 use Rattle.parts.specs.Bytes.{bytes_at}
 use Rattle.rule_names.specs.Names.{string_bytes}
 use Rattle.rule_names.specs.Text.{verdict_text}
-use borrow.Author.Rules.{rules}
 use Rattle.rule_names.proofs.put_verdict.Goals as goal
 
 pub returns-in-Allowed : goal.returns-in-Allowed

@@ -11,30 +11,33 @@ use Rattle.reading.specs.Line.{ScriptLine, line_of, line_by}
 use Rattle.hexadecimal.specs.Hex.{hex_bytes}
 use Rattle.reading.specs.declared.Reading.{Reading}
 use Rattle.reading.proofs.LineLaws.{framed, Framed}
-use borrow.Author.Rules.{rules}
 use Rattle.script.proofs.arguments_of.Goals as goal
 
 -- what the line says, by what was read
 said : (s : List ℕ) (r x : Reading) → line_by r (drop 2 s) ≡ line_of s → r ≡ x → line_of s ≡ line_by x (drop 2 s)
 said s r x e h = sym e ∙ ap (λ (y : Reading). line_by y (drop 2 s)) h
 
-is_framed : (c : tie.After-enum-told2) → Framed c.before.before.before.before.args.s.now
-unfolding line_by
-is_framed c =
-    let start : tie.Start = search rules in
-    let s = start.args.s.now in
-    framed s (hex_bytes (drop 2 s)) (said s _ _ c.before.before.read.ensures c.enum-told2.given.1)
-
 pub slice_bounds-put_frame-count : goal.slice_bounds-put_frame-count
-slice_bounds-put_frame-count c = omega (arith, is_framed c)
+unfolding line_by
+slice_bounds-put_frame-count c =
+    let is_framed_here : Framed c.args.s.now = let s = c.args.s.now in
+    framed s (hex_bytes (drop 2 s)) (said s _ _ c.read.ensures c.in-Frame.is) in
+    omega (arith, is_framed_here)
 
 pub slice_bounds-put_frame-start : goal.slice_bounds-put_frame-start
-slice_bounds-put_frame-start c = omega (arith, is_framed c)
+unfolding line_by
+slice_bounds-put_frame-start c =
+    let is_framed_here : Framed c.args.s.now = let s = c.args.s.now in
+    framed s (hex_bytes (drop 2 s)) (said s _ _ c.read.ensures c.in-Frame.is) in
+    omega (arith, is_framed_here)
 
 pub put_frame-requires : goal.put_frame-requires
+unfolding line_by
 put_frame-requires c =
+    let is_framed_here : Framed c.args.s.now = let s = c.args.s.now in
+    framed s (hex_bytes (drop 2 s)) (said s _ _ c.read.ensures c.in-Frame.is) in
     let s = c.args.s.now in
-    let f = is_framed c in
+    let f = is_framed_here in
     let e : take (length s - 2) (drop 2 s) ≡ drop 2 s = take_all (length s - 2) (drop 2 s) (omega (arith, length-drop 2 s)) in
     rw e (omega (arith, f, length-drop 2 s))
 

@@ -17,7 +17,7 @@ returns-in-Started c = rw (c.started-next.ensures, c.in-Started.is)
 pub returns-in-ReadLeg : goal.returns-in-ReadLeg
 unfolding start_at due_of
 returns-in-ReadLeg c =
-    rw (c.End-read.ensures, c.started-next.ensures, c.in-ReadLeg.is) (ap (λ (r : LegResult). wire_result Nothing r.side r.memory) (read_started _ _ _))
+    rw (c.end_read.ensures, c.started-next.ensures, c.in-ReadLeg.is) (ap (λ (r : LegResult). wire_result Nothing r.side r.memory) (read_started _ _ _))
 
 pub returns-in-WriteLeg : goal.returns-in-WriteLeg
 unfolding start_at settle due_of

@@ -17,7 +17,7 @@ returns-in-Started c = rw (c.with_bus-next.ensures, c.in-Started.is)
 pub returns-in-ReadLeg : goal.returns-in-ReadLeg
 unfolding stop_at due_of
 returns-in-ReadLeg c =
-    rw (c.End-read.ensures, c.with_bus-next.ensures, c.in-ReadLeg.is) (ap (λ (r : LegResult). wire_result Nothing r.side r.memory) (read_stopped _ _ _))
+    rw (c.end_read.ensures, c.with_bus-next.ensures, c.in-ReadLeg.is) (ap (λ (r : LegResult). wire_result Nothing r.side r.memory) (read_stopped _ _ _))
 
 pub returns-in-WriteLeg : goal.returns-in-WriteLeg
 unfolding stop_at settle due_of

@@ -7,4 +7,4 @@ returns c =
     let a = c.args in
     let keys = c.put_passwords.ensures in
     let uid = c.put_eight.ensures in
-    record { s_after = tag_stored a.t a.s.now _ _ _ _ _ _ keys.1 c.put_air.ensures c.put_host.ensures c.put_registers.ensures c.put_mailbox.ensures keys.0 uid.0; t_len = bytes_length a.t keys.1 uid.1 }
+    record { s_after = tag_stored a.t a.s.now _ _ _ _ _ _ keys.p_len c.put_air.ensures c.put_host.ensures c.put_registers.ensures c.put_mailbox.ensures keys.s_after uid.s_after; t_len = bytes_length a.t keys.p_len uid.bytes_len }

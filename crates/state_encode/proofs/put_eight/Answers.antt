@@ -8,5 +8,5 @@ use Rattle.state_encode.proofs.put_eight.Goals as goal
 pub returns : goal.returns
 returns c =
     let a = c.args in
-    let e : length a.t1 ≡ 8 = omega arith in
-    record { s_after = c.put_bytes.ensures ∙ ap (sets a.s.now a.at) (bytes_at_whole a.t1 8 e); bytes_len = e }
+    let e : length a.bytes ≡ 8 = omega arith in
+    record { s_after = c.put_bytes.ensures ∙ ap (sets a.s.now a.at) (bytes_at_whole a.bytes 8 e); bytes_len = e }

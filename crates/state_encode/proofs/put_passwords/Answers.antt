@@ -10,5 +10,5 @@ returns c =
     let rf1 = c.put_eight-3.ensures in
     let rf2 = c.put_eight-4.ensures in
     let rf3 = c.put_eight-5.ensures in
-    let e : Eights a.p = record { i2c = i2c.1; rf0 = rf0.1; rf1 = rf1.1; rf2 = rf2.1; rf3 = rf3.1 } in
-    record { s_after = passwords_stored a.p a.s.now a.at _ _ _ _ _ e i2c.0 rf0.0 rf1.0 rf2.0 rf3.0; p_len = passwords_length a.p e }
+    let e : Eights a.p = record { i2c = i2c.bytes_len; rf0 = rf0.bytes_len; rf1 = rf1.bytes_len; rf2 = rf2.bytes_len; rf3 = rf3.bytes_len } in
+    record { s_after = passwords_stored a.p a.s.now a.at _ _ _ _ _ e i2c.s_after rf0.s_after rf1.s_after rf2.s_after rf3.s_after; p_len = passwords_length a.p e }

@@ -11,7 +11,7 @@ use Rattle.script.specs.Lines.{bench_state}
 use Rattle.script.specs.Bench.{LineBuffers}
 use Rattle.line_stream.specs.Step.{line_stored, piece_by, puts}
 use Rattle.unfinished.proofs.Held.{take_within}
-use Rattle.line_stream.proofs.Turn.{Goes, begins, turns, ends}
+use Rattle.line_stream.proofs.Turn.{begins, turns, ends}
 use Rattle.stream.specs.Program.{bench_program}
 use Rattle.stream.proofs.Program.{bench_tells}
 use Rattle.stream.proofs.step.Goals as goal
@@ -82,8 +82,8 @@ loop-end-preserved c =
     let l = c.loop-end in
     let o = c.end_line-o in
     turns (bench_program a.named) (bench_state a.bench a.m.now a.reply.now) (take n.result a.kept.now) a.s.now a.out.now (bench_state l.bench l.m l.reply) l.auto l.out l.n l.from l.at l.end l.invariant
-    (bench_tells a.named) (bench_state o.result.bench o.new.1.1.0 o.new.1.1.1.0) o.result.length o.new.1.1.1.1.0 o.new.1.1.1.1.1.1.1.1.0 c.line_end-end-in-loop-end.result
-    less_here roomy_here (ap (λ (x : LineBuffers). line_stored (bench_state x.bench x.memory x.reply) x.length x.buffer) o.ensures.text_after) o.ensures.length_le_text_room o.auto.1.1.1.1.1.1.1.1.0 c.line_end-end-in-loop-end.ensures
+    (bench_tells a.named) (bench_state o.result.bench o.new.m o.new.reply) o.result.length o.new.kept o.new.text c.line_end-end-in-loop-end.result
+    less_here roomy_here (ap (λ (x : LineBuffers). line_stored (bench_state x.bench x.memory x.reply) x.length x.buffer) o.ensures.text_after) o.ensures.length_le_text_room o.auto.text c.line_end-end-in-loop-end.ensures
 
 pub slice_bounds-hold-count : goal.slice_bounds-hold-count
 slice_bounds-hold-count c = omega (arith, c.loop-end.invariant.next)

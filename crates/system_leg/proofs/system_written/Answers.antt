@@ -8,4 +8,4 @@ returns-then-first-eq2304 c = rw c.password_written.ensures (search picks depth 
 
 pub returns : goal.returns
 unfolding system_written
-returns c = rw (c.start_programming.ensures, c.with_core.ensures, c.written_All.ensures) (search picks depth 20)
+returns c = rw (c.start_programming.ensures, c.with_core.ensures, c.written_all-registers.ensures) (search picks depth 20)

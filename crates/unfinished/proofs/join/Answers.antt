@@ -17,4 +17,4 @@ returns c =
     let a = c.args in
     let held = c.hold.ensures in
     let some : a.have ≡ 0 → ⊥ = λ z. c.if-have-eq0.false (omega (arith, z)) in
-    record { kept_after = joins a.have c.hold.result a.s.now _ _ some (omega (arith, held.1.0)) held.0; upper_bound = omega (arith, held.1.0); value = pick_false _ _ _ _ (ne_eqb a.have 0 some) held.1.0; kept_after_2 = pick_false _ _ _ _ (ne_eqb a.have 0 some) held.1.1 }
+    record { kept_after = joins a.have c.hold.result a.s.now _ _ some (omega (arith, held.value)) held.kept_after; upper_bound = omega (arith, held.value); value = pick_false _ _ _ _ (ne_eqb a.have 0 some) held.value; kept_after_2 = pick_false _ _ _ _ (ne_eqb a.have 0 some) held.kept_after_2 }

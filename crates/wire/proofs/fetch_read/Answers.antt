@@ -10,4 +10,4 @@ pub returns : goal.returns
 unfolding fetch_at
 returns c =
     pick_false _ _ _ _ c.if-over.false
-    (simp (c.with_line.ensures, c.Next-address.ensures, c.is_last-reached.ensures, c.fetched-x.ensures))
+    (simp (c.with_line.ensures, c.next_address-after.ensures, c.is_last-reached.ensures, c.fetched-x.ensures))

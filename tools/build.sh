@@ -181,7 +181,7 @@ prove() { # CRATE FILE COMMAND
     b_count=$(printf '%s\n' "$b_crates" | wc -l)
     tell "proving and building $2, $b_count crates: minutes the first time"
     if ! run_rt "$root/target/$1.log" "$1" "$3" || [ ! -f "$root/$(made_of "$1" "$3")" ]; then
-        grep -E '^rt: .*(did not build|mend these)|^(fn|struct|impl) .*: not proved|error\[' "$root/target/$1.log" | head -n 20 >&2
+        grep -E '^rt: .*(did not build|mend these)|^(fn|struct|impl) .*: (not proved|no proof)|error\[' "$root/target/$1.log" | head -n 20 >&2
         fault "not built; target/$1.log tells why"
         return
     fi

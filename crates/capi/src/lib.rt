@@ -39,10 +39,9 @@ pub fn answer_number(answer: Answer) -> u32
     }
 }
 
-// ---- the exported functions
+// ---- the functions for C, which `capi_c` exports
 // One call: the state's bytes, the memory, the reply buffer, a signal's code and value, and a frame.
-#[unsafe(no_mangle)]
-pub extern "C" fn st25dv_step(
+pub fn st25dv_step(
     s: &mut [u8],
     m: &mut [u8],
     out: &mut [u8],
@@ -66,8 +65,7 @@ pub extern "C" fn st25dv_step(
 }
 
 // The fresh tag with a UID; the memory is cleared.
-#[unsafe(no_mangle)]
-pub extern "C" fn st25dv_fresh(uid: &[u8], m: &mut [u8], s: &mut [u8]) -> u32
+pub fn st25dv_fresh(uid: &[u8], m: &mut [u8], s: &mut [u8]) -> u32
     ensures { fresh_call_result result s.new m.new ≡ fresh_call uid.now m.old s.old }
 {
     let judged = library_refusals::fresh_call_refusal(uid, m, s);
@@ -83,8 +81,7 @@ pub extern "C" fn st25dv_fresh(uid: &[u8], m: &mut [u8], s: &mut [u8]) -> u32
 }
 
 // The CRC of a list of bytes, for a program that forms frames.
-#[unsafe(no_mangle)]
-pub extern "C" fn st25dv_crc(s: &[u8]) -> u16
+pub fn st25dv_crc(s: &[u8]) -> u16
     ensures { result ≡ crc_of s.now }
 {
     crc::crc(s)

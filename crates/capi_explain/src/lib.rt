@@ -1,5 +1,4 @@
-// The explanation of a call for programs in C and Rust. It is a library of its own: with a second caller of the decoding
-// of a state and of the refusals the compiler would keep these apart from `st25dv_step`, which took twice the time then.
+// The explanation of a call for programs in C and Rust, which `capi_explain_c` exports.
 #![tactic(auto)]
 
 ghost use Rattle.std.specs.Prelude.{◌≡◌};
@@ -20,15 +19,7 @@ fn explain(t: Tag, m: &[u8], out: &[u8], code: u32, value: u32, frame: &[u8]) ->
 }
 
 // Which rule explains the answer that `st25dv_step` would give to the same arguments. Nothing is changed.
-#[unsafe(no_mangle)]
-pub extern "C" fn st25dv_explain(
-    s: &[u8],
-    m: &[u8],
-    out: &[u8],
-    code: u32,
-    value: u32,
-    frame: &[u8],
-) -> u32
+pub fn st25dv_explain(s: &[u8], m: &[u8], out: &[u8], code: u32, value: u32, frame: &[u8]) -> u32
     ensures { result ≡ explain_call s.now m.now (handed_in out.now code value frame.now) }
 {
     let judged = library_refusals::step_refusal(s, m, out, code, value, frame);

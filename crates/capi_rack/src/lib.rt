@@ -55,11 +55,10 @@ fn search_number(answer: SearchAnswer) -> u32
     }
 }
 
-// ---- the exported functions
+// ---- the functions for C, which `capi_rack_c` exports
 // One call: the states' bytes, the memories, the reply buffer, the number of tags and that of the tag that is meant, a signal's code and value, and a frame.
 // After a refusal the tags are as before, and so are the bytes of their states.
-#[unsafe(no_mangle)]
-pub extern "C" fn st25dv_rack_step(
+pub fn st25dv_rack_step(
     s: &mut [u8],
     m: &mut [u8],
     out: &mut [u8],
@@ -94,8 +93,7 @@ pub extern "C" fn st25dv_rack_step(
 }
 
 // The installer's search: the same buffers, the number of tags, and a frame.
-#[unsafe(no_mangle)]
-pub extern "C" fn st25dv_rack_search(
+pub fn st25dv_rack_search(
     s: &mut [u8],
     m: &mut [u8],
     out: &mut [u8],

@@ -28,6 +28,10 @@ returns c =
     let n = c.least-n in
     let l : length a.kept.now ≡ 1201 = search rules in
     let m : k.result ≤ 1201 = omega (arith, l, k.ensures) in
-    record { kept_after = ap (λ (x : List ℕ). take (k.result + n.result) x) c.put_bytes.ensures
+    record {
+      kept_after = ap (λ (x : List ℕ). take (k.result + n.result) x) c.put_bytes.ensures
           ∙ held a.kept.now a.s.now k.result n.result l m n.ensures
-          ∙ ap (λ (x : List ℕ). keep (x ++ a.s.now)) (take_within a.kept.now a.have k.result k.ensures); value = omega (arith, l, k.ensures, n.ensures); kept_after_2 = c.put_bytes.ensures ∙ stored a.kept.now a.s.now a.have k.result n.result (k.ensures ∙ ap (min a.have) l) n.ensures }
+          ∙ ap (λ (x : List ℕ). keep (x ++ a.s.now)) (take_within a.kept.now a.have k.result k.ensures);
+      value = omega (arith, l, k.ensures, n.ensures);
+      kept_after_2 = c.put_bytes.ensures ∙ stored a.kept.now a.s.now a.have k.result n.result (k.ensures ∙ ap (min a.have) l) n.ensures;
+    }

@@ -1,3 +1,4 @@
+use borrow.Enum.Refused.{opened}
 use Rattle.config.specs.Claims.{config_error}
 use Rattle.parts.specs.Pick.{pick}
 use Rattle.config.proofs.ByVerdict.{closed}
@@ -12,4 +13,4 @@ unfolding config_error pick
 returns-in-EndaRule c = rw c.in-EndaRule.is
 
 pub returns-in_default : goal.returns-in_default
-returns-in_default c = closed _ c.in_default.in_default-own.keys3
+returns-in_default c = closed _ (opened c.in_default.in_default-own.keys3)

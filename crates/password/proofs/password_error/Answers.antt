@@ -1,3 +1,4 @@
+use borrow.Enum.Refused.{opened}
 use Rattle.password.specs.Claims.{password_error}
 use Rattle.parts.specs.Pick.{pick}
 use Rattle.password.proofs.ByVerdict.{closed}
@@ -8,4 +9,4 @@ unfolding password_error pick
 returns-in-OutsideMap c = rw c.in-OutsideMap.is
 
 pub returns-in_default : goal.returns-in_default
-returns-in_default c = closed _ c.in_default.in_default-own.keys2
+returns-in_default c = closed _ (opened c.in_default.in_default-own.keys2)

@@ -1,3 +1,4 @@
+use borrow.Enum.Refused.{opened}
 use mathlib.Core.Path.{ap, ◌∙◌}
 use mathlib.Core.List.{List}
 use Prim.Native.Nat.{ℕ}
@@ -15,4 +16,4 @@ pub returns-in_default : goal.returns-in_default
 returns-in_default c =
     let a = c.args in
     c.put_answer.ensures
-    ∙ ap (λ (l : List ℕ). text_at a.text.now a.at l) (as_in_bench a.answer a.out.now c.in_default.in_default-own.keys2)
+    ∙ ap (λ (l : List ℕ). text_at a.text.now a.at l) (as_in_bench a.answer a.out.now (opened c.in_default.in_default-own.keys2))

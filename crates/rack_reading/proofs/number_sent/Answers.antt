@@ -9,14 +9,12 @@ use Rattle.rack_reading.specs.Line.{name_line, is_digit, all_digits, number_from
 use Rattle.rack_reading.proofs.NumberLaws.{digits_step, number_step, number_grows, digit_from, digit_most, no_digit, too_much, named}
 use Rattle.rack_reading.proofs.number_sent.Goals as goal
 
--- a test that was turned round
-held : (b d : Bool) → b ≡ d → not b ≡ false → d ≡ true
-held true d e h = sym e
-held false d e h = sym e ∙ sym h
+-- what a test says of the definition that it equals
+held : (b d : Bool) → b ≡ d → b ≡ true → d ≡ true
+held b d e h = sym e ∙ h
 
-failed : (b d : Bool) → b ≡ d → not b ≡ true → d ≡ false
-failed false d e h = sym e
-failed true d e h = sym e ∙ sym h
+failed : (b d : Bool) → b ≡ d → b ≡ false → d ≡ false
+failed b d e h = sym e ∙ h
 
 pub returns-then-s-first : goal.returns-then-s-first
 unfolding rack_line_by number_sent

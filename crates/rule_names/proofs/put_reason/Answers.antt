@@ -1,3 +1,4 @@
+use borrow.Enum.Refused.{opened}
 use native.Mathlib.Omega.{arith}
 use mathlib.Core.Path.{◌≡◌, ap, ◌∙◌}
 use mathlib.Core.List.{append-nil}
@@ -30,4 +31,4 @@ returns-in_default c =
     let a = c.args in
     let number = c.number in
     let words : name_at number.result ≡ string_bytes (reason_words a.reason) = ap name_at number.ensures ∙ reason_named a.reason in
-    rw (← words, nothing_after a.reason c.in_default.in_default-own.keys2, append-nil) c.put_name-end.ensures
+    rw (← words, nothing_after a.reason (opened c.in_default.in_default-own.keys2), append-nil) c.put_name-end.ensures

@@ -23,5 +23,8 @@ returns c =
     let part = c.put_block in
     let a = c.args in
     let o = a.out.now in
-    record { value = part.ensures.value; out_after = ap (put_mid a.at (length o - a.at) o) part.ensures.part_after
-          ∙ part_sets (block_of a.c.registers a.session a.m.now a.option a.block) o a.at (omega arith) }
+    record {
+      value = part.ensures.value;
+      out_after = ap (put_mid a.at (length o - a.at) o) part.ensures.part_after
+          ∙ part_sets (block_of a.c.registers a.session a.m.now a.option a.block) o a.at (omega arith);
+    }

@@ -90,8 +90,11 @@ returns-after-search c =
     let bytes_here : are_bytes c.args.frame.now ≡ true = are_below _ (λ i. let p = c.shared_slice_known-1.given i in omega (arith, p)) in
     let s = c.search in
     let a = c.args in
-    record { out_after = ap (λ (x : SearchAnswer). search_result x (rack_of (take a.number s.left) s.memory) s.out) s.invariant.0
-          ∙ none_left a.number a.slots a.frame.now c.requires.0 bytes_here a.tags a.memory.now a.out.now s.slot s.left s.memory s.out s.invariant.1 c.search-test.false; tags_value = s.invariant.1.others }
+    record {
+      out_after = ap (λ (x : SearchAnswer). search_result x (rack_of (take a.number s.left) s.memory) s.out) s.invariant.0
+          ∙ none_left a.number a.slots a.frame.now c.requires.0 bytes_here a.tags a.memory.now a.out.now s.slot s.left s.memory s.out s.invariant.1 c.search-test.false;
+      tags_value = s.invariant.1.others;
+    }
 
 pub shape_of-memory-then-seen : goal.shape_of-memory-then-seen
 shape_of-memory-then-seen c = c.open_slot-opened.auto.memory ∙ c.search.invariant.1.size

@@ -52,8 +52,11 @@ returns-in-NoRefusal c =
     let m = c.look_into.new.memory in
     let o = c.look_into.new.out in
     let call = sends_frame a.out.now a.frame.now in
-    record { out_after = ap (λ (ts : List Tag). search_result r.answer (rack_of ts m) o) (sym (take_count a.number n e r.tags left_sixteen_here))
+    record {
+      out_after = ap (λ (ts : List Tag). search_result r.answer (rack_of ts m) o) (sym (take_count a.number n e r.tags left_sixteen_here))
           ∙ c.look_into.ensures.out_after
           ∙ ap (λ (k : ℕ). look rack_entry k 0 (rack_of (take n a.tags) a.memory.now) call) c.slot_count.ensures
           ∙ ap (λ (ts : List Tag). look rack_entry (slot_count a.frame.now) 0 (rack_of ts a.memory.now) call) (take_count a.number n e a.tags sixteen_here)
-          ∙ sym (search_looks (rack_of (take a.number a.tags) a.memory.now) a.out.now a.frame.now (refusal_here ∙ c.in-NoRefusal.is)); tags_value = sym (drop_count a.number n e r.tags left_sixteen_here) ∙ c.look_into.ensures.tags_value ∙ drop_count a.number n e a.tags sixteen_here }
+          ∙ sym (search_looks (rack_of (take a.number a.tags) a.memory.now) a.out.now a.frame.now (refusal_here ∙ c.in-NoRefusal.is));
+      tags_value = sym (drop_count a.number n e r.tags left_sixteen_here) ∙ c.look_into.ensures.tags_value ∙ drop_count a.number n e a.tags sixteen_here;
+    }

@@ -22,6 +22,9 @@ returns c =
     let room = length a.out.now in
     let st = rack_state a.bench a.m.now a.reply.now in
     let h = take a.have a.kept.now in
-    record { out_after = c.step.ensures.out_after
+    record {
+      out_after = c.step.ensures.out_after
           ∙ ap (λ (x : List ℕ). puts (piece_by rack_program room st x (10 ∷ [])) a.out.now) (take_within a.kept.now a.have n.result n.ensures)
-          ∙ ap (λ (r : PieceResult RackState). puts r a.out.now) (sym (end_some rack_program room st h (λ z. c.if-held-eq0.false (omega (arith, n.ensures, length-take a.have a.kept.now))))); wrote_in_bounds = c.step.ensures.used_in_bounds.1 }
+          ∙ ap (λ (r : PieceResult RackState). puts r a.out.now) (sym (end_some rack_program room st h (λ z. c.if-held-eq0.false (omega (arith, n.ensures, length-take a.have a.kept.now)))));
+      wrote_in_bounds = c.step.ensures.used_in_bounds.1;
+    }

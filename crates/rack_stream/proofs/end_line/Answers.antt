@@ -11,6 +11,9 @@ pub returns : goal.returns
 returns c =
     let a = c.args in
     let st = rack_state a.bench a.m.now a.reply.now in
-    record { text_after = c.line.ensures.text_after
+    record {
+      text_after = c.line.ensures.text_after
           ∙ ap (λ (l : List ℕ). stores_line (rack_program st l) a.text.now) (c.line_from.ensures ∙ c.join-n.ensures.kept_after)
-          ∙ ap (λ (r : LineAnswer RackState). stores_line r a.text.now) (whole_line rack_program rack_tells st a.kept.now a.s.now a.have); length_le_text_room = c.line.ensures.length_le_text_room }
+          ∙ ap (λ (r : LineAnswer RackState). stores_line r a.text.now) (whole_line rack_program rack_tells st a.kept.now a.s.now a.have);
+      length_le_text_room = c.line.ensures.length_le_text_room;
+    }

@@ -104,5 +104,8 @@ returns c =
     let l = c.loop-end in
     let n = c.kept_count-n in
     let st = bench_state a.bench a.m.now a.reply.now in
-    record { out_after = ends (bench_program a.named) st (take n.result a.kept.now) a.s.now a.out.now (bench_state l.bench l.m l.reply) l.kept l.out l.n l.from l.at l.end l.invariant (take c.hold-rest.result c.hold-rest.new.kept) c.loop-end-test.false c.hold-rest.ensures.kept_after
-          ∙ ap (λ (h : List ℕ). puts (piece_by (bench_program a.named) (length a.out.now) st h a.s.now) a.out.now) (take_within a.kept.now a.have n.result n.ensures); used_in_bounds = (l.invariant.within, l.invariant.fits) }
+    record {
+      out_after = ends (bench_program a.named) st (take n.result a.kept.now) a.s.now a.out.now (bench_state l.bench l.m l.reply) l.kept l.out l.n l.from l.at l.end l.invariant (take c.hold-rest.result c.hold-rest.new.kept) c.loop-end-test.false c.hold-rest.ensures.kept_after
+          ∙ ap (λ (h : List ℕ). puts (piece_by (bench_program a.named) (length a.out.now) st h a.s.now) a.out.now) (take_within a.kept.now a.have n.result n.ensures);
+      used_in_bounds = (l.invariant.within, l.invariant.fits);
+    }

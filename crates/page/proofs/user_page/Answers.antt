@@ -18,13 +18,13 @@ pub returns-then-not-allowed : goal.returns-then-not-allowed
 returns-then-not-allowed c =
     let a = c.args in
     refused a.c a.session a.first a.m.now a.k c.if-k-eq0.false c.loop-i.i (omega (arith, c.places-n.ensures))
-    (rw c.place.ensures c (sym c.allowed.ensures ∙ c.if-not-allowed.true))
+    (rw c.place.ensures at (sym c.allowed.ensures ∙ c.if-not-allowed.true))
 
 pub loop-i-preserved : goal.loop-i-preserved
 unfolding asked_to
 loop-i-preserved c =
     let a = c.args in
-    let here = rw c.place.ensures c (sym c.allowed.ensures ∙ c.if-not-allowed.false) in
+    let here = rw c.place.ensures at (sym c.allowed.ensures ∙ c.if-not-allowed.false) in
     (rw (add-one c.loop-i.i) (and_both (asked_to a.c a.session a.first a.m.now a.k c.loop-i.i) (acked_at a.c a.session a.first a.m.now a.k c.loop-i.i) c.loop-i.invariant.0 here), omega arith)
 
 pub returns : goal.returns

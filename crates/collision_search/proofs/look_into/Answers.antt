@@ -108,4 +108,5 @@ returns-then-seen c =
     let l = c.loop-i in
     let bs = c.open_slot-opened.result.heard.answered in
     let within : l.i < 16 = omega arith in
-    two c (on_second bs l.seen l.i noted_here l.invariant.1 within c.if-answered-i.true c.if-seen.true)
+    let all = two c (on_second bs l.seen l.i noted_here l.invariant.1 within c.if-answered-i.true c.if-seen.true) in
+    record { out_after = all.0; tags_value = all.1 }

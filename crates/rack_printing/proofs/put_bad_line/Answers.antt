@@ -21,4 +21,5 @@ returns c =
     let room : length o ≤ last_place = omega arith in
     let to_end = w.ensures ∙ behind o n.new.text head bad_text 0 n.result room n.ensures in
     let e = end.ensures ∙ behind o w.new.text (head ++ bad_text) (0x0A ∷ []) 0 w.result room to_end in
-    line_stored_lem o end.new.text bad_text ((head ++ bad_text) ++ 0x0A ∷ []) a.number end.result (omega arith) (line_whole a.number bad_text) e
+    let all = line_stored_lem o end.new.text bad_text ((head ++ bad_text) ++ 0x0A ∷ []) a.number end.result (omega arith) (line_whole a.number bad_text) e in
+    record { value = all.0; text_after = all.1 }

@@ -31,6 +31,7 @@ returns c =
     let to-report = w.ensures ∙ behind o n.new.text head x 0 n.result room n.ensures in
     let to_end = f.ensures ∙ behind o w.new.text (head ++ x) y 0 w.result room to-report in
     let e = end.ensures ∙ behind o f.new.text ((head ++ x) ++ y) (0x0A ∷ []) 0 f.result room to_end in
-    line_stored_lem o end.new.text (x ++ y) (((head ++ x) ++ y) ++ 0x0A ∷ []) a.number end.result
+    let all = line_stored_lem o end.new.text (x ++ y) (((head ++ x) ++ y) ++ 0x0A ∷ []) a.number end.result
     (omega (arith, length-append x y, said_most a.said a.out.now k, report_most a.answered flags_here))
-    (line_parts a.number x y) e
+    (line_parts a.number x y) e in
+    record { value = all.0; text_after = all.1 }

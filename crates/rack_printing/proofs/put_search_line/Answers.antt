@@ -22,4 +22,5 @@ returns c =
     let room : length o ≤ last_place = omega arith in
     let to_end = w.ensures ∙ behind o n.new.text head x 0 n.result room n.ensures in
     let e = end.ensures ∙ behind o w.new.text (head ++ x) (0x0A ∷ []) 0 w.result room to_end in
-    line_stored_lem o end.new.text x ((head ++ x) ++ 0x0A ∷ []) a.number end.result (omega (arith, search_most a.said)) (line_whole a.number x) e
+    let all = line_stored_lem o end.new.text x ((head ++ x) ++ 0x0A ∷ []) a.number end.result (omega (arith, search_most a.said)) (line_whole a.number x) e in
+    record { value = all.0; text_after = all.1 }

@@ -30,7 +30,7 @@ put_frame-n-requires c =
 pub slice_bounds-call_line-end-in-Frame-2 : goal.slice_bounds-call_line-end-in-Frame-2
 slice_bounds-call_line-end-in-Frame-2 c =
     let w = c.put_frame-n in
-    omega (arith, w.ensures.upper_bound, length-take w.result w.new.m)
+    omega (arith, w.ensures.upper_bound, length-take w.result w.new.frame)
 
 pub slice_bounds-add_line-count : goal.slice_bounds-add_line-count
 unfolding rack_line_by has_digits
@@ -66,7 +66,7 @@ put_frame-n-requires-in-Search c =
 pub slice_bounds-search_line-end-in-Search : goal.slice_bounds-search_line-end-in-Search
 slice_bounds-search_line-end-in-Search c =
     let w = c.put_frame-n-in-Search in
-    omega (arith, w.ensures.upper_bound, length-take w.result w.new.m)
+    omega (arith, w.ensures.upper_bound, length-take w.result w.new.frame)
 
 pub returns-in-Bad : goal.returns-in-Bad
 unfolding rack_line_by rack_line_answer rack_frame
@@ -76,10 +76,11 @@ returns-in-Bad c =
     let w = c.bad_line in
     let s = a.s.now in
     let st = rack_state a.bench a.m.now a.reply.now in
-    settled st s a.text.now (rack_line_by Bad (drop 2 s)) (line_stored (rack_state w.result.bench a.m.now a.reply.now) w.result.length w.new.m) a.frame.now a.frame.now
+    let all = settled st s a.text.now (rack_line_by Bad (drop 2 s)) (line_stored (rack_state w.result.bench a.m.now a.reply.now) w.result.length w.new.text) a.frame.now a.frame.now
     (said s _ Bad r.ensures c.in-Bad.is)
     (w.ensures a.m.now a.reply.now)
-    refl
+    refl in
+    record { text_after = all.0; length_le_text_room = all.1.0; frame_after = all.1.1 }
 
 pub returns-in-Signal : goal.returns-in-Signal
 unfolding rack_line_by rack_line_answer rack_frame
@@ -89,10 +90,11 @@ returns-in-Signal c =
     let w = c.call_line in
     let s = a.s.now in
     let st = rack_state a.bench a.m.now a.reply.now in
-    settled st s a.text.now (rack_line_by (Signal _ _) (drop 2 s)) (line_stored (rack_state w.result.bench w.new.m w.new.reply) w.result.length w.new.1.1.1.1.1.1.0) a.frame.now a.frame.now
+    let all = settled st s a.text.now (rack_line_by (Signal _ _) (drop 2 s)) (line_stored (rack_state w.result.bench w.new.m w.new.reply) w.result.length w.new.text) a.frame.now a.frame.now
     (said s _ (Signal _ _) r.ensures c.in-Signal.is)
     w.ensures
-    refl
+    refl in
+    record { text_after = all.0; length_le_text_room = all.1.0; frame_after = all.1.1 }
 
 pub returns-in-Frame : goal.returns-in-Frame
 unfolding rack_line_by rack_line_answer rack_frame
@@ -103,10 +105,11 @@ returns-in-Frame c =
     let f = c.put_frame-n in
     let s = a.s.now in
     let st = rack_state a.bench a.m.now a.reply.now in
-    settled st s a.text.now (rack_line_by Frame (drop 2 s)) (line_stored (rack_state w.result.bench w.new.m w.new.reply) w.result.length w.new.1.1.1.1.1.1.0) a.frame.now f.new.frame
+    let all = settled st s a.text.now (rack_line_by Frame (drop 2 s)) (line_stored (rack_state w.result.bench w.new.m w.new.reply) w.result.length w.new.text) a.frame.now f.new.frame
     (said s _ Frame r.ensures c.in-Frame.is)
     (w.ensures ∙ ap (λ (z : List ℕ). stores_line (call_answered 8 0 st z) a.text.now) (rw (behind_tab s) at f.ensures.frame_after))
-    (rw (behind_tab s) at f.ensures.frame_after_2)
+    (rw (behind_tab s) at f.ensures.frame_after_2) in
+    record { text_after = all.0; length_le_text_room = all.1.0; frame_after = all.1.1 }
 
 pub returns-in-Add : goal.returns-in-Add
 unfolding rack_line_by rack_line_answer rack_frame
@@ -116,10 +119,11 @@ returns-in-Add c =
     let w = c.add_line in
     let s = a.s.now in
     let st = rack_state a.bench a.m.now a.reply.now in
-    settled st s a.text.now (rack_line_by Add (drop 2 s)) (line_stored (rack_state w.result.bench w.new.m a.reply.now) w.result.length w.new.text) a.frame.now a.frame.now
+    let all = settled st s a.text.now (rack_line_by Add (drop 2 s)) (line_stored (rack_state w.result.bench w.new.m a.reply.now) w.result.length w.new.text) a.frame.now a.frame.now
     (said s _ Add r.ensures c.in-Add.is)
     (w.ensures ∙ ap (λ (z : List ℕ). stores_line (add_answered (uid_of z) st) a.text.now) (behind_tab s))
-    refl
+    refl in
+    record { text_after = all.0; length_le_text_room = all.1.0; frame_after = all.1.1 }
 
 pub returns-in-Name : goal.returns-in-Name
 unfolding rack_line_by rack_line_answer rack_frame
@@ -129,10 +133,11 @@ returns-in-Name c =
     let w = c.name_line in
     let s = a.s.now in
     let st = rack_state a.bench a.m.now a.reply.now in
-    settled st s a.text.now (rack_line_by (Name _) (drop 2 s)) (line_stored (rack_state w.result.bench a.m.now a.reply.now) w.result.length w.new.frame) a.frame.now a.frame.now
+    let all = settled st s a.text.now (rack_line_by (Name _) (drop 2 s)) (line_stored (rack_state w.result.bench a.m.now a.reply.now) w.result.length w.new.text) a.frame.now a.frame.now
     (said s _ (Name _) r.ensures c.in-Name.is)
     (w.ensures a.m.now)
-    refl
+    refl in
+    record { text_after = all.0; length_le_text_room = all.1.0; frame_after = all.1.1 }
 
 pub returns-in-Search : goal.returns-in-Search
 unfolding rack_line_by rack_line_answer rack_frame
@@ -143,7 +148,8 @@ returns-in-Search c =
     let f = c.put_frame-n-in-Search in
     let s = a.s.now in
     let st = rack_state a.bench a.m.now a.reply.now in
-    settled st s a.text.now (rack_line_by Search (drop 2 s)) (line_stored (rack_state w.result.bench w.new.m w.new.reply) w.result.length w.new.text) a.frame.now f.new.frame
+    let all = settled st s a.text.now (rack_line_by Search (drop 2 s)) (line_stored (rack_state w.result.bench w.new.m w.new.reply) w.result.length w.new.text) a.frame.now f.new.frame
     (said s _ Search r.ensures c.in-Search.is)
     (w.ensures ∙ ap (λ (z : List ℕ). stores_line (search_answered st z) a.text.now) (rw (behind_tab s) at f.ensures.frame_after))
-    (rw (behind_tab s) at f.ensures.frame_after_2)
+    (rw (behind_tab s) at f.ensures.frame_after_2) in
+    record { text_after = all.0; length_le_text_room = all.1.0; frame_after = all.1.1 }

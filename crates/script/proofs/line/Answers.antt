@@ -19,7 +19,7 @@ returns-then-c c =
     let p : bad ≡ bench_of a.named a.bench a.m.now a.reply.now a.s.now =
     pick_true bad (bench_call a.named a.bench a.m.now a.reply.now k.code k.value (take k.length g.new.frame)) bad k.bad c.if-c.true refl
     ∙ g.ensures.frame_after a.named a.bench a.m.now a.reply.now in
-    let e : line_buffers o.result.bench o.result.length a.m.now a.reply.now o.new.m ≡ put_line (bench_of a.named a.bench a.m.now a.reply.now a.s.now) a.text.now =
+    let e : line_buffers o.result.bench o.result.length a.m.now a.reply.now o.new.text ≡ put_line (bench_of a.named a.bench a.m.now a.reply.now a.s.now) a.text.now =
     o.ensures a.m.now ∙ ap (λ (x : LineResult). put_line x a.text.now) p in
     record { text_after = e; length_le_longest_text = omega (arith, ap (λ (x : LineBuffers). x.length) e, text_fits a.named (bench_state a.bench a.m.now a.reply.now) a.s.now); frame_after = g.ensures.frame_after_2 }
 

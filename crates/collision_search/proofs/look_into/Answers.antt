@@ -17,33 +17,6 @@ use Rattle.collision_search.proofs.Slots.{count, Counted, none_counted, on_silen
 use borrow.Author.Rules.{rules}
 use Rattle.collision_search.proofs.look_into.Goals as goal
 
--- a slot in which fewer than two answered, and one in which two did
-fewer : (c : tie.After-open-slot invariant-loop decreases-loop invariant-search decreases-search) → count c.open-slot.result.heard.answered < 2
-    → let a = c.before.before.before.before.before.before.before.before.args in
-    let call = c.open-slot in
-    Looking a.number a.slots a.frame.now a.tags a.memory.now a.out.now (suc c.before.before.before.before.search.slot) call.result.tags call.new.memory call.new.out
-fewer c less =
-    let s = c.before.before.before.before.search in
-    let start = c.before.before.before.before.before.before.before.before in
-    let a = start.args in
-    let call = c.open-slot in
-    looking_next a.number a.slots a.frame.now start.requires.0 (bytes c.before.before.before.before.before) a.tags a.memory.now a.out.now s.slot s.left s.memory s.out s.invariant.1
-    call.result.heard call.result.tags call.new.memory call.new.out call.ensures c.before.before.before.search-test.true less call.auto.memory call.auto.out
-
-two : (c : tie.After-open-slot invariant-loop decreases-loop invariant-search decreases-search) → 2 ≤ count c.open-slot.result.heard.answered
-    → let a = c.before.before.before.before.before.before.before.before.args in
-    let call = c.open-slot in
-    (search_result (Collision c.before.before.before.before.search.slot) (rack_of (take a.number call.result.tags) call.new.memory) call.new.out
-    ≡ look rack_entry a.slots 0 (rack_of (take a.number a.tags) a.memory.now) (sends_frame a.out.now a.frame.now))
-    × (drop a.number call.result.tags ≡ drop a.number a.tags)
-two c enough =
-    let s = c.before.before.before.before.search in
-    let start = c.before.before.before.before.before.before.before.before in
-    let a = start.args in
-    let call = c.open-slot in
-    collided a.number a.slots a.frame.now start.requires.0 (bytes c.before.before.before.before.before) a.tags a.memory.now a.out.now s.slot s.left s.memory s.out s.invariant.1
-    call.result.heard call.result.tags call.new.memory call.new.out call.ensures c.before.before.before.search-test.true enough
-
 pub search-init : goal.search-init
 search-init c =
     let a = c.args in
@@ -72,11 +45,14 @@ search-preserved c =
     let l = c.loop-i in
     let bs = c.open_slot-opened.result.heard.answered in
     let a = c.args in
+    let s = c.search in
+    let bytes_here : are_bytes c.args.frame.now ≡ true = are_below _ (λ i. let p = c.shared_slice_known-1.given i in omega (arith, p)) in
     let call = c.open_slot-opened in (
       l.invariant.0,
       subst (λ (k : ℕ). Looking a.number a.slots a.frame.now a.tags a.memory.now a.out.now k call.result.tags call.new.memory call.new.out)
           (sym (add-one c.search.slot))
-          (fewer c (at_end bs l.seen l.i noted_here l.invariant.1 c.loop-i-test.false)),
+          (looking_next a.number a.slots a.frame.now c.requires.0 bytes_here a.tags a.memory.now a.out.now s.slot s.left s.memory s.out s.invariant.1
+          call.result.heard call.result.tags call.new.memory call.new.out call.ensures c.search-test.true (at_end bs l.seen l.i noted_here l.invariant.1 c.loop-i-test.false) call.auto.memory call.auto.out),
     )
 
 pub shape_of-memory-after-search : goal.shape_of-memory-after-search
@@ -108,5 +84,10 @@ returns-then-seen c =
     let l = c.loop-i in
     let bs = c.open_slot-opened.result.heard.answered in
     let within : l.i < 16 = omega arith in
-    let all = two c (on_second bs l.seen l.i noted_here l.invariant.1 within c.if-answered-i.true c.if-seen.true) in
+    let a = c.args in
+    let s = c.search in
+    let call = c.open_slot-opened in
+    let bytes_here : are_bytes c.args.frame.now ≡ true = are_below _ (λ i. let p = c.shared_slice_known-1.given i in omega (arith, p)) in
+    let all = collided a.number a.slots a.frame.now c.requires.0 bytes_here a.tags a.memory.now a.out.now s.slot s.left s.memory s.out s.invariant.1
+    call.result.heard call.result.tags call.new.memory call.new.out call.ensures c.search-test.true (on_second bs l.seen l.i noted_here l.invariant.1 within c.if-answered-i.true c.if-seen.true) in
     record { out_after = all.0; tags_value = all.1 }

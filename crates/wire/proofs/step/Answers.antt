@@ -9,7 +9,7 @@ returns-in-Start c =
 pub returns-in-Send : goal.returns-in-Send
 unfolding signal_of
 returns-in-Send c =
-    rw c.in-Send.is c.IsSend-at.ensures
+    rw c.in-Send.is c.send_at.ensures
 
 pub returns-in-Fetch : goal.returns-in-Fetch
 unfolding signal_of

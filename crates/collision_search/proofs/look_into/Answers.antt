@@ -1,19 +1,17 @@
 use mathlib.Core.Logic.{⊎_elim}
 use mathlib.Core.Path.{◌≡◌, refl, sym, ap, subst, ◌∙◌}
 use mathlib.Core.Bool.{Bool, true}
-use Prim.Native.Nat.{ℕ, suc, ◌-◌, ◌<◌, ◌≤◌}
+use Prim.Native.Nat.{ℕ, suc, ◌-◌, ◌<◌}
 use native.Mathlib.Omega.{arith}
 use native.Mathlib.Numerals.{add-one}
-use lib.ListN.{length, take, drop}
+use lib.ListN.{length, take}
 use Rattle.parts.specs.Bytes.{are_bytes}
 use Rattle.parts.proofs.Below.{are_below}
 use Rattle.rack.specs.Rack.{rack_of}
-use Rattle.rack.specs.Step.{rack_entry}
 use Rattle.rack_search.specs.declared.SearchAnswer.{SearchAnswer}
-use Rattle.rack_search.specs.declared.SearchAnswer.TheVariants.{Collision}
-use Rattle.rack_search.specs.Search.{sends_frame, search_result, look}
+use Rattle.rack_search.specs.Search.{search_result}
 use Rattle.rack_search.proofs.Search.{formed_of}
-use Rattle.collision_search.proofs.Slots.{count, Counted, none_counted, on_silence, on_first, on_second, at_end, Looking, looking_first, none_left, collided, looking_next}
+use Rattle.collision_search.proofs.Slots.{Counted, none_counted, on_silence, on_first, on_second, at_end, Looking, looking_first, none_left, collided, looking_next}
 use borrow.Author.Rules.{rules}
 use Rattle.collision_search.proofs.look_into.Goals as goal
 

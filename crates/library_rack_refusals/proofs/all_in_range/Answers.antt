@@ -52,8 +52,8 @@ loop-i-preserved c =
     let l = c.loop-i in
     let a = c.args in
     let first = first_tag a.s.now l.at (l.at + 87 - l.at) _ _ (omega arith) (omega (arith, c.requires.0)) (ap (λ (tags : List Tag). get_or tags 0 _) c.decode_tags-tags.ensures) in (
-      ranges_more a.s.now a.m.now l.all c.in_range.result l.i a.n l.at l.from (l.at + 87 - l.at) (l.from + 1024 - l.from) _
-          (omega arith) (omega arith) (omega arith) first c.in_range.ensures l.invariant.0,
+      ranges_more a.s.now a.m.now l.all c.in_range-one.result l.i a.n l.at l.from (l.at + 87 - l.at) (l.from + 1024 - l.from) _
+          (omega arith) (omega arith) (omega arith) first c.in_range-one.ensures l.invariant.0,
       omega (arith, l.invariant.1),
       omega (arith, l.invariant.2),
       omega arith,

@@ -43,7 +43,7 @@ loop-i-preserved c =
     let a = c.args in
     let p = c.requires in
     let number : length a.tags ≡ 16 = search rules in (
-      rw (add-one l.i) (ranges_more a.tags a.memory.now l.i l.at (l.at + 1024 - l.at) _ l.all c.in_range.result (omega (arith, p.0, number)) l.invariant.1 (omega arith) l.invariant.0 c.in_range.ensures),
+      rw (add-one l.i) (ranges_more a.tags a.memory.now l.i l.at (l.at + 1024 - l.at) _ l.all c.in_range-one.result (omega (arith, p.0, number)) l.invariant.1 (omega arith) l.invariant.0 c.in_range-one.ensures),
       omega (arith, l.invariant.1),
       omega arith,
     )

@@ -1,21 +1,19 @@
 -- The test of a loop that goes over the first n of k. Assumes nothing.
-use mathlib.Core.Bool.{Bool, true, false, not, ◌&&◌}
+use mathlib.Core.Path.{◌≡◌}
+use mathlib.Core.Bool.{Bool, true, false, ◌&&◌}
 use mathlib.Core.Logic.{◌⊎◌, inl, inr}
 use Prim.Native.Nat.{ℕ, ◌≤◌}
-use lib.Dec.{T, ltb, nltb→le}
+use lib.Dec.{ltb}
+use borrow.Author.Tests.{ltb-false}
 
-pub holds_left : (a b : Bool) → T (a && b) → T a
-holds_left true b t = tt
-holds_left false b t = t
-
-fails : (a b : Bool) → T (not (a && b)) → T (not a) ⊎ T (not b)
+fails : (a b : Bool) → (a && b) ≡ false → (a ≡ false) ⊎ (b ≡ false)
 fails true b t = inr t
-fails false b t = inl tt
+fails false b t = inl t
 
 -- where it ends
-pub ended : (i k n : ℕ) → T (not (ltb i k && ltb i n)) → (k ≤ i) ⊎ (n ≤ i)
+pub ended : (i k n : ℕ) → (ltb i k && ltb i n) ≡ false → (k ≤ i) ⊎ (n ≤ i)
 ended i k n t = by (fails (ltb i k) (ltb i n) t)
   where
-    by : T (not (ltb i k)) ⊎ T (not (ltb i n)) → (k ≤ i) ⊎ (n ≤ i)
-    by (inl h) = inl (nltb→le i k h)
-    by (inr h) = inr (nltb→le i n h)
+    by : (ltb i k ≡ false) ⊎ (ltb i n ≡ false) → (k ≤ i) ⊎ (n ≤ i)
+    by (inl h) = inl (ltb-false i k h)
+    by (inr h) = inr (ltb-false i n h)

@@ -1,12 +1,12 @@
 -- A slice's tags past those of the rack hear nothing. Assumes nothing.
 use mathlib.Core.Path.{◌≡◌, refl, sym, ◌∙◌, ap}
-use mathlib.Core.Bool.{not, ◌&&◌}
+use mathlib.Core.Bool.{false, ◌&&◌}
 use mathlib.Core.List.{List}
 use mathlib.Core.Logic.{◌⊎◌, inl, inr}
 use Prim.Native.Nat.{ℕ, zero, suc, ◌+◌, ◌-◌, ◌≤◌}
 use native.Mathlib.Nat.{zero-add, suc-add, le_antisymm}
 use native.Mathlib.Omega.{arith}
-use lib.Dec.{T, ltb}
+use lib.Dec.{ltb}
 use lib.ListN.{length}
 use Rattle.parts.proofs.Picks.{pick_case}
 use Rattle.tag.specs.declared.Tag.{Tag}
@@ -39,7 +39,7 @@ module _ (tags : List Tag) (m o f : List ℕ) (heard : Heard) where
       past (j + i) f (hear_all_of (j + i) tags m o f heard) (let e = all_number (j + i) in omega (arith, e, h)) ∙ more i j h
 
 -- so a loop over the rack's tags goes over all that hear
-pub all_ends : (i : ℕ) (tags : List Tag) (m o f : List ℕ) (heard : Heard) → i ≤ length tags → T (not (ltb i (length tags) && ltb i heard.number))
+pub all_ends : (i : ℕ) (tags : List Tag) (m o f : List ℕ) (heard : Heard) → i ≤ length tags → (ltb i (length tags) && ltb i heard.number) ≡ false
     → hear_all_of i tags m o f heard ≡ hear_all_of (length tags) tags m o f heard
 all_ends i tags m o f heard l t = by (ended i (length tags) heard.number t)
   where

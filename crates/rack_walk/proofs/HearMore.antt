@@ -1,4 +1,4 @@
--- One more tag of `all_of`. Written by tools/walks. Assumes nothing.
+-- One more tag of `all_of`. Assumes nothing.
 use mathlib.Core.Path.{◌≡◌, sym, ◌∙◌, ap}
 use Prim.Native.Nat.{ℕ, ◌+◌}
 use native.Mathlib.Numerals.{add-one}

@@ -1,9 +1,3 @@
-pub mod Span
-pub mod Gone
-pub mod Pieces
-pub mod Again
-pub mod Values
-pub mod Lent
 pub mod Bound
 pub mod HearEnds
 pub mod HearMore

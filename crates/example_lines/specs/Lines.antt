@@ -1,5 +1,5 @@
 -- Lines of the example program's script, and what it does with them.
-use Rattle.std.specs.Prelude.{◌≡◌, List, [], ◌∷◌, ◌++◌, ℕ, ◌+◌, ◌-◌, ◌≤◌, min, length, take, drop}
+use Rattle.std.specs.Prelude.{◌≡◌, List, [], ◌∷◌, ◌++◌, ℕ, ◌+◌, ◌≤◌, min, length, take, drop}
 use Rattle.text.specs.Decimal.{decimal}
 use Rattle.lines.specs.Line.{line_length}
 use Rattle.keys.specs.declared.Uid.{Uid}

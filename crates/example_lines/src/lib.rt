@@ -1,8 +1,8 @@
 // For the example program: a script from standard input, its lines, and the lines that answer them.
 #![tactic(auto)]
 
-ghost use Rattle.std.specs.Prelude.{◌≡◌, true, ◌+◌, set, take};
-ghost use Rattle.std.specs.Io.KnownBytes.{Appends};
+ghost use Rattle.std.specs.Prelude.{◌≡◌, true, ◌+◌, ◌<◌, set, length, take};
+ghost use Rattle.std.specs.Io.KnownBytes.{Appends, Consumes};
 ghost use Rattle.text.specs.Place.{stored, text_at};
 ghost use Rattle.example_lines.specs.Lines.{IsPrefixLen, example_uid, script_line, next_at, number_text};
 
@@ -26,7 +26,8 @@ pub fn uid() -> Uid
 
 // Reads until the buffer is full, the input ends or a read fails, and gives how many bytes it put at its start.
 fn read_full<R: Read>(from: &mut R, input: &mut [u8]) -> usize
-    ensures { IsPrefixLen result input.new }
+    ensures within { IsPrefixLen result input.new }
+    ensures taken { Consumes (R.remaining from.old) (R.remaining from.new) (take result input.new) }
 {
     let mut done = 0;
     while done < input.len() {
@@ -41,7 +42,9 @@ fn read_full<R: Read>(from: &mut R, input: &mut [u8]) -> usize
 
 // Reads a script, and gives its length. One that fills the buffer may go on: it is reported, and none of it is run.
 pub fn read_script<R: Read, E: Write>(from: &mut R, err: &mut E, input: &mut [u8]) -> usize
-    ensures { IsPrefixLen result input.new }
+    ensures within { IsPrefixLen result input.new }
+    ensures taken { 0 < result → Consumes (R.remaining from.old) (R.remaining from.new) (take result input.new) }
+    ensures whole { 0 < result → result < length input.new }
 {
     let n = read_full(from, input);
     if n == input.len() {

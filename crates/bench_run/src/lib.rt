@@ -3,7 +3,9 @@
 // written is written before more is read.
 #![tactic(auto)]
 
-ghost use Rattle.std.specs.Prelude.{◌≡◌, false, ◌≤◌, length, take};
+ghost use Rattle.std.specs.Prelude.{◌≡◌, true, false, ◌≤◌, length, take};
+ghost use Rattle.std.specs.Io.KnownBytes.{Appends};
+ghost use Rattle.console.specs.Written.{AppendsStart};
 ghost use Rattle.script.specs.Lines.{bench_state};
 ghost use Rattle.line_stream.specs.Step.{text_room};
 ghost use Rattle.line_stream.specs.Flow.{flow_of, Reaches};
@@ -41,7 +43,10 @@ fn report<E: Write>(err: &mut E, named: bool, bench: &[u8], explain: &[u8]) {
 }
 
 // Writes texts, or reports that it cannot.
-fn say<W: Write, E: Write>(to: &mut W, err: &mut E, named: bool, text: &[u8]) -> bool {
+fn say<W: Write, E: Write>(to: &mut W, err: &mut E, named: bool, text: &[u8]) -> bool
+    ensures all { result ≡ true → Appends (W.contents to.old) (W.contents to.new) text.now }
+    ensures some { result ≡ false → AppendsStart (W.contents to.old) (W.contents to.new) text.now }
+{
     if console::write_all(to, text).is_ok() {
         return true;
     }
@@ -54,7 +59,8 @@ fn say<W: Write, E: Write>(to: &mut W, err: &mut E, named: bool, text: &[u8]) ->
     false
 }
 
-// A piece of the input: step by step, and each step's texts are written before the next.
+// A piece of the input: step by step, and each step's texts are written before the next. Where one cannot be written, a
+// start of the piece's texts is, and no more.
 fn piece<W: Write, E: Write>(
     to: &mut W,
     err: &mut E,
@@ -67,7 +73,9 @@ fn piece<W: Write, E: Write>(
     out: &mut [u8],
 ) -> Progress
     requires { text_room ≤ length out.old }
-    ensures { Reaches result.more (bench_state result.bench m.new reply.new) (take result.have kept.new) (flow_of (bench_program named) (bench_state run.bench m.old reply.old) (take run.have kept.old) s.now) }
+    ensures reached { Reaches result.more (bench_state result.bench m.new reply.new) (take result.have kept.new) (flow_of (bench_program named) (bench_state run.bench m.old reply.old) (take run.have kept.old) s.now) }
+    ensures said { result.more ≡ true → Appends (W.contents to.old) (W.contents to.new) (flow_of (bench_program named) (bench_state run.bench m.old reply.old) (take run.have kept.old) s.now).text }
+    ensures cut { result.more ≡ false → AppendsStart (W.contents to.old) (W.contents to.new) (flow_of (bench_program named) (bench_state run.bench m.old reply.old) (take run.have kept.old) s.now).text }
 {
     let mut bench = run.bench;
     let mut have = run.have;

@@ -2,7 +2,9 @@
 // a line is and what answers it is the crate rack_stream's. All that is to be written is written before more is read.
 #![tactic(auto)]
 
-ghost use Rattle.std.specs.Prelude.{◌≡◌, false, ◌≤◌, length, take};
+ghost use Rattle.std.specs.Prelude.{◌≡◌, true, false, ◌≤◌, length, take};
+ghost use Rattle.std.specs.Io.KnownBytes.{Appends};
+ghost use Rattle.console.specs.Written.{AppendsStart};
 ghost use Rattle.line_stream.specs.Step.{text_room};
 ghost use Rattle.line_stream.specs.Flow.{flow_of, Reaches};
 ghost use Rattle.rack_script.specs.Script.{rack_state, rack_program};
@@ -30,7 +32,10 @@ fn stopped(bench: RackBench) -> Progress
 }
 
 // Writes texts, or reports that it cannot.
-fn say<W: Write, E: Write>(to: &mut W, err: &mut E, text: &[u8]) -> bool {
+fn say<W: Write, E: Write>(to: &mut W, err: &mut E, text: &[u8]) -> bool
+    ensures all { result ≡ true → Appends (W.contents to.old) (W.contents to.new) text.now }
+    ensures some { result ≡ false → AppendsStart (W.contents to.old) (W.contents to.new) text.now }
+{
     if console::write_all(to, text).is_ok() {
         return true;
     }
@@ -38,7 +43,8 @@ fn say<W: Write, E: Write>(to: &mut W, err: &mut E, text: &[u8]) -> bool {
     false
 }
 
-// A piece of the input: step by step, and each step's texts are written before the next.
+// A piece of the input: step by step, and each step's texts are written before the next. Where one cannot be written, a
+// start of the piece's texts is, and no more.
 fn piece<W: Write, E: Write>(
     to: &mut W,
     err: &mut E,
@@ -50,7 +56,9 @@ fn piece<W: Write, E: Write>(
     out: &mut [u8],
 ) -> Progress
     requires { text_room ≤ length out.old }
-    ensures { Reaches result.more (rack_state result.bench m.new reply.new) (take result.have kept.new) (flow_of rack_program (rack_state run.bench m.old reply.old) (take run.have kept.old) s.now) }
+    ensures reached { Reaches result.more (rack_state result.bench m.new reply.new) (take result.have kept.new) (flow_of rack_program (rack_state run.bench m.old reply.old) (take run.have kept.old) s.now) }
+    ensures said { result.more ≡ true → Appends (W.contents to.old) (W.contents to.new) (flow_of rack_program (rack_state run.bench m.old reply.old) (take run.have kept.old) s.now).text }
+    ensures cut { result.more ≡ false → AppendsStart (W.contents to.old) (W.contents to.new) (flow_of rack_program (rack_state run.bench m.old reply.old) (take run.have kept.old) s.now).text }
 {
     let mut bench = run.bench;
     let mut have = run.have;

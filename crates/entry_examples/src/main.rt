@@ -7,7 +7,7 @@
 
 use model::Answer;
 use refusals::Refusal;
-use std::io::Write;
+use std::io::{Read, Write};
 use tag::Tag;
 
 #[derive(Clone, Copy)]
@@ -281,21 +281,24 @@ fn lines<W: Write, E: Write>(
     }
 }
 
+// A script, read into a lent buffer: all of its lines.
+fn script<R: Read, W: Write, E: Write>(
+    from: &mut R,
+    to: &mut W,
+    err: &mut E,
+    input: &mut [u8; example_lines::SCRIPT],
+) {
+    let n = example_lines::read_script(from, err, input);
+    let mut m = [0u8; MEMORY];
+    let mut out = [0u8; REPLY];
+    let mut bytes = [0u8; LINE];
+    lines(to, err, &input[0..n], &mut m, &mut out, &mut bytes);
+}
+
 fn main(rt: HostRuntime) {
     let mut from = rt.stdin();
     let mut to = rt.stdout();
     let mut err = rt.stderr();
     let mut input = [0u8; example_lines::SCRIPT];
-    let n = example_lines::read_script(&mut from, &mut err, &mut input);
-    let mut m = [0u8; MEMORY];
-    let mut out = [0u8; REPLY];
-    let mut bytes = [0u8; LINE];
-    lines(
-        &mut to,
-        &mut err,
-        &input[0..n],
-        &mut m,
-        &mut out,
-        &mut bytes,
-    );
+    script(&mut from, &mut to, &mut err, &mut input);
 }

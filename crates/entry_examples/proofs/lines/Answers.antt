@@ -1,4 +1,4 @@
-use Rattle.std.proofs.Common.{◌-◌, arith}
+use Rattle.std.proofs.Common.{arith}
 use Rattle.example_lines.proofs.Laws.{nearer}
 use Rattle.entry_examples.proofs.lines.Goals as goal
 

@@ -7,6 +7,7 @@
 
 use model::Answer;
 use refusals::Refusal;
+use std::io::{Read, Write};
 use tag::Tag;
 
 #[derive(Clone, Copy)]
@@ -230,38 +231,74 @@ fn put_said(text: &mut [u8], at: usize, said: EntryPrint, t: Tag, m: &[u8], out:
 }
 
 // A line: its number, a tab, its answer. Says whether it could be written.
-fn print(number: u64, said: EntryPrint, t: Tag, m: &[u8], out: &[u8]) -> bool {
+fn print<W: Write, E: Write>(
+    to: &mut W,
+    err: &mut E,
+    number: u64,
+    said: EntryPrint,
+    t: Tag,
+    m: &[u8],
+    out: &[u8],
+) -> bool {
     let mut text = [0u8; example_lines::ANSWER];
     let answer = example_lines::put_number(&mut text, number);
     let feed = put_said(&mut text, answer, said, t, m, out);
-    example_lines::write_line(&mut text, feed)
+    example_lines::write_line(to, err, &mut text, feed)
 }
 
-fn line(run: EntryRun, s: &[u8], m: &mut [u8], out: &mut [u8], bytes: &mut [u8]) -> EntryRun {
+fn line<W: Write, E: Write>(
+    to: &mut W,
+    err: &mut E,
+    run: EntryRun,
+    s: &[u8],
+    m: &mut [u8],
+    out: &mut [u8],
+    bytes: &mut [u8],
+) -> EntryRun {
     let number = std::num::wrapping_add_u64(run.number, 1);
     let o = act(run, s, m, out, bytes);
     let said = o.said;
     let mut n = o.run;
     let t = n.tag;
     n.number = number;
-    n.written = print(number, said, t, m, out);
+    n.written = print(to, err, number, said, t, m, out);
     n
 }
 
-fn lines(s: &[u8], m: &mut [u8], out: &mut [u8], bytes: &mut [u8]) {
+fn lines<W: Write, E: Write>(
+    to: &mut W,
+    err: &mut E,
+    s: &[u8],
+    m: &mut [u8],
+    out: &mut [u8],
+    bytes: &mut [u8],
+) {
     let mut r = begin();
     let mut at = 0;
     while (at < s.len()) & r.written {
-        r = line(r, example_lines::line_at(s, at), m, out, bytes);
+        r = line(to, err, r, example_lines::line_at(s, at), m, out, bytes);
         at = example_lines::next_at(s, at);
     }
 }
 
-fn main() {
-    let mut input = [0u8; example_lines::SCRIPT];
-    let n = example_lines::read_script(&mut input);
+// A script, read into a lent buffer: all of its lines.
+fn script<R: Read, W: Write, E: Write>(
+    from: &mut R,
+    to: &mut W,
+    err: &mut E,
+    input: &mut [u8; example_lines::SCRIPT],
+) {
+    let n = example_lines::read_script(from, err, input);
     let mut m = [0u8; MEMORY];
     let mut out = [0u8; REPLY];
     let mut bytes = [0u8; LINE];
-    lines(&input[0..n], &mut m, &mut out, &mut bytes);
+    lines(to, err, &input[0..n], &mut m, &mut out, &mut bytes);
+}
+
+fn main(rt: HostRuntime) {
+    let mut from = rt.stdin();
+    let mut to = rt.stdout();
+    let mut err = rt.stderr();
+    let mut input = [0u8; example_lines::SCRIPT];
+    script(&mut from, &mut to, &mut err, &mut input);
 }

@@ -1,8 +1,12 @@
 -- Lines of the example program's script, and what it does with them.
-use Rattle.std.specs.Prelude.{List, [], ◌∷◌, ◌++◌, ℕ, ◌+◌, ◌-◌, min, length, take, drop}
+use Rattle.std.specs.Prelude.{◌≡◌, List, [], ◌∷◌, ◌++◌, ℕ, ◌+◌, ◌≤◌, min, length, take, drop}
 use Rattle.text.specs.Decimal.{decimal}
 use Rattle.lines.specs.Line.{line_length}
 use Rattle.keys.specs.declared.Uid.{Uid}
+
+-- the first n bytes of s lie within it, and are n
+abbrev pub IsPrefixLen : ℕ → List ℕ → Type 0
+IsPrefixLen n s = (n ≤ length s) × (n ≡ length (take n s))
 
 -- the UID of the examples' tags
 abbrev pub example_uid : Uid

@@ -1,12 +1,13 @@
 // For the example program: a script from standard input, its lines, and the lines that answer them.
 #![tactic(auto)]
 
-ghost use Rattle.std.specs.Prelude.{◌≡◌, set};
-ghost use Rattle.io.specs.Counts.{IsPrefixLen};
+ghost use Rattle.std.specs.Prelude.{◌≡◌, true, ◌+◌, ◌<◌, set, length, take};
+ghost use Rattle.std.specs.Io.KnownBytes.{Appends, Consumes};
 ghost use Rattle.text.specs.Place.{stored, text_at};
-ghost use Rattle.example_lines.specs.Lines.{example_uid, script_line, next_at, number_text};
+ghost use Rattle.example_lines.specs.Lines.{IsPrefixLen, example_uid, script_line, next_at, number_text};
 
 use keys::Uid;
+use std::io::{Read, Write};
 
 // More bytes than a script has.
 pub const SCRIPT: usize = 524288;
@@ -23,13 +24,31 @@ pub fn uid() -> Uid
     }
 }
 
-// Reads a script, and gives its length. One that fills the buffer may go on: it is reported, and none of it is run.
-pub fn read_script(input: &mut [u8]) -> usize
-    ensures { IsPrefixLen result input.new }
+// Reads until the buffer is full, the input ends or a read fails, and gives how many bytes it put at its start.
+fn read_full<R: Read>(from: &mut R, input: &mut [u8]) -> usize
+    ensures within { IsPrefixLen result input.new }
+    ensures taken { Consumes (R.remaining from.old) (R.remaining from.new) (take result input.new) }
 {
-    let n = io::read_full(libc::STDIN_FILENO, input);
+    let mut done = 0;
+    while done < input.len() {
+        match console::read(from, &mut input[done..]) {
+            Ok(0) => return done,
+            Ok(n) => done += n,
+            Err(_) => return done,
+        }
+    }
+    done
+}
+
+// Reads a script, and gives its length. One that fills the buffer may go on: it is reported, and none of it is run.
+pub fn read_script<R: Read, E: Write>(from: &mut R, err: &mut E, input: &mut [u8]) -> usize
+    ensures within { IsPrefixLen result input.new }
+    ensures taken { 0 < result → Consumes (R.remaining from.old) (R.remaining from.new) (take result input.new) }
+    ensures whole { 0 < result → result < length input.new }
+{
+    let n = read_full(from, input);
     if n == input.len() {
-        io::write_all(libc::STDERR_FILENO, b"the script is too long\n");
+        let _ = console::write_all(err, b"the script is too long\n");
         return 0;
     }
     n
@@ -66,15 +85,16 @@ pub fn put_number(text: &mut [u8], number: u64) -> usize
 }
 
 // Writes a line's text, its line feed put at a place, and says whether it could; else it is reported.
-pub fn write_line(text: &mut [u8], feed: usize) -> bool
-    ensures { text.new ≡ set text.old feed 10 }
+pub fn write_line<W: Write, E: Write>(to: &mut W, err: &mut E, text: &mut [u8], feed: usize) -> bool
+    ensures fed { text.new ≡ set text.old feed 10 }
+    ensures written { result ≡ true → Appends (W.contents to.old) (W.contents to.new) (take (feed + 1) text.new) }
 {
     let end = text::put_mark(text, feed, b'\n');
     if end <= text.len() {
-        if io::write_all(libc::STDOUT_FILENO, &text[0..end]) {
+        if console::write_all(to, &text[0..end]).is_ok() {
             return true;
         }
     }
-    io::write_all(libc::STDERR_FILENO, b"cannot write the output\n");
+    let _ = console::write_all(err, b"cannot write the output\n");
     false
 }

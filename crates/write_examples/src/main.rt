@@ -7,6 +7,7 @@
 #![tactic(auto)]
 
 use bus::Space;
+use std::io::{Read, Write};
 use tag::{Core, Tag};
 use write_reasons::{WriteAsked, WriteVerdict};
 
@@ -188,11 +189,17 @@ fn put_said(text: &mut [u8], at: usize, said: WritePrint, s: &[u8]) -> usize {
 }
 
 // A line: its number, a tab, its answer. Says whether it could be written.
-fn print(number: u64, said: WritePrint, s: &[u8]) -> bool {
+fn print<W: Write, E: Write>(
+    to: &mut W,
+    err: &mut E,
+    number: u64,
+    said: WritePrint,
+    s: &[u8],
+) -> bool {
     let mut text = [0u8; example_lines::ANSWER];
     let answer = example_lines::put_number(&mut text, number);
     let feed = put_said(&mut text, answer, said, s);
-    example_lines::write_line(&mut text, feed)
+    example_lines::write_line(to, err, &mut text, feed)
 }
 
 fn begin() -> WriteRun {
@@ -203,7 +210,14 @@ fn begin() -> WriteRun {
     }
 }
 
-fn line(run: WriteRun, s: &[u8], m: &mut [u8], bytes: &mut [u8]) -> WriteRun {
+fn line<W: Write, E: Write>(
+    to: &mut W,
+    err: &mut E,
+    run: WriteRun,
+    s: &[u8],
+    m: &mut [u8],
+    bytes: &mut [u8],
+) -> WriteRun {
     let number = std::num::wrapping_add_u64(run.number, 1);
     let o = act(run.tag, s, m, bytes);
     let said = o.said;
@@ -211,23 +225,36 @@ fn line(run: WriteRun, s: &[u8], m: &mut [u8], bytes: &mut [u8]) -> WriteRun {
     WriteRun {
         tag: t,
         number,
-        written: print(number, said, s),
+        written: print(to, err, number, said, s),
     }
 }
 
-fn lines(s: &[u8], m: &mut [u8], bytes: &mut [u8]) {
+fn lines<W: Write, E: Write>(to: &mut W, err: &mut E, s: &[u8], m: &mut [u8], bytes: &mut [u8]) {
     let mut r = begin();
     let mut at = 0;
     while (at < s.len()) & r.written {
-        r = line(r, example_lines::line_at(s, at), m, bytes);
+        r = line(to, err, r, example_lines::line_at(s, at), m, bytes);
         at = example_lines::next_at(s, at);
     }
 }
 
-fn main() {
-    let mut input = [0u8; example_lines::SCRIPT];
-    let n = example_lines::read_script(&mut input);
+// A script, read into a lent buffer: all of its lines.
+fn script<R: Read, W: Write, E: Write>(
+    from: &mut R,
+    to: &mut W,
+    err: &mut E,
+    input: &mut [u8; example_lines::SCRIPT],
+) {
+    let n = example_lines::read_script(from, err, input);
     let mut m = [0u8; tag::MEMORY_BYTES];
     let mut bytes = [0u8; LINE];
-    lines(&input[0..n], &mut m, &mut bytes);
+    lines(to, err, &input[0..n], &mut m, &mut bytes);
+}
+
+fn main(rt: HostRuntime) {
+    let mut from = rt.stdin();
+    let mut to = rt.stdout();
+    let mut err = rt.stderr();
+    let mut input = [0u8; example_lines::SCRIPT];
+    script(&mut from, &mut to, &mut err, &mut input);
 }

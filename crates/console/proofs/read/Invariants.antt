@@ -1,9 +1,7 @@
-use mathlib.Core.Path.{◌≡◌}
-use lib.ListN.{length}
+-- The buffer keeps its length, and a failed read takes nothing.
+use Rattle.std.proofs.Common.{◌≡◌, length}
+use Rattle.std.specs.Io.KnownBytes.{Keeps}
 use Rattle.console.proofs.read.Given as goal
 
-abbrev pub invariant-loop-calls : goal.invariant-loop-calls
-invariant-loop-calls l = length l.input ≡ length l.initial.input
-
-abbrev pub decreases-loop-calls : goal.decreases-loop-calls
-decreases-loop-calls l = l.calls
+abbrev pub invariant-loop : goal.invariant-loop
+invariant-loop g l = (length l.input ≡ length l.initial.input) × Keeps (g.R.Read.remaining l.initial.from) (g.R.Read.remaining l.from)

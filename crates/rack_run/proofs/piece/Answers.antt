@@ -1,68 +1,39 @@
-use native.Mathlib.Omega.{arith}
-use mathlib.Core.Path.{refl, ◌∙◌}
-use mathlib.Core.Bool.{true}
-use Prim.Native.Nat.{◌-◌}
-use lib.ListN.{length, take, drop, length-take}
-use Rattle.line_stream.specs.Step.{stream_buffers}
+use Rattle.std.proofs.Common.{arith, length, take, true}
 use Rattle.rack_script.specs.Script.{rack_state, rack_program}
-use Rattle.line_stream.proofs.Going.{never, used_some, goes, all_used}
+use Rattle.line_stream.specs.Step.{stream_buffers}
+use Rattle.line_stream.proofs.Going.{used_some, goes, all_used}
+use Rattle.rack_run.proofs.Said.{all_said, says_on, some_said}
 use Rattle.rack_run.proofs.piece.Goals as goal
 
-pub loop-at-init : goal.loop-at-init
-loop-at-init c = record { carried_is = refl; held_is = refl; out_len = refl; within = omega arith }
-
-pub slice_bounds-step-count : goal.slice_bounds-step-count
-slice_bounds-step-count c =
-    omega (arith, c.loop-at.invariant.within)
-
-pub slice_bounds-step-start : goal.slice_bounds-step-start
-slice_bounds-step-start c =
-    omega (arith, c.loop-at.invariant.within)
-
-pub slice_bounds-say-end : goal.slice_bounds-say-end
-slice_bounds-say-end c =
-    omega (arith, c.step-t.ensures.used_in_bounds.1, c.step-t.kept.1.1.1.1.1.1.0)
-
-pub shape_of-out-then-not-say : goal.shape_of-out-then-not-say
-shape_of-out-then-not-say c =
-    c.step-t.kept.1.1.1.1.1.1.0 ∙ c.loop-at.invariant.out_len
-
-pub returns-then-not-say : goal.returns-then-not-say
-returns-then-not-say c = λ t. absurd (never _ c.stopped.ensures t)
-
-pub overflow_add-at : goal.overflow_add-at
-overflow_add-at c =
-    let s = c.args.s.now in
+pub returns-then-not-say-clause-cut : goal.returns-then-not-say-clause-cut
+returns-then-not-say-clause-cut g c = λ _.
     let l = c.loop-at in
-    omega (arith, c.step-t.ensures.used_in_bounds.0, length-take (length s - l.at) (drop l.at s), l.invariant.within, c.well_formed.1.1.1.1.0.0)
+    let t = c.step-t in
+    some_said rack_program _ _ _ _ _ _ _ _ l.out l.at l.invariant.1 (stream_buffers (rack_state t.result.bench t.new.m t.new.reply) (take t.result.have t.new.kept) t.result.used t.result.wrote t.new.out) t.ensures.out_after t.ensures.used_in_bounds.1 (c.say.ensures.some c.if-not-say.true)
 
 pub loop-at-smaller : goal.loop-at-smaller
-loop-at-smaller c =
-    let a = c.args in
+loop-at-smaller g c =
     let l = c.loop-at in
     let t = c.step-t in
     omega (
       arith,
-      used_some rack_program (rack_state a.run.bench a.m.now a.reply.now) (take a.run.have a.kept.now) a.s.now a.out.now (rack_state l.bench l.m l.reply) (take l.have l.auto) l.out l.at l.invariant
-          (stream_buffers (rack_state t.result.bench t.new.m t.new.reply) (take t.result.have t.new.kept) t.result.used t.result.wrote t.new.out)
-          t.ensures.out_after (omega (arith, l.invariant.out_len, c.requires)) c.loop-at-test.true,
+      used_some rack_program _ _ _ _ _ _ l.out l.at l.invariant.0 (stream_buffers (rack_state t.result.bench t.new.m t.new.reply) (take t.result.have t.new.kept) t.result.used t.result.wrote t.new.out) t.ensures.out_after (omega (arith, l.invariant.0.out_len, c.requires)) c.loop-at-test.true,
       c.loop-at-test.true,
     )
 
 pub loop-at-preserved : goal.loop-at-preserved
-loop-at-preserved c =
-    let a = c.args in
+loop-at-preserved g c =
     let l = c.loop-at in
     let t = c.step-t in
-    goes rack_program (rack_state a.run.bench a.m.now a.reply.now) (take a.run.have a.kept.now) a.s.now a.out.now (rack_state l.bench l.m l.reply) (take l.have l.auto) l.out l.at l.invariant
-    (stream_buffers (rack_state t.result.bench t.new.m t.new.reply) (take t.result.have t.new.kept) t.result.used t.result.wrote t.new.out)
-    t.ensures.out_after t.ensures.used_in_bounds.0 t.new.out t.auto.out
+    let left = stream_buffers (rack_state t.result.bench t.new.m t.new.reply) (take t.result.have t.new.kept) t.result.used t.result.wrote t.new.out in
+    (goes rack_program _ _ _ _ _ _ l.out l.at l.invariant.0 left t.ensures.out_after t.ensures.used_in_bounds.0 t.new.out t.auto.out, says_on rack_program _ _ _ _ _ _ _ _ l.out l.at l.invariant.1 left t.ensures.out_after t.ensures.used_in_bounds.1 (c.say.ensures.all c.if-not-say.false))
 
-pub shape_of-out : goal.shape_of-out
-shape_of-out c = c.loop-at.invariant.out_len
-
-pub returns : goal.returns
-returns c =
-    let a = c.args in
+pub returns-clause-reached : goal.returns-clause-reached
+returns-clause-reached g c =
     let l = c.loop-at in
-    all_used rack_program (rack_state a.run.bench a.m.now a.reply.now) (take a.run.have a.kept.now) a.s.now a.out.now (rack_state l.bench l.m l.reply) (take l.have l.auto) l.out l.at l.invariant c.loop-at-test.false true
+    all_used rack_program _ _ _ _ _ _ l.out l.at l.invariant.0 c.loop-at-test.false true
+
+pub returns-clause-said : goal.returns-clause-said
+returns-clause-said g c = λ _.
+    let l = c.loop-at in
+    all_said rack_program _ _ _ _ _ _ _ l.at l.invariant.1 c.loop-at-test.false

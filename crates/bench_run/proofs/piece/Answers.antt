@@ -1,4 +1,4 @@
-use Rattle.std.proofs.Common.{arith, length, take, true}
+use Rattle.std.proofs.Common.{arith, take, true}
 use Rattle.script.specs.Lines.{bench_state}
 use Rattle.line_stream.specs.Step.{stream_buffers}
 use Rattle.stream.specs.Program.{bench_program}

@@ -1,4 +1,4 @@
-use Rattle.std.proofs.Common.{arith, length, take, true}
+use Rattle.std.proofs.Common.{arith, take, true}
 use Rattle.rack_script.specs.Script.{rack_state, rack_program}
 use Rattle.line_stream.specs.Step.{stream_buffers}
 use Rattle.line_stream.proofs.Going.{used_some, goes, all_used}

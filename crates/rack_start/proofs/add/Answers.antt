@@ -2,8 +2,7 @@ use mathlib.Core.Path.{◌≡◌, refl, sym, ◌∙◌}
 use mathlib.Core.Bool.{true, false}
 use native.Mathlib.Omega.{arith}
 use Prim.Native.Nat.{◌<◌}
-use lib.ListN.{length, length-map}
-use Rattle.tag.specs.contracts.Tag as Tag
+use lib.ListN.{length}
 use Rattle.parts.proofs.Picks.{pick_false}
 use Rattle.rack_start.specs.Start.{takes_tag, added_tag}
 use Rattle.rack_start.proofs.Places.{room_left, added_is}
@@ -35,7 +34,7 @@ overflow_add-n c =
 
 pub returns : goal.returns
 returns c =
-    let sixteen_here : length c.args.bench.tags ≡ 16 = sym (length-map c.args.bench.tags (Tag.the_field).into) ∙ c.well_formed.0.1.1.0.1.0.1 in
+    let sixteen_here : length c.args.bench.tags ≡ 16 = c.well_formed.0.1.1.0.1.0.1 in
     let a = c.args in
     added_is a.uid a.bench a.m.now c.put_bytes.new.m c.fresh.result
     (sym c.takes_tag.ensures ∙ c.if-not-takes_tag.false)

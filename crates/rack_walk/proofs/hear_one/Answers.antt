@@ -1,7 +1,4 @@
-use mathlib.Core.Path.{◌≡◌, sym, ap, ◌∙◌}
-use mathlib.Core.List.{List}
-use lib.ListN.{set}
-use Rattle.tag.specs.declared.Tag.{Tag}
+use mathlib.Core.Path.{ap}
 use Rattle.rack_hear.specs.Hear.{HeardResult, put_back, hear_one_of}
 use Rattle.rack_walk.proofs.hear_one.Goals as goal
 

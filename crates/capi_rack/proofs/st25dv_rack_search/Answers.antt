@@ -1,10 +1,9 @@
 use mathlib.Core.Path.{◌≡◌, sym, ap, ◌∙◌}
 use mathlib.Core.List.{List}
 use native.Mathlib.Omega.{arith}
-use lib.ListN.{length, take, length-map}
+use lib.ListN.{length, take}
 use Rattle.parts.proofs.Below.{are_below}
 use Rattle.tag.specs.declared.Tag.{Tag}
-use Rattle.tag.specs.contracts.Tag as tag-type
 use Rattle.rack.specs.Rack.{rack_of}
 use Rattle.rack_search.specs.Search.{search_entry}
 use Rattle.capi_rack.proofs.Calls.{refused_search, searched}
@@ -17,7 +16,7 @@ returns-in-RefusedBy c =
 
 pub returns-in-NoRefusal : goal.returns-in-NoRefusal
 returns-in-NoRefusal c =
-    let sixteen_here : length c.search-o.result.tags ≡ 16 = sym (length-map c.search-o.result.tags (tag-type.the_type).to) ∙ c.search-o.type_inv.1.1.1.0.1.0.1 in
+    let sixteen_here : length c.search-o.result.tags ≡ 16 = c.search-o.type_inv.1.1.1.0.1.0.1 in
     let a = c.args in
     let o = c.search-o in
     searched a.number a.s.now a.m.now a.out.now a.frame.now o.result.answer o.result.tags o.new.memory o.new.out c.encode_tags.new.s

@@ -1,8 +1,7 @@
 use mathlib.Core.Path.{◌≡◌, sym, ap, ◌∙◌}
 use mathlib.Core.List.{List}
 use native.Mathlib.Omega.{arith}
-use lib.ListN.{length, take, length-map}
-use Rattle.tag.specs.contracts.Tag as tag-type
+use lib.ListN.{length, take}
 use Rattle.parts.proofs.Below.{are_below}
 use Rattle.tag.specs.declared.Tag.{Tag}
 use Rattle.refusals.specs.Call.{handed_in}
@@ -19,7 +18,7 @@ returns-in-RefusedBy c =
 
 pub returns-in-NoRefusal : goal.returns-in-NoRefusal
 returns-in-NoRefusal c =
-    let sixteen_here : length c.step-o.result.tags ≡ 16 = sym (length-map c.step-o.result.tags (tag-type.the_type).to) ∙ c.step-o.type_inv.1.1.1.1.0.1.0.1 in
+    let sixteen_here : length c.step-o.result.tags ≡ 16 = c.step-o.type_inv.1.1.1.1.0.1.0.1 in
     let a = c.args in
     let o = c.step-o in
     let call = rack_call (handed_in a.out.now a.code a.value a.frame.now) a.to in

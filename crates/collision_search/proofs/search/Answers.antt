@@ -2,9 +2,8 @@ use mathlib.Core.Path.{◌≡◌, refl, sym, ap, ◌∙◌}
 use mathlib.Core.List.{List, []}
 use Prim.Native.Nat.{ℕ}
 use native.Mathlib.Omega.{arith}
-use lib.ListN.{length, take, length-map}
+use lib.ListN.{length, take}
 use Rattle.tag.specs.declared.Tag.{Tag}
-use Rattle.tag.specs.contracts.Tag as tag-type
 use Rattle.refusals.specs.Refusals.{judgement}
 use Rattle.rack.specs.Rack.{rack_of}
 use Rattle.rack.specs.Step.{rack_entry}
@@ -44,7 +43,7 @@ returns-in-NoRefusal c =
     judgement (search_rules (rack_of (take a.number a.tags) a.memory.now) a.out.now) ≡ c.rack_refusal-judged.result = let a = c.args in
     sym (c.rack_refusal-judged.ensures ∙ frame_judged (rack_of (take a.number a.tags) a.memory.now) a.out.now []) in
     let sixteen_here : length c.args.tags ≡ 16 = search rules in
-    let left_sixteen_here : length c.look_into.result.tags ≡ 16 = sym (length-map c.look_into.result.tags (tag-type.the_type).to) ∙ c.look_into.type_inv.1.1.1.0.1.0.1 in
+    let left_sixteen_here : length c.look_into.result.tags ≡ 16 = c.look_into.type_inv.1.1.1.0.1.0.1 in
     let a = c.args in
     let n = c.tag_count-n.result in
     let e = c.tag_count-n.ensures in

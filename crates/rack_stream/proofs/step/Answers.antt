@@ -79,7 +79,7 @@ loop-end-preserved c =
     let n = c.kept_count-n in
     let l = c.loop-end in
     let o = c.end_line-o in
-    turns rack_program (rack_state a.bench a.m.now a.reply.now) (take n.result a.kept.now) a.s.now a.out.now (rack_state l.bench l.m l.reply) l.auto l.out l.n l.from l.at l.end l.invariant
+    turns rack_program (rack_state a.bench a.m.now a.reply.now) (take n.result a.kept.now) a.s.now a.out.now (rack_state l.bench l.m l.reply) l.kept l.out l.n l.from l.at l.end l.invariant
     rack_tells (rack_state o.result.bench o.new.m o.new.reply) o.result.length o.new.kept o.new.text c.line_end-end-in-loop-end.result
     less_here roomy_here o.ensures.text_after o.ensures.length_le_text_room o.auto.text c.line_end-end-in-loop-end.ensures
 

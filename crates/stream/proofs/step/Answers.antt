@@ -81,7 +81,7 @@ loop-end-preserved c =
     let n = c.kept_count-n in
     let l = c.loop-end in
     let o = c.end_line-o in
-    turns (bench_program a.named) (bench_state a.bench a.m.now a.reply.now) (take n.result a.kept.now) a.s.now a.out.now (bench_state l.bench l.m l.reply) l.auto l.out l.n l.from l.at l.end l.invariant
+    turns (bench_program a.named) (bench_state a.bench a.m.now a.reply.now) (take n.result a.kept.now) a.s.now a.out.now (bench_state l.bench l.m l.reply) l.kept l.out l.n l.from l.at l.end l.invariant
     (bench_tells a.named) (bench_state o.result.bench o.new.m o.new.reply) o.result.length o.new.kept o.new.text c.line_end-end-in-loop-end.result
     less_here roomy_here (ap (λ (x : LineBuffers). line_stored (bench_state x.bench x.memory x.reply) x.length x.buffer) o.ensures.text_after) o.ensures.length_le_text_room o.auto.text c.line_end-end-in-loop-end.ensures
 

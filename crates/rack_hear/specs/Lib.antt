@@ -1,2 +1,3 @@
 pub mod Hear
 pub mod Claims
+pub mod Passed

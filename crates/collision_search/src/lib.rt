@@ -23,7 +23,7 @@ pub struct SearchOutcome {
 }
 
 // ---- the slots
-// Whether the frame is well_formed for sixteen slots, CRC right.
+// Whether the frame is well-formed for sixteen slots, CRC right.
 fn opens_sixteen(frame: &[u8]) -> bool
     ensures { result ≡ opens_sixteen frame.now }
 {

@@ -136,7 +136,7 @@ library_runs_rack n s m cs t b =
     ∙ ap (λ (x : List ℕ). library_rack_run exported_rack (length (tags_at n s)) x m cs) (sym (starts_back n s m t))
     ∙ run_is cs (rack_of (tags_at n s) m) b (good n s m t)
 
--- ---- the numbers of a list that starts well_formed
+-- ---- the numbers of a list that starts well-formed
 above_none : (l : List ℕ) (n : ℕ) → are_bytes l ≡ true → 0x100 ≤ n → is_among n l ≡ false
 unfolding are_bytes is_among
 above_none [] n b h = refl

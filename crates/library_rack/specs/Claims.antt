@@ -61,7 +61,7 @@ state_refusals = 1 ∷ 4 ∷ 5 ∷ 7 ∷ 13 ∷ []
 unfoldable pub looks_at_states : LibraryRackAnswer → Bool
 looks_at_states answer = is_among answer.number state_refusals
 
--- what a list leaves can be handed to the next one; if it starts well_formed it stays so, and no such refusal comes up
+-- what a list leaves can be handed to the next one; if it starts well-formed it stays so, and no such refusal comes up
 pub record LibraryRackKeeps (step : LibraryRackStep) (n : ℕ) (s m : List ℕ) (calls : List RackCall) : Type 0 where
   pub starts : let left = library_rack_run step n s m calls in RackStarts n left.states left.memory
   pub formed : WellFormed (rack_at n s m) → let left = library_rack_run step n s m calls in WellFormed (rack_at n left.states left.memory)

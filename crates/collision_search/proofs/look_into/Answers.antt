@@ -1,4 +1,3 @@
-use mathlib.Core.Logic.{⊎_elim}
 use mathlib.Core.Path.{◌≡◌, refl, sym, ap, subst, ◌∙◌}
 use mathlib.Core.Bool.{Bool, true}
 use Prim.Native.Nat.{ℕ, suc, ◌-◌, ◌<◌}
@@ -14,6 +13,7 @@ use Rattle.rack_search.proofs.Search.{formed_of}
 use Rattle.collision_search.proofs.Slots.{Counted, none_counted, on_silence, on_first, on_second, at_end, Looking, looking_first, none_left, collided, looking_next}
 use borrow.Author.Rules.{rules}
 use Rattle.collision_search.proofs.look_into.Goals as goal
+use Rattle.collision_search.proofs.look_into.Goals.{then-answered-i, else-answered-i}
 
 pub search-init : goal.search-init
 search-init c =
@@ -31,11 +31,18 @@ loop-i-preserved c =
     let l = c.loop-i in
     let bs = c.open_slot-opened.result.heard.answered in
     let within : l.i < 16 = omega arith in
-    let next : Counted bs c.if-answered-i.seen (suc l.i) = ⊎_elim
-    (λ p. subst (λ (b : Bool). Counted bs b (suc l.i)) (sym p.2) (on_first bs l.seen l.i noted_here l.invariant.1 within p.0.true p.1.left))
-    (λ p. subst (λ (b : Bool). Counted bs b (suc l.i)) (sym p.1) (on_silence bs l.seen l.i noted_here l.invariant.1 within p.0.left))
-    c.if-answered-i.branch in
-    (l.invariant.0, subst (Counted bs c.if-answered-i.seen) (sym (add-one l.i)) next)
+    elim c.if-answered-i.branch [
+      | then-answered-i w ↦ (
+        l.invariant.0,
+        subst (Counted bs c.if-answered-i.seen) (sym (add-one l.i))
+            (subst (λ (b : Bool). Counted bs b (suc l.i)) (sym w.seen-is) (on_first bs l.seen l.i noted_here l.invariant.1 within w.if-answered-i.true w.if-seen.false)),
+      )
+      | else-answered-i w ↦ (
+        l.invariant.0,
+        subst (Counted bs c.if-answered-i.seen) (sym (add-one l.i))
+            (subst (λ (b : Bool). Counted bs b (suc l.i)) (sym w.seen-is) (on_silence bs l.seen l.i noted_here l.invariant.1 within w.if-answered-i.false)),
+      )
+    ]
 
 pub search-preserved : goal.search-preserved
 search-preserved c =

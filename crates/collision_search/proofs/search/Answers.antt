@@ -33,9 +33,8 @@ returns-in-RefusedBy c =
     let refusal_here : let a = c.args in
     judgement (search_rules (rack_of (take a.number a.tags) a.memory.now) a.out.now) ≡ c.rack_refusal-judged.result = let a = c.args in
     sym (c.rack_refusal-judged.ensures ∙ frame_judged (rack_of (take a.number a.tags) a.memory.now) a.out.now []) in
-    let told = c.judged-1 in
     let a = c.args in
-    record { out_after = sym (search_refused (rack_of (take a.number a.tags) a.memory.now) a.out.now a.frame.now told.given.0.0 (refusal_here ∙ told.given.1)); tags_value = refl }
+    record { out_after = sym (search_refused (rack_of (take a.number a.tags) a.memory.now) a.out.now a.frame.now c.in-RefusedBy.why (refusal_here ∙ c.in-RefusedBy.is)); tags_value = refl }
 
 pub returns-in-NoRefusal : goal.returns-in-NoRefusal
 returns-in-NoRefusal c =

@@ -1,4 +1,4 @@
-// Inventory of ISO/IEC 15693: which frames are well-formed, which tags they ask, and in which slot a tag answers.
+// Inventory of ISO/IEC 15693: which frames are well_formed, which tags they ask, and in which slot a tag answers.
 #![tactic(auto)]
 
 ghost use Rattle.std.specs.Prelude.{◌≡◌, ◌≤◌};
@@ -110,7 +110,7 @@ fn own_slot(f: &[u8], u: Uid) -> u8
     slot_number(&uid, mask_bits(f) as usize)
 }
 
-// How many ends-of-frame a well-formed frame leaves to the tag's slot.
+// How many ends-of-frame a well_formed frame leaves to the tag's slot.
 pub fn slots_after(f: &[u8], u: Uid, own: Afi) -> u8
     ensures { result ≡ slots_after f.now u own }
 {
@@ -120,7 +120,7 @@ pub fn slots_after(f: &[u8], u: Uid, own: Afi) -> u8
     0
 }
 
-// Whether a well-formed frame is answered at once.
+// Whether a well_formed frame is answered at once.
 pub fn answers_now(f: &[u8], u: Uid, own: Afi) -> bool
     ensures { result ≡ answers_now f.now u own }
 {

@@ -39,7 +39,7 @@ fn leave_slots(v: RadioSide, u: Uid, n: u8, answers: bool, m: &[u8], out: &mut [
     }
 }
 
-// Whether the tag takes part and the frame is whole and well-formed. The CRC is computed only where it matters.
+// Whether the tag takes part and the frame is whole and well_formed. The CRC is computed only where it matters.
 fn is_heard(f: &[u8], a: Air, dynamic: RfMngt, busy: bool) -> bool
     ensures { result ≡ is_heard f.now a dynamic busy }
 {

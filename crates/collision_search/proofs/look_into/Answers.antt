@@ -13,7 +13,7 @@ use Rattle.rack_search.proofs.Search.{formed_of}
 use Rattle.collision_search.proofs.Slots.{Counted, none_counted, on_silence, on_first, on_second, at_end, Looking, looking_first, none_left, collided, looking_next}
 use borrow.Author.Rules.{rules}
 use Rattle.collision_search.proofs.look_into.Goals as goal
-use Rattle.collision_search.proofs.look_into.Goals.{then-answered-i, else-answered-i}
+use Rattle.collision_search.proofs.look_into.Goals.{then-answered-i+else-seen, else-answered-i}
 
 pub search-init : goal.search-init
 search-init c =
@@ -32,7 +32,7 @@ loop-i-preserved c =
     let bs = c.open_slot-opened.result.heard.answered in
     let within : l.i < 16 = omega arith in
     elim c.if-answered-i.branch [
-      | then-answered-i w ↦ (
+      | then-answered-i+else-seen w ↦ (
         l.invariant.0,
         subst (Counted bs c.if-answered-i.seen) (sym (add-one l.i))
             (subst (λ (b : Bool). Counted bs b (suc l.i)) (sym w.seen-is) (on_first bs l.seen l.i noted_here l.invariant.1 within w.if-answered-i.true w.if-seen.false)),

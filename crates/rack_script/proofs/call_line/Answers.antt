@@ -15,4 +15,4 @@ returns c =
     let l = c.memory_length-end in
     let a = c.args in
     call_stored a.bench a.m.now a.reply.now a.text.now t.result.tags t.new.memory t.new.out p.new.text l.result n.result p.result
-    l.ensures.value t.ensures.tags_value n.ensures a.code a.value a.frame.now t.result.answer t.result.answered t.ensures.memory_after p.ensures.value p.ensures.text_after
+    l.ensures.value t.ensures.tags_value n.ensures.value a.code a.value a.frame.now t.result.answer t.result.answered t.ensures.memory_after p.ensures.value p.ensures.text_after

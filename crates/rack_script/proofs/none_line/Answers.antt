@@ -13,4 +13,4 @@ returns c =
     let p = c.put_rack_line-length in
     let n = c.wrapping_add_u64-number in
     let a = c.args in
-    λ (m : List ℕ). numbered_stored a.bench m a.reply.now none_text a.text.now p.new.text n.result p.result n.ensures p.ensures.value p.ensures.text_after
+    λ (m : List ℕ). numbered_stored a.bench m a.reply.now none_text a.text.now p.new.text n.result p.result n.ensures.value p.ensures.value p.ensures.text_after

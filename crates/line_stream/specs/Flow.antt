@@ -26,6 +26,6 @@ flow_of program state held (x ∷ s) =
     (following answer.text (flow_of program answer.carried [] s))
     (flow_of program state (keep (held ++ x ∷ [])) s)
 
--- a program that goes on has come to what the rest carries, and to its unfinished line (what it wrote no contract can say)
+-- a program that goes on has come to what the rest carries, and to its unfinished line
 abbrev pub Reaches : {S : Type 0} → Bool → S → List ℕ → Flow S → Type 0
 Reaches more state held rest = more ≡ true → (state ≡ rest.carried) × (held ≡ rest.held)

@@ -3,7 +3,7 @@ use Rattle.script.specs.Lines.{bench_state}
 use Rattle.line_stream.specs.Step.{stream_buffers}
 use Rattle.stream.specs.Program.{bench_program}
 use Rattle.line_stream.proofs.Going.{used_some, goes, all_used}
-use Rattle.bench_run.proofs.Said.{all_said, says_on, some_said}
+use Rattle.line_output.proofs.Said.{all_said, says_on, some_said}
 use Rattle.bench_run.proofs.piece.Goals as goal
 
 pub returns-then-not-say-clause-cut : goal.returns-then-not-say-clause-cut

@@ -2,7 +2,7 @@ use Rattle.std.proofs.Common.{◌-◌, length, take}
 use Rattle.script.specs.Lines.{bench_state}
 use Rattle.stream.specs.Program.{bench_program}
 use Rattle.line_stream.proofs.Going.{Going}
-use Rattle.bench_run.proofs.Said.{Said}
+use Rattle.line_output.proofs.Said.{Said}
 use Rattle.bench_run.proofs.piece.Given as goal
 
 abbrev pub invariant-loop-at : goal.invariant-loop-at

@@ -2,7 +2,7 @@ use Rattle.std.proofs.Common.{arith, take, true}
 use Rattle.rack_script.specs.Script.{rack_state, rack_program}
 use Rattle.line_stream.specs.Step.{stream_buffers}
 use Rattle.line_stream.proofs.Going.{used_some, goes, all_used}
-use Rattle.rack_run.proofs.Said.{all_said, says_on, some_said}
+use Rattle.line_output.proofs.Said.{all_said, says_on, some_said}
 use Rattle.rack_run.proofs.piece.Goals as goal
 
 pub returns-then-not-say-clause-cut : goal.returns-then-not-say-clause-cut

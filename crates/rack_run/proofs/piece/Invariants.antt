@@ -1,7 +1,7 @@
 use Rattle.std.proofs.Common.{◌-◌, length, take}
 use Rattle.rack_script.specs.Script.{rack_state, rack_program}
 use Rattle.line_stream.proofs.Going.{Going}
-use Rattle.rack_run.proofs.Said.{Said}
+use Rattle.line_output.proofs.Said.{Said}
 use Rattle.rack_run.proofs.piece.Given as goal
 
 abbrev pub invariant-loop-at : goal.invariant-loop-at

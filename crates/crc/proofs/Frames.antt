@@ -1,13 +1,17 @@
 -- Frames closed with their CRC.
 use mathlib.Core.Path.{◌≡◌, refl, sym, ap, ◌∙◌}
-use mathlib.Core.Bool.{true}
+use mathlib.Core.Bool.{Bool, true, false, ◌&&◌}
 use mathlib.Core.List.{List, [], ◌∷◌}
-use Prim.Native.Nat.{ℕ, ◌+◌, ◌-◌, ◌/◌, ◌%◌, ◌≤◌, ◌<◌}
+use Prim.Native.Nat.{ℕ, suc, ◌+◌, ◌-◌, ◌/◌, ◌%◌, ◌≤◌, ◌<◌}
 use native.Mathlib.Nat.{zero-add}
 use native.Mathlib.Omega.{arith}
-use lib.ListN.{length, take, drop, length-append}
-use lib.Seq.{sets, sets-eq, length-sets, take_at, get_or-append_seam, get_or-append-add}
-use borrow.Author.Tests.{le-leb, eq-eqb}
+use native.Mathlib.Numerals.{add-one}
+use lib.Dec.{eqb}
+use lib.Pointwise.{pointwise}
+use Rattle.std.proofs.Common.{nat_eq}
+use lib.ListN.{length, take, drop, get_or, set, length-append, drop_of_length-le}
+use lib.Seq.{sets, sets-eq, length-sets, take_at, get_or-append_seam, get_or-append-add, drop-cons}
+use borrow.Author.Tests.{le-leb, lt-leb, eq-eqb}
 use Rattle.parts.proofs.Picks.{pick_le, pick_not_le}
 use Rattle.parts.proofs.Lists.{sets_append}
 use Rattle.crc.specs.Crc.{crc_of, crc_bytes, closed, closed_at, good_frame}
@@ -50,3 +54,35 @@ good_closed s =
       eq-eqb (crc_of s % 256) (crc_of s % 256) refl,
       eq-eqb (crc_of s / 256) (crc_of s / 256) refl,
     )
+
+-- the bytes of a CRC stored one by one
+pub stored_crc : (o : List ℕ) (n c : ℕ) → n + 2 ≤ length o → c < 65536 → c ≡ crc_of (take n o) → set (set o n (c % 256)) (n + 1) (c / 256 % 256) ≡ closed_at o n
+stored_crc o n c h l e =
+    let q : c / 256 % 256 ≡ c / 256 = omega arith in
+    rw (q, e, add-one n) (sym (closed_fits o n h))
+
+-- the last two bytes compared with those of a CRC
+pub frame_compared : (s body end : List ℕ) (n c : ℕ) → n ≡ 2 → body ≡ take (length s - n) s → end ≡ drop (length s - n) s → length body + n ≡ length s
+    → c < 65536 → c ≡ crc_of body → pointwise nat_eq end (c % 256 ∷ c / 256 % 256 ∷ []) ≡ good_frame s
+unfolding good_frame
+frame_compared s body end n c two b e l small is =
+    let k = length s - 2 in
+    let long : 2 ≤ length s = omega arith in
+    let q : c / 256 % 256 ≡ c / 256 = omega arith in
+    let none : drop (suc (suc k)) s ≡ [] = drop_of_length-le s {i = suc (suc k)} (omega arith) in
+    let last : end ≡ get_or s k 0 ∷ get_or s (suc k) 0 ∷ [] =
+    e ∙ ap (λ (i : ℕ). drop (length s - i) s) two
+    ∙ drop-cons s k 0 (omega arith)
+    ∙ ap (λ (t : List ℕ). get_or s k 0 ∷ t) (drop-cons s (suc k) 0 (omega arith) ∙ ap (λ (t : List ℕ). get_or s (suc k) 0 ∷ t) none) in
+    let crc_is : c ≡ crc_of (take k s) = is ∙ ap crc_of (b ∙ ap (λ (i : ℕ). take (length s - i) s) two) in
+    rw (q, last, crc_is, le-leb 2 (length s) long, add-one k) (both (eqb (get_or s k 0) (crc_of (take k s) % 256)) (eqb (get_or s (suc k) 0) (crc_of (take k s) / 256)))
+  where
+    both : (x y : Bool) → (x && (y && true)) ≡ (x && y)
+    both true true = refl
+    both true false = refl
+    both false true = refl
+    both false false = refl
+
+pub frame_short : (s : List ℕ) (n : ℕ) → n ≡ 2 → length s < n → false ≡ good_frame s
+unfolding good_frame
+frame_short s n two h = rw (lt-leb 2 (length s) (omega arith))

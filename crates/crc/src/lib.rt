@@ -27,10 +27,8 @@ fn over(table: &[u16; 16], s: &[u8]) -> u16
     ensures { result ≡ crc_of s.now }
 {
     let mut c: u16 = 0xffff;
-    let mut i = 0;
-    while i < s.len() {
-        c = feed(table, c, s[i]);
-        i += 1;
+    for x in s {
+        c = feed(table, c, *x);
     }
     c ^ 0xffff
 }
@@ -47,25 +45,20 @@ pub fn crc(s: &[u8]) -> u16
 pub fn is_good(s: &[u8]) -> bool
     ensures { result ≡ good_frame s.now }
 {
-    if s.len() < 2 {
-        return false;
+    match s.split_last_chunk() {
+        Some((body, end)) => *end == crc(body).to_le_bytes(),
+        None => false,
     }
-    let n = s.len() - 2;
-    let c = crc(&s[0..n]);
-    (s[n] == (c % 256) as u8) & (s[n + 1] == (c / 256) as u8)
 }
 
 // Stores the CRC of the first n bytes after them, low byte first; nothing where it does not fit.
 pub fn close(out: &mut [u8], n: usize)
     ensures { out.new ≡ closed_at out.old n }
 {
-    if out.len() < 2 {
+    if (out.len() < 2) || (out.len() - 2 < n) {
         return;
     }
-    if out.len() - 2 < n {
-        return;
-    }
-    let c = crc(&out[0..n]);
-    out[n] = (c % 256) as u8;
-    out[n + 1] = (c / 256) as u8;
+    let [low, high] = crc(&out[..n]).to_le_bytes();
+    out[n] = low;
+    out[n + 1] = high;
 }

@@ -6,11 +6,11 @@ use Prim.Native.Nat.{ℕ, suc, ◌+◌, ◌-◌, ◌*◌, ◌/◌, ◌%◌, ◌�
 use native.Mathlib.Omega.{arith}
 use native.Mathlib.Numerals.{add-one}
 use lib.Dec.{leb}
-use borrow.Author.Tests.{leb-true, leb-false}
+use borrow.Author.Tests.{leb-true, leb-false, le-leb, lt-leb}
+use Rattle.std.proofs.lemmas.Bool.Decides.{nat_tests}
+use Rattle.parts.specs.Pick.{pick}
 use lib.ListN.{length, take, drop, get_or, set, length-take, drop_of_length-le}
 use lib.Seq.{sets, drop-cons, take-suc, take_all}
-use Rattle.parts.proofs.Picks.{pick_case}
-use Rattle.parts.proofs.Bools.{and_right}
 use Rattle.parts.proofs.Lists.{sets_append}
 use Rattle.hexadecimal.specs.Hex.{is_hex, hex_value, all_hex, hex_byte, hex_bytes, hex_digit, hex_text}
 
@@ -29,15 +29,50 @@ unfolding all_hex
 all_hex_end true s i h = ap all_hex (drop_of_length-le s h)
 all_hex_end false s i h = refl
 
--- a digit's value is below 16
-pub value_small : (x : ℕ) → hex_value x < 16
-unfolding hex_value
-value_small x =
-    pick_case (λ (n : ℕ). n < 16) (leb 0x30 x && leb x 0x39) _ _
-    (λ h. omega (arith, leb-true x 0x39 (and_right (leb 0x30 x) (leb x 0x39) h)))
-    (λ _. pick_case (λ (n : ℕ). n < 16) (leb 0x41 x && leb x 0x46) _ _
-    (λ h. omega (arith, leb-true x 0x46 (and_right (leb 0x41 x) (leb x 0x46) h)))
-    (λ _. omega arith))
+-- characters told apart by their ranges
+pub digit_is : (x : ℕ) → 48 ≤ x → x ≤ 57 → true ≡ is_hex x
+unfolding is_hex
+digit_is x h k = grind (arith, nat_tests)
+
+pub letter_is : (x : ℕ) → 65 ≤ x → x ≤ 70 → true ≡ is_hex x
+unfolding is_hex
+letter_is x h k = grind (arith, nat_tests)
+
+pub below_not : (x : ℕ) → x < 48 → false ≡ is_hex x
+unfolding is_hex
+below_not x h = grind (arith, nat_tests)
+
+pub between_not : (x : ℕ) → 57 < x → x < 65 → false ≡ is_hex x
+unfolding is_hex
+between_not x h k = grind (arith, nat_tests)
+
+pub above_not : (x : ℕ) → 70 < x → false ≡ is_hex x
+unfolding is_hex
+above_not x h = grind (arith, nat_tests)
+
+pub ruleset hex_tests = (digit_is, letter_is, below_not, between_not, above_not)
+
+pub digit_value : (x : ℕ) → 48 ≤ x → x ≤ 57 → x - 48 ≡ hex_value x
+unfolding hex_value pick
+digit_value x h k = rw (le-leb 48 x h, le-leb x 57 k)
+
+pub letter_value : (x : ℕ) → 65 ≤ x → x ≤ 70 → x - 65 + 10 ≡ hex_value x
+unfolding hex_value pick
+letter_value x h k = rw (lt-leb x 57 (omega arith), le-leb 65 x h, le-leb x 70 k, le-leb 48 x (omega arith)) (omega arith)
+
+pub below_value : (x : ℕ) → x < 48 → 0 ≡ hex_value x
+unfolding hex_value pick
+below_value x h = rw (lt-leb 48 x h, lt-leb 65 x (omega arith))
+
+pub between_value : (x : ℕ) → 57 < x → x < 65 → 0 ≡ hex_value x
+unfolding hex_value pick
+between_value x h k = rw (le-leb 48 x (omega arith), lt-leb x 57 h, lt-leb 65 x k)
+
+pub above_value : (x : ℕ) → 70 < x → 0 ≡ hex_value x
+unfolding hex_value pick
+above_value x h = rw (le-leb 48 x (omega arith), lt-leb x 57 (omega arith), le-leb 65 x (omega arith), lt-leb x 70 h)
+
+pub ruleset hex_values = (digit_value, letter_value, below_value, between_value, above_value)
 
 -- two digits more
 pub hex_bytes_step : (s : List ℕ) (i : ℕ) → 2 * i + 1 < length s

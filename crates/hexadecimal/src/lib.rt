@@ -1,16 +1,17 @@
 // Hex digits, upper case.
 #![tactic(auto)]
 
-ghost use Rattle.std.specs.Prelude.{◌≡◌, [], ◌∷◌, ◌+◌, ◌*◌, ◌/◌, ◌%◌, ◌≤◌, ◌<◌, min, length, take};
+ghost use Rattle.std.specs.Prelude.{◌≡◌, [], ◌∷◌, ◌+◌, ◌*◌, ◌/◌, ◌%◌, ◌≤◌, ◌<◌, length, take};
 ghost use Rattle.std.proofs.lemmas.List.Edits.{sets};
 ghost use Rattle.hexadecimal.specs.Hex.{is_hex, hex_value, all_hex, hex_byte, hex_bytes, hex_digit, hex_text};
 ghost use Rattle.text.specs.Place.{stored, text_at};
 
 // Whether a character is 0 to 9 or A to F.
+#[tactic(auto, using(crate::proofs::HexLaws::hex_tests))]
 fn is_hex(x: u8) -> bool
     ensures { result ≡ is_hex x }
 {
-    ((0x30 <= x) & (x <= 0x39)) | ((0x41 <= x) & (x <= 0x46))
+    matches!(x, b'0'..=b'9' | b'A'..=b'F')
 }
 
 // Whether all of them are. It goes to the end even past one that is not, so that the compiler can test many at once.
@@ -18,26 +19,23 @@ pub fn all_hex(s: &[u8]) -> bool
     ensures { result ≡ all_hex s.now }
 {
     let mut all = true;
-    let mut i = 0;
-    while i < s.len() {
-        all = all & is_hex(s[i]);
-        i += 1;
+    for x in s {
+        all &= is_hex(*x);
     }
     all
 }
 
 // The value of a digit; any other character counts as 0.
+#[tactic(auto, using(crate::proofs::HexLaws::hex_values))]
 fn hex_value(x: u8) -> u8
     ensures value { result ≡ hex_value x }
     ensures upper_bound { result < 16 }
 {
-    if (0x30 <= x) & (x <= 0x39) {
-        return x - 0x30;
+    match x {
+        b'0'..=b'9' => x - b'0',
+        b'A'..=b'F' => x - b'A' + 10,
+        _ => 0,
     }
-    if (0x41 <= x) & (x <= 0x46) {
-        return x - 0x37;
-    }
-    0
 }
 
 // The byte of two digits, high first.
@@ -53,11 +51,9 @@ pub fn decode(s: &[u8], out: &mut [u8]) -> usize
     ensures out_after { out.new ≡ sets out.old 0 (hex_bytes s.now) }
 {
     let n = s.len() / 2;
-    let mut i = 0;
-    while i < n {
+    for i in 0..n {
         let b = hex_byte(s[2 * i], s[2 * i + 1]);
         parts::put(out, i, b);
-        i += 1;
     }
     n
 }
@@ -67,10 +63,7 @@ fn hex_digit(n: u8) -> u8
     requires { n < 16 }
     ensures { result ≡ hex_digit n }
 {
-    if n < 10 {
-        return 0x30 + n;
-    }
-    0x37 + n
+    if n < 10 { b'0' + n } else { b'A' + (n - 10) }
 }
 
 // Stores the two digits of a byte at a place.
@@ -90,40 +83,25 @@ pub fn put_word(text: &mut [u8], at: usize, n: u16) -> usize
     put_byte(text, low, (n % 256) as u8)
 }
 
-fn least(n: usize, k: usize) -> usize
-    ensures { result ≡ min n k }
+// Stores the digits of a list of bytes at a place, where there is room for all: no store needs a test, and the compiler
+// can make many at once.
+fn hex_run(text: &mut [u8], at: usize, s: &[u8])
+    requires { at + 2 * length s.now ≤ length text.old }
+    ensures { text.new ≡ sets text.old at (hex_text s.now) }
 {
-    if n < k {
-        return n;
-    }
-    k
-}
-
-// Stores the digits of the first n bytes of s at a place, where there is room for all: no store needs a test, and the
-// compiler can make many at once.
-fn hex_run(text: &mut [u8], at: usize, s: &[u8], n: usize)
-    requires { (at + 2 * n ≤ length text.old) × (n ≤ length s.now) }
-    ensures { text.new ≡ sets text.old at (hex_text (take n s.now)) }
-{
-    let mut i = 0;
-    while i < n {
-        let x = s[i];
-        text[at + 2 * i] = hex_digit(x / 16);
-        text[at + 2 * i + 1] = hex_digit(x % 16);
-        i += 1;
+    for (i, x) in s.iter().enumerate() {
+        text[at + 2 * i] = hex_digit(*x / 16);
+        text[at + 2 * i + 1] = hex_digit(*x % 16);
     }
 }
 
 // The same whatever room there is, byte by byte.
-fn hex_each(text: &mut [u8], at: usize, s: &[u8], n: usize) -> usize
-    requires { n ≤ length s.now }
-    ensures { stored result text.new ≡ text_at text.old at (hex_text (take n s.now)) }
+fn hex_each(text: &mut [u8], at: usize, s: &[u8]) -> usize
+    ensures { stored result text.new ≡ text_at text.old at (hex_text s.now) }
 {
     let mut to = at;
-    let mut i = 0;
-    while i < n {
-        to = put_byte(text, to, s[i]);
-        i += 1;
+    for x in s {
+        to = put_byte(text, to, *x);
     }
     to
 }
@@ -132,12 +110,10 @@ fn hex_each(text: &mut [u8], at: usize, s: &[u8], n: usize) -> usize
 pub fn put_hex(text: &mut [u8], at: usize, s: &[u8], n: usize) -> usize
     ensures { stored result text.new ≡ text_at text.old at (hex_text (take n s.now)) }
 {
-    let count = least(n, s.len());
-    if at <= text.len() {
-        if count <= (text.len() - at) / 2 {
-            hex_run(text, at, s, count);
-            return at + 2 * count;
-        }
+    let s = &s[..n.min(s.len())];
+    if (at <= text.len()) && (s.len() <= (text.len() - at) / 2) {
+        hex_run(text, at, s);
+        return at + 2 * s.len();
     }
-    hex_each(text, at, s, count)
+    hex_each(text, at, s)
 }

@@ -9,26 +9,17 @@ ghost use Rattle.parts.specs.Bytes.{bytes_at, copied, agree};
 pub fn byte_at(s: &[u8], i: usize) -> u8
     ensures { result ≡ get_or s.now i 0 }
 {
-    if i < s.len() {
-        return s[i];
-    }
-    0
+    s.get(i).copied().unwrap_or(0)
 }
 
-// Byte i of what starts at a place. The two are not added before they are known to fit.
+// Byte i of what starts at a place. No buffer reaches the last place, at which a sum past it stays.
 pub fn byte_in(s: &[u8], at: usize, i: usize) -> u8
     ensures { result ≡ get_or s.now (at + i) 0 }
 {
-    if s.len() <= at {
-        return 0;
-    }
-    if s.len() - at <= i {
-        return 0;
-    }
-    s[at + i]
+    byte_at(s, at.saturating_add(i))
 }
 
-// Stores a byte at a place.
+// Stores a byte at a place. By `get_mut` it is not proved: where that gives none, it says nothing of the buffer.
 pub fn put(m: &mut [u8], i: usize, x: u8)
     ensures { m.new ≡ set m.old i x }
 {
@@ -41,22 +32,14 @@ pub fn put(m: &mut [u8], i: usize, x: u8)
 pub fn put_in(m: &mut [u8], at: usize, i: usize, x: u8)
     ensures { m.new ≡ set m.old (at + i) x }
 {
-    if m.len() <= at {
-        return;
-    }
-    if i < m.len() - at {
-        m[at + i] = x;
-    }
+    put(m, at.saturating_add(i), x);
 }
 
 // Whether n bytes from a place on lie within a length. The two are not added before they are known to fit.
 fn within(length: usize, at: usize, n: usize) -> bool
     ensures { result ≡ leb (at + n) length }
 {
-    if length < at {
-        return false;
-    }
-    n <= length - at
+    (at <= length) && (n <= length - at)
 }
 
 // A run that lies within both: no byte needs a test.
@@ -64,22 +47,15 @@ fn put_run(m: &mut [u8], at: usize, s: &[u8], from: usize, n: usize)
     requires { (at + n ≤ length m.old) × (from + n ≤ length s.now) }
     ensures { m.new ≡ sets m.old at (bytes_at s.now from n) }
 {
-    let mut i = 0;
-    while i < n {
-        m[at + i] = s[from + i];
-        i += 1;
-    }
+    m[at..at + n].copy_from_slice(&s[from..from + n]);
 }
 
 // Any run, byte by byte.
 fn put_each(m: &mut [u8], at: usize, s: &[u8], from: usize, n: usize)
     ensures { m.new ≡ sets m.old at (bytes_at s.now from n) }
 {
-    let mut i = 0;
-    while i < n {
-        let b = byte_in(s, from, i);
-        put_in(m, at, i, b);
-        i += 1;
+    for i in 0..n {
+        put_in(m, at, i, byte_in(s, from, i));
     }
 }
 
@@ -98,11 +74,9 @@ pub fn put_bytes(m: &mut [u8], at: usize, s: &[u8], from: usize, n: usize)
 pub fn copy_bytes(m: &mut [u8], to: usize, from: usize, n: usize)
     ensures { m.new ≡ copied m.old to from n }
 {
-    let mut i = 0;
-    while i < n {
+    for i in 0..n {
         let b = byte_in(m, from, i);
         put_in(m, to, i, b);
-        i += 1;
     }
 }
 
@@ -110,16 +84,9 @@ pub fn copy_bytes(m: &mut [u8], to: usize, from: usize, n: usize)
 pub fn eight_at(s: &[u8], at: usize) -> [u8; 8]
     ensures { result ≡ bytes_at s.now at 8 }
 {
-    [
-        byte_in(s, at, 0),
-        byte_in(s, at, 1),
-        byte_in(s, at, 2),
-        byte_in(s, at, 3),
-        byte_in(s, at, 4),
-        byte_in(s, at, 5),
-        byte_in(s, at, 6),
-        byte_in(s, at, 7),
-    ]
+    let mut bytes = [0; 8];
+    put_bytes(&mut bytes, 0, s, at, 8);
+    bytes
 }
 
 // Whether two groups of eight bytes are the same.

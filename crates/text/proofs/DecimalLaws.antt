@@ -2,14 +2,14 @@
 use mathlib.Core.Path.{◌≡◌, refl, sym, ap, ◌∙◌}
 use mathlib.Core.Bool.{Bool, true, false}
 use mathlib.Core.List.{List, [], ◌∷◌, ◌++◌}
-use Prim.Native.Nat.{ℕ, zero, suc, ◌+◌, ◌*◌, ◌/◌, ◌%◌, ◌≤◌, ◌<◌}
+use Prim.Native.Nat.{ℕ, zero, suc, ◌+◌, ◌*◌, ◌/◌, ◌%◌, ◌^◌, ◌≤◌, ◌<◌}
 use native.Mathlib.Omega.{arith}
 use native.Mathlib.Nat.{add-zero}
-use native.Mathlib.Numerals.{add-one}
 use lib.Dec.{ltb}
 use borrow.Author.Tests.{ltb-true, ltb-false}
 use lib.ListN.{length, set, length-append}
 use lib.Seq.{sets}
+use Rattle.std.proofs.Math.Nat.{pow-suc, one-le-pow}
 use Rattle.parts.proofs.Picks.{pick_case, pick_lt, pick_not_lt}
 use Rattle.parts.proofs.Lists.{sets_snoc}
 use Rattle.text.specs.Decimal.{digits_of}
@@ -23,7 +23,7 @@ digits_more : (k n : ℕ) → 10 ≤ n → digits_of k (n / 10) ++ (0x30 + n % 1
 unfolding digits_of
 digits_more k n h = pick_not_lt ((0x30 + n) ∷ []) _ _ n 10 h refl
 
-count_last : (k n : ℕ) → n < 10 → length (digits_of (suc k) n) ≡ 1
+pub count_last : (k n : ℕ) → n < 10 → length (digits_of (suc k) n) ≡ 1
 count_last k n h = ap length (sym (digits_last k n h))
 
 count_more : (k n : ℕ) → 10 ≤ n → length (digits_of (suc k) n) ≡ suc (length (digits_of k (n / 10)))
@@ -97,47 +97,18 @@ digits_most (suc k) n =
     (λ _. omega (arith, length-append (digits_of k (n / 10)) ((0x30 + n % 10) ∷ []), digits_most k (n / 10)))
 
 -- ---- the number of digits, by powers of ten
-unfoldable pub tens : ℕ → ℕ
-tens zero = 1
-tens (suc k) = 10 * tens k
-
-pub tens_one : tens 1 ≡ 10
-unfolding tens
-tens_one = refl
-
-pub tens_next : (k : ℕ) → tens (k + 1) ≡ 10 * tens k
-unfolding tens
-tens_next k = ap tens (add-one k)
-
-tens_some : (k : ℕ) → 1 ≤ tens k
-unfolding tens
-tens_some zero = omega arith
-tens_some (suc k) = omega (arith, tens_some k)
-
-tens_le : (j k : ℕ) → j ≤ k → tens j ≤ tens k
-unfolding tens
-tens_le zero k h = tens_some k
-tens_le (suc j) zero h = absurd (omega arith)
-tens_le (suc j) (suc k) h = omega (arith, tens_le j k (omega arith))
-
--- ten times that fits in 64 bits
-pub tens_most : (k : ℕ) → k ≤ 18 → tens k ≤ 1000000000000000000
-unfolding tens
-tens_most k h = tens_le k 18 h
-
 -- a number below the power k has k digits at most, and one from it on has more
-below_at : (j k n : ℕ) → (1 ≤ k → n / 10 < tens k → length (digits_of j (n / 10)) ≤ k) → n < 10 * tens k
+below_at : (j k n : ℕ) → (1 ≤ k → n / 10 < 10 ^ k → length (digits_of j (n / 10)) ≤ k) → n < 10 * 10 ^ k
     → (b : Bool) → ltb n 10 ≡ b → length (digits_of (suc j) n) ≤ suc k
-unfolding tens
 below_at j k n ih l true h = omega (arith, count_last j n (ltb-true n 10 h))
 below_at j zero n ih l false h = absurd (omega (arith, ltb-false n 10 h))
 below_at j (suc k) n ih l false h = omega (arith, count_more j n (ltb-false n 10 h), ih (omega arith) (omega arith))
 
-pub digits_below : (j k n : ℕ) → 1 ≤ k → n < tens k → length (digits_of j n) ≤ k
-unfolding digits_of tens
+pub digits_below : (j k n : ℕ) → 1 ≤ k → n < 10 ^ k → length (digits_of j n) ≤ k
+unfolding digits_of
 digits_below zero k n p l = omega arith
 digits_below (suc j) zero n p l = absurd (omega arith)
-digits_below (suc j) (suc k) n p l = below_at j k n (digits_below j k (n / 10)) l (ltb n 10) refl
+digits_below (suc j) (suc k) n p l = below_at j k n (digits_below j k (n / 10)) (omega (arith, l, pow-suc 10 k)) (ltb n 10) refl
 
 some_at : (j n : ℕ) (b : Bool) → ltb n 10 ≡ b → 1 ≤ length (digits_of (suc j) n)
 some_at j n true h = omega (arith, count_last j n (ltb-true n 10 h))
@@ -146,9 +117,10 @@ some_at j n false h = omega (arith, count_more j n (ltb-false n 10 h))
 pub digits_some : (j n : ℕ) → 1 ≤ length (digits_of (suc j) n)
 digits_some j n = some_at j n (ltb n 10) refl
 
-pub digits_from : (j k n : ℕ) → tens k ≤ n → k < j → k < length (digits_of j n)
-unfolding tens
+pub digits_from : (j k n : ℕ) → 10 ^ k ≤ n → k < j → k < length (digits_of j n)
 digits_from zero k n l h = absurd (omega arith)
 digits_from (suc j) zero n l h = digits_some j n
 digits_from (suc j) (suc k) n l h =
-    omega (arith, count_more j n (omega (arith, tens_some k)), digits_from j k (n / 10) (omega arith) (omega arith))
+    let p = pow-suc 10 k in
+    let o = one-le-pow k 10 (omega arith) in
+    omega (arith, count_more j n (omega (arith, p, o)), digits_from j k (n / 10) (omega (arith, p)) (omega arith))

@@ -6,10 +6,7 @@ ghost use Rattle.text.specs.Place.{last_place, stored, text_at};
 pub fn after(at: usize, n: usize) -> usize
     ensures { result ≡ min (at + n) last_place }
 {
-    if n <= usize::MAX - at {
-        return at + n;
-    }
-    usize::MAX
+    at.saturating_add(n)
 }
 
 // Stores a character at a place.

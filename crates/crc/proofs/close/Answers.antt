@@ -1,29 +1,15 @@
-use mathlib.Core.Path.{◌≡◌, sym, ap, ◌∙◌}
-use Prim.Native.Nat.{ℕ}
-use native.Mathlib.Nat.{sub-zero}
-use native.Mathlib.Numerals.{add-one}
 use native.Mathlib.Omega.{arith}
-use lib.ListN.{take, length-set}
-use Rattle.crc.specs.Crc.{crc_of}
-use Rattle.crc.proofs.Frames.{closed_fits, closed_past}
+use mathlib.Core.Path.{sym}
+use Rattle.crc.proofs.Frames.{closed_past, stored_crc}
 use Rattle.crc.proofs.close.Goals as goal
+use Rattle.crc.proofs.close.Goals.{then-out-lt2-via-then-out-lt2, then-out-lt2-via-else-out-lt2+then-out-n}
 
 pub returns-then-out-lt2 : goal.returns-then-out-lt2
 returns-then-out-lt2 c =
     let a = c.args in
-    sym (closed_past a.out.now a.n (omega arith))
-
-pub returns-then-out-n : goal.returns-then-out-n
-returns-then-out-n c =
-    let a = c.args in
-    sym (closed_past a.out.now a.n (omega arith))
-
-pub bounds-out-n-2 : goal.bounds-out-n-2
-bounds-out-n-2 c = simp length-set (omega arith)
+    sym (closed_past a.out.now a.n (elim c.then-out-lt2.branch [ then-out-lt2-via-then-out-lt2 w ↦ omega arith | then-out-lt2-via-else-out-lt2+then-out-n w ↦ omega arith ]))
 
 pub returns : goal.returns
 returns c =
     let a = c.args in
-    let o = a.out.now in
-    let e : c.crc-c.result ≡ crc_of (take a.n o) = c.crc-c.ensures ∙ ap (λ (k : ℕ). crc_of (take k o)) (sub-zero a.n) in
-    rw (e, add-one) (sym (closed_fits o a.n (omega arith)))
+    rw c.to_le_bytes.ensures (stored_crc a.out.now a.n c.crc.result (omega arith) c.crc.type_inv c.crc.ensures)

@@ -1,12 +1,7 @@
 use mathlib.Core.Path.{◌≡◌}
-use Prim.Native.Nat.{◌≤◌, ◌-◌}
-use lib.ListN.{length}
 use lib.Seq.{sets}
 use Rattle.parts.specs.Bytes.{bytes_at}
 use Rattle.parts.proofs.put_each.Given as goal
 
 abbrev pub invariant-loop-i : goal.invariant-loop-i
-invariant-loop-i l = (l.m ≡ sets l.initial.m l.at (bytes_at l.s l.from l.i)) × ((l.i ≤ l.n) × (length l.m ≡ length l.initial.m))
-
-abbrev pub decreases-loop-i : goal.decreases-loop-i
-decreases-loop-i l = l.n - l.i
+invariant-loop-i l = l.m ≡ sets l.initial.m l.at (bytes_at l.s l.from l.i)

@@ -1,39 +1,19 @@
 use native.Mathlib.Omega.{arith}
-use mathlib.Core.Path.{sym}
-use Prim.Native.Nat.{◌-◌}
-use Rattle.text.proofs.DecimalLaws.{tens_one, tens_next, tens_most, digits_below, digits_from, digits_some, digits_most}
+use Prim.Native.Nat.{suc}
+use Rattle.std.proofs.Math.Nat.{pow-suc}
+use Rattle.text.proofs.DecimalLaws.{count_last, digits_below, digits_from}
 use Rattle.text.proofs.decimal.digit_count.Goals as goal
 
-pub loop-k-init : goal.loop-k-init
-loop-k-init c = (sym tens_one, (digits_some 19 c.args.n, (omega arith, omega arith)))
-
-pub returns-then-n-power : goal.returns-then-n-power
-returns-then-n-power c =
-    let l = c.loop-k in
-    let n = c.args.n in
-    record { value = omega (arith, l.invariant, digits_below 20 l.k n (omega (arith, l.invariant)) (omega (arith, l.invariant.0))); upper_bound = omega arith }
-
-pub overflow_mul-power : goal.overflow_mul-power
-overflow_mul-power c =
-    let l = c.loop-k in
-    omega (arith, l.invariant.0, tens_most l.k (omega arith))
-
-pub loop-k-preserved : goal.loop-k-preserved
-loop-k-preserved c =
-    let l = c.loop-k in
-    let n = c.args.n in
-    let d = digits_from 20 l.k n (omega (arith, l.invariant.0)) (omega arith) in
-    (omega (arith, l.invariant.0, tens_next l.k), (omega (arith, d), (omega arith, omega arith)))
-
-pub returns-then-n-power-2 : goal.returns-then-n-power-2
-returns-then-n-power-2 c =
-    let l = c.loop-k in
-    let n = c.args.n in
-    record { value = omega (arith, l.invariant, digits_below 20 l.k n (omega (arith, l.invariant)) (omega (arith, l.invariant.0))); upper_bound = omega arith }
+pub returns-then-n-lt10 : goal.returns-then-n-lt10
+returns-then-n-lt10 c =
+    let l = count_last 19 c.args.n c.if-n-lt10.true in
+    record { value = omega (arith, l); upper_bound = omega arith }
 
 pub returns : goal.returns
 returns c =
-    let l = c.loop-k in
     let n = c.args.n in
-    let d = digits_from 20 l.k n (omega (arith, l.invariant.0)) (omega arith) in
-    record { value = omega (arith, l.invariant, d, digits_most 20 n); upper_bound = omega arith }
+    let r = c.ilog10.result in
+    let e = c.ilog10.ensures in
+    let more = digits_from 20 r n e.power_le e.bound in
+    let most = digits_below 20 (suc r) n (omega arith) (omega (arith, e.next_power_gt, pow-suc 10 r)) in
+    record { value = omega (arith, more, most); upper_bound = omega (arith, e.bound) }

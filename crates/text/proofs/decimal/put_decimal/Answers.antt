@@ -1,8 +1,8 @@
 use native.Mathlib.Omega.{arith}
-use mathlib.Core.Path.{◌≡◌, refl, sym, ap, ◌∙◌}
+use mathlib.Core.Path.{◌≡◌, sym, ap, ◌∙◌}
 use mathlib.Core.List.{List}
-use Prim.Native.Nat.{ℕ, suc, ◌+◌, ◌-◌, ◌/◌, ◌%◌, min}
-use lib.ListN.{length, length-set}
+use Prim.Native.Nat.{ℕ, suc, ◌+◌, ◌-◌, ◌/◌, min}
+use lib.ListN.{length}
 use lib.Seq.{sets}
 use Rattle.text.specs.Decimal.{digits_of, decimal}
 use Rattle.text.specs.Place.{stored, last_place}
@@ -14,7 +14,7 @@ loop-i-init c =
     let k = c.digit_count-k in
     let a = c.args in
     let e : digits_of k.result a.n ≡ decimal a.n = ap (λ (j : ℕ). digits_of j a.n) k.ensures.value ∙ digits_enough 20 a.n in
-    (ap (λ (x : List ℕ). sets a.text.now a.at x) e, (ap length e ∙ sym k.ensures.value, (k.ensures.upper_bound, refl)))
+    (ap (λ (x : List ℕ). sets a.text.now a.at x) e, ap length e ∙ sym k.ensures.value)
 
 pub loop-i-preserved : goal.loop-i-preserved
 loop-i-preserved c =
@@ -22,16 +22,13 @@ loop-i-preserved c =
     let p = c.put_in in
     let at = c.args.at in
     let e : l.i ≡ suc (l.i - 1) = omega (arith, c.loop-i-test.true) in
-    let d = digit_stored l.text at (l.i - 1) l.left (ap (λ (j : ℕ). length (digits_of j l.left)) (sym e) ∙ l.invariant.1.0 ∙ e) in (
+    let d = digit_stored l.text at (l.i - 1) l.left (ap (λ (j : ℕ). length (digits_of j l.left)) (sym e) ∙ l.invariant.1 ∙ e) in (
       ap (λ (x : List ℕ). sets x at (digits_of (l.i - 1) (l.left / 10))) p.ensures
           ∙ d.0
           ∙ ap (λ (j : ℕ). sets l.text at (digits_of j l.left)) (sym e)
           ∙ l.invariant.0,
-      (d.1, (omega (arith, l.invariant.1.1.0), ap length p.ensures ∙ length-set l.text (at + (l.i - 1)) (0x30 + l.left % 10) ∙ l.invariant.1.1.1)),
+      d.1,
     )
-
-pub shape_of-text : goal.shape_of-text
-shape_of-text c = c.loop-i.invariant.1.1.1
 
 pub returns : goal.returns
 unfolding digits_of

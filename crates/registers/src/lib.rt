@@ -7,7 +7,7 @@ ghost use Rattle.registers.specs.Fresh.{fresh_registers};
 ghost use Rattle.registers.specs.Map.{register_bytes, registers_of, byte_of, register_at, with_dynamic, put_defined, written_to, written};
 
 use register_table::REGISTER_BYTES;
-use register_types::{Afi, Dsfid, EndA, I2cSs, LockCcFile, LockCfg, MbMode, RfMngt, RfaSs};
+use register_types::{Afi, DefinedBits, Dsfid, EndA, I2cSs, LockCcFile, LockCfg, MbMode, RfMngt, RfaSs};
 
 // RFA1SS to RFA4SS.
 #[derive(Clone, Copy)]

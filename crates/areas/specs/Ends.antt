@@ -1,5 +1,5 @@
 -- Areas and their ends.
-use Rattle.std.specs.Prelude.{Bool, true, false, ◌&&◌, ◌||◌, ℕ, ◌+◌, ◌*◌, leb, ltb, eqb}
+use Rattle.std.specs.Prelude.{Bool, true, ◌&&◌, ◌||◌, ℕ, ◌+◌, ◌*◌, leb, ltb, eqb}
 use Rattle.register_table.specs.Passed.{pick, EndA}
 use Rattle.registers.specs.declared.Ends.{Ends}
 use Rattle.register_table.specs.declared.WriteRule.{WriteRule}

@@ -7,7 +7,7 @@ ghost use Rattle.block_writes.specs.Writes.{write_of, lock_of};
 ghost use Rattle.block_writes.specs.Claims.{all_allowed};
 
 use errors::RadioError;
-use register_types::LockCcFile;
+use register_types::{DefinedBits, LockCcFile};
 use reply::{RadioOutcome, RadioSide};
 use tag::Core;
 use write_reasons::WriteAsked;

@@ -7,7 +7,7 @@ ghost use Rattle.ranges.specs.Ranges.{registers_in_range, air_in_range, mailbox_
 use air::Air;
 use bus::Transfer;
 use mailbox::Mailbox;
-use register_types::RfMngt;
+use register_types::{DefinedBits, RfMngt};
 use registers::Registers;
 use tag::{Core, Host, Tag, WireSide};
 

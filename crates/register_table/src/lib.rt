@@ -6,7 +6,7 @@ ghost use Rattle.std.specs.Prelude.{◌≡◌, get_or};
 ghost use Rattle.parts.specs.Bits.{keep_bits};
 ghost use Rattle.register_table.specs.Table.{place_bits, row_of};
 
-use register_types::{Afi, Dsfid, EndA, I2cSs, LockCcFile, LockCfg, MbMode, RfMngt, RfaSs};
+use register_types::{Afi, DefinedBits, Dsfid, EndA, I2cSs, LockCcFile, LockCfg, MbMode, RfMngt, RfaSs};
 
 // How many bytes the registers are, RF_MNGT_Dyn among them.
 pub const REGISTER_BYTES: usize = 15;

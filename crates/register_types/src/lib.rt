@@ -1,9 +1,44 @@
 // The registers one by one: each a type of its own, with its defined bits.
 #![tactic(auto)]
 
-ghost use Rattle.std.specs.Prelude.{◌≡◌};
+ghost use Rattle.std.specs.Prelude.{◌≡◌, ℕ, ◌-◌, ◌^◌, refl};
 ghost use Rattle.parts.specs.Bits.{keep_bits};
 ghost use Rattle.register_types.specs.Types.{rf_mngt_bits, rfa_ss_bits, end_abits, i2c_ss_bits, lock_cc_file_bits, mb_mode_bits, lock_cfg_bits, dsfid_bits, afi_bits, rf_mngt, rfa_ss, end_a, i2c_ss, lock_cc_file, mb_mode, lock_cfg, dsfid, afi};
+
+// A register of which the lowest bits are defined; the others read 0.
+pub trait DefinedBits: Sized {
+    const MASK: u8;
+
+    ghost MASK: { ℕ };
+
+    // How many bits are defined.
+    ghost defined: { ℕ };
+
+    ghost of_bits: { ℕ → Self };
+
+    // The register that a byte makes.
+    ghost of_byte: { ℕ → Self };
+
+    fn of_bits(bits: u8) -> Self
+        ensures { result ≡ of_bits bits };
+
+    ghost masked: { MASK ≡ 2 ^ defined - 1 };
+
+    ghost kept: { (byte : ℕ) → of_byte byte ≡ of_bits (keep_bits defined byte) };
+
+    // The defined bits of a byte, the others 0.
+    final fn keep(byte: u8) -> u8
+        ensures { result ≡ keep_bits defined byte }
+    {
+        byte & Self::MASK
+    }
+
+    final fn new(byte: u8) -> Self
+        ensures { result ≡ of_byte byte }
+    {
+        Self::of_bits(Self::keep(byte))
+    }
+}
 
 // RF_MNGT and RF_MNGT_Dyn: b0 radio disabled, b1 radio asleep.
 #[derive(Clone, Copy)]
@@ -11,22 +46,24 @@ pub struct RfMngt {
     pub bits: u8,
 }
 
-impl RfMngt {
-    pub const MASK: u8 = 0x03;
+impl DefinedBits for RfMngt {
+    const MASK: u8 = 0x03;
 
-    pub fn keep(byte: u8) -> u8
-        ensures { result ≡ keep_bits rf_mngt_bits byte }
-    {
-        byte & Self::MASK
+    ghost MASK = { 0x03 };
+
+    ghost defined = { rf_mngt_bits };
+
+    ghost of_bits = { λ b. record { bits = b } };
+
+    ghost of_byte = { rf_mngt };
+
+    fn of_bits(bits: u8) -> RfMngt {
+        RfMngt { bits }
     }
 
-    pub fn new(byte: u8) -> RfMngt
-        ensures { result ≡ rf_mngt byte }
-    {
-        RfMngt {
-            bits: Self::keep(byte),
-        }
-    }
+    ghost masked = { refl };
+
+    ghost kept = { λ byte. refl };
 }
 
 // RFAiSS: b1-0 the password, b3-2 the setting.
@@ -35,22 +72,24 @@ pub struct RfaSs {
     pub bits: u8,
 }
 
-impl RfaSs {
-    pub const MASK: u8 = 0x0F;
+impl DefinedBits for RfaSs {
+    const MASK: u8 = 0x0F;
 
-    pub fn keep(byte: u8) -> u8
-        ensures { result ≡ keep_bits rfa_ss_bits byte }
-    {
-        byte & Self::MASK
+    ghost MASK = { 0x0F };
+
+    ghost defined = { rfa_ss_bits };
+
+    ghost of_bits = { λ b. record { bits = b } };
+
+    ghost of_byte = { rfa_ss };
+
+    fn of_bits(bits: u8) -> RfaSs {
+        RfaSs { bits }
     }
 
-    pub fn new(byte: u8) -> RfaSs
-        ensures { result ≡ rfa_ss byte }
-    {
-        RfaSs {
-            bits: Self::keep(byte),
-        }
-    }
+    ghost masked = { refl };
+
+    ghost kept = { λ byte. refl };
 }
 
 // ENDAi: area i ends with block 8 * ENDAi + 7.
@@ -59,22 +98,24 @@ pub struct EndA {
     pub bits: u8,
 }
 
-impl EndA {
-    pub const MASK: u8 = 0x0F;
+impl DefinedBits for EndA {
+    const MASK: u8 = 0x0F;
 
-    pub fn keep(byte: u8) -> u8
-        ensures { result ≡ keep_bits end_abits byte }
-    {
-        byte & Self::MASK
+    ghost MASK = { 0x0F };
+
+    ghost defined = { end_abits };
+
+    ghost of_bits = { λ b. record { bits = b } };
+
+    ghost of_byte = { end_a };
+
+    fn of_bits(bits: u8) -> EndA {
+        EndA { bits }
     }
 
-    pub fn new(byte: u8) -> EndA
-        ensures { result ≡ end_a byte }
-    {
-        EndA {
-            bits: Self::keep(byte),
-        }
-    }
+    ghost masked = { refl };
+
+    ghost kept = { λ byte. refl };
 }
 
 // I2CSS: two bits an area, area 1 lowest.
@@ -83,22 +124,24 @@ pub struct I2cSs {
     pub bits: u8,
 }
 
-impl I2cSs {
-    pub const MASK: u8 = 0xFF;
+impl DefinedBits for I2cSs {
+    const MASK: u8 = 0xFF;
 
-    pub fn keep(byte: u8) -> u8
-        ensures { result ≡ keep_bits i2c_ss_bits byte }
-    {
-        byte & Self::MASK
+    ghost MASK = { 0xFF };
+
+    ghost defined = { i2c_ss_bits };
+
+    ghost of_bits = { λ b. record { bits = b } };
+
+    ghost of_byte = { i2c_ss };
+
+    fn of_bits(bits: u8) -> I2cSs {
+        I2cSs { bits }
     }
 
-    pub fn new(byte: u8) -> I2cSs
-        ensures { result ≡ i2c_ss byte }
-    {
-        I2cSs {
-            bits: Self::keep(byte),
-        }
-    }
+    ghost masked = { refl };
+
+    ghost kept = { λ byte. refl };
 }
 
 // LOCK_CCFILE: b0 locks block 0, b1 block 1.
@@ -107,22 +150,24 @@ pub struct LockCcFile {
     pub bits: u8,
 }
 
-impl LockCcFile {
-    pub const MASK: u8 = 0x03;
+impl DefinedBits for LockCcFile {
+    const MASK: u8 = 0x03;
 
-    pub fn keep(byte: u8) -> u8
-        ensures { result ≡ keep_bits lock_cc_file_bits byte }
-    {
-        byte & Self::MASK
+    ghost MASK = { 0x03 };
+
+    ghost defined = { lock_cc_file_bits };
+
+    ghost of_bits = { λ b. record { bits = b } };
+
+    ghost of_byte = { lock_cc_file };
+
+    fn of_bits(bits: u8) -> LockCcFile {
+        LockCcFile { bits }
     }
 
-    pub fn new(byte: u8) -> LockCcFile
-        ensures { result ≡ lock_cc_file byte }
-    {
-        LockCcFile {
-            bits: Self::keep(byte),
-        }
-    }
+    ghost masked = { refl };
+
+    ghost kept = { λ byte. refl };
 }
 
 // MB_MODE: b0 lets the mailbox be enabled.
@@ -131,22 +176,24 @@ pub struct MbMode {
     pub bits: u8,
 }
 
-impl MbMode {
-    pub const MASK: u8 = 0x01;
+impl DefinedBits for MbMode {
+    const MASK: u8 = 0x01;
 
-    pub fn keep(byte: u8) -> u8
-        ensures { result ≡ keep_bits mb_mode_bits byte }
-    {
-        byte & Self::MASK
+    ghost MASK = { 0x01 };
+
+    ghost defined = { mb_mode_bits };
+
+    ghost of_bits = { λ b. record { bits = b } };
+
+    ghost of_byte = { mb_mode };
+
+    fn of_bits(bits: u8) -> MbMode {
+        MbMode { bits }
     }
 
-    pub fn new(byte: u8) -> MbMode
-        ensures { result ≡ mb_mode byte }
-    {
-        MbMode {
-            bits: Self::keep(byte),
-        }
-    }
+    ghost masked = { refl };
+
+    ghost kept = { λ byte. refl };
 }
 
 // LOCK_CFG: b0 locks the configuration against the radio.
@@ -155,22 +202,24 @@ pub struct LockCfg {
     pub bits: u8,
 }
 
-impl LockCfg {
-    pub const MASK: u8 = 0x01;
+impl DefinedBits for LockCfg {
+    const MASK: u8 = 0x01;
 
-    pub fn keep(byte: u8) -> u8
-        ensures { result ≡ keep_bits lock_cfg_bits byte }
-    {
-        byte & Self::MASK
+    ghost MASK = { 0x01 };
+
+    ghost defined = { lock_cfg_bits };
+
+    ghost of_bits = { λ b. record { bits = b } };
+
+    ghost of_byte = { lock_cfg };
+
+    fn of_bits(bits: u8) -> LockCfg {
+        LockCfg { bits }
     }
 
-    pub fn new(byte: u8) -> LockCfg
-        ensures { result ≡ lock_cfg byte }
-    {
-        LockCfg {
-            bits: Self::keep(byte),
-        }
-    }
+    ghost masked = { refl };
+
+    ghost kept = { λ byte. refl };
 }
 
 // DSFID: the data storage format identifier, which the tag tells in its reply to an inventory.
@@ -179,22 +228,24 @@ pub struct Dsfid {
     pub bits: u8,
 }
 
-impl Dsfid {
-    pub const MASK: u8 = 0xFF;
+impl DefinedBits for Dsfid {
+    const MASK: u8 = 0xFF;
 
-    pub fn keep(byte: u8) -> u8
-        ensures { result ≡ keep_bits dsfid_bits byte }
-    {
-        byte & Self::MASK
+    ghost MASK = { 0xFF };
+
+    ghost defined = { dsfid_bits };
+
+    ghost of_bits = { λ b. record { bits = b } };
+
+    ghost of_byte = { dsfid };
+
+    fn of_bits(bits: u8) -> Dsfid {
+        Dsfid { bits }
     }
 
-    pub fn new(byte: u8) -> Dsfid
-        ensures { result ≡ dsfid byte }
-    {
-        Dsfid {
-            bits: Self::keep(byte),
-        }
-    }
+    ghost masked = { refl };
+
+    ghost kept = { λ byte. refl };
 }
 
 // AFI: the application family identifier, by which an inventory may ask.
@@ -203,20 +254,22 @@ pub struct Afi {
     pub bits: u8,
 }
 
-impl Afi {
-    pub const MASK: u8 = 0xFF;
+impl DefinedBits for Afi {
+    const MASK: u8 = 0xFF;
 
-    pub fn keep(byte: u8) -> u8
-        ensures { result ≡ keep_bits afi_bits byte }
-    {
-        byte & Self::MASK
+    ghost MASK = { 0xFF };
+
+    ghost defined = { afi_bits };
+
+    ghost of_bits = { λ b. record { bits = b } };
+
+    ghost of_byte = { afi };
+
+    fn of_bits(bits: u8) -> Afi {
+        Afi { bits }
     }
 
-    pub fn new(byte: u8) -> Afi
-        ensures { result ≡ afi byte }
-    {
-        Afi {
-            bits: Self::keep(byte),
-        }
-    }
+    ghost masked = { refl };
+
+    ghost kept = { λ byte. refl };
 }

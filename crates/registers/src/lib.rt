@@ -7,7 +7,9 @@ ghost use Rattle.registers.specs.Fresh.{fresh_registers};
 ghost use Rattle.registers.specs.Map.{register_bytes, registers_of, byte_of, register_at, with_dynamic, put_defined, written_to, written};
 
 use register_table::REGISTER_BYTES;
-use register_types::{Afi, Dsfid, EndA, I2cSs, LockCcFile, LockCfg, MbMode, RfMngt, RfaSs};
+use register_types::{
+    Afi, DefinedBits, Dsfid, EndA, I2cSs, LockCcFile, LockCfg, MbMode, RfMngt, RfaSs,
+};
 
 // RFA1SS to RFA4SS.
 #[derive(Clone, Copy)]
@@ -80,26 +82,43 @@ impl Registers {
     pub fn from_bytes(s: [u8; REGISTER_BYTES]) -> Registers
         ensures { result ≡ registers_of s }
     {
+        let [
+            mngt,
+            dynamic,
+            area1,
+            end1,
+            area2,
+            end2,
+            area3,
+            end3,
+            area4,
+            i2css,
+            ccfile,
+            mode,
+            config,
+            dsfid,
+            afi,
+        ] = s;
         Registers {
-            mngt: RfMngt { bits: s[0] },
-            dynamic: RfMngt { bits: s[1] },
+            mngt: RfMngt { bits: mngt },
+            dynamic: RfMngt { bits: dynamic },
             security: Security {
-                area1: RfaSs { bits: s[2] },
-                area2: RfaSs { bits: s[4] },
-                area3: RfaSs { bits: s[6] },
-                area4: RfaSs { bits: s[8] },
+                area1: RfaSs { bits: area1 },
+                area2: RfaSs { bits: area2 },
+                area3: RfaSs { bits: area3 },
+                area4: RfaSs { bits: area4 },
             },
             ends: Ends {
-                end1: EndA { bits: s[3] },
-                end2: EndA { bits: s[5] },
-                end3: EndA { bits: s[7] },
+                end1: EndA { bits: end1 },
+                end2: EndA { bits: end2 },
+                end3: EndA { bits: end3 },
             },
-            i2css: I2cSs { bits: s[9] },
-            ccfile: LockCcFile { bits: s[10] },
-            mode: MbMode { bits: s[11] },
-            config: LockCfg { bits: s[12] },
-            dsfid: Dsfid { bits: s[13] },
-            afi: Afi { bits: s[14] },
+            i2css: I2cSs { bits: i2css },
+            ccfile: LockCcFile { bits: ccfile },
+            mode: MbMode { bits: mode },
+            config: LockCfg { bits: config },
+            dsfid: Dsfid { bits: dsfid },
+            afi: Afi { bits: afi },
         }
     }
 
@@ -135,19 +154,20 @@ impl Registers {
     pub fn with_dynamic(self, byte: u8) -> Registers
         ensures { result ≡ with_dynamic (rf_mngt byte) self }
     {
-        let mut r = self;
-        r.dynamic = RfMngt::new(byte);
-        r
+        Registers {
+            dynamic: RfMngt::new(byte),
+            ..self
+        }
     }
 
     // RF_MNGT_Dyn set to RF_MNGT.
     pub fn reload(self) -> Registers
         ensures { result ≡ with_dynamic self.mngt self }
     {
-        let mngt = self.mngt;
-        let mut r = self;
-        r.dynamic = mngt;
-        r
+        Registers {
+            dynamic: self.mngt,
+            ..self
+        }
     }
 
     // The byte of the register at a place.
@@ -174,12 +194,10 @@ impl Registers {
         ensures { result ≡ written_to place byte self }
     {
         let mut s = self.to_bytes();
-        if place == register_table::MNGT_PLACE {
-            put_defined(&mut s, register_table::MNGT_PLACE, byte);
-            put_defined(&mut s, register_table::DYNAMIC_PLACE, byte);
-            return Registers::from_bytes(s);
-        }
         put_defined(&mut s, place, byte);
+        if place == register_table::MNGT_PLACE {
+            put_defined(&mut s, register_table::DYNAMIC_PLACE, byte);
+        }
         Registers::from_bytes(s)
     }
 

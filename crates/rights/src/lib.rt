@@ -8,57 +8,48 @@ use register_types::{I2cSs, LockCcFile, RfaSs};
 use registers::{Registers, Security};
 
 // RFAiSS of an area.
+#[tactic(auto, using(parts::proofs::Picks::picks), unfolding(crate::specs::Rights::security_of))]
 pub fn security_of(security: Security, area: u8) -> RfaSs
     ensures { result ≡ security_of security area }
 {
-    if area == 1 {
-        return security.area1;
+    match area {
+        1 => security.area1,
+        2 => security.area2,
+        3 => security.area3,
+        _ => security.area4,
     }
-    if area == 2 {
-        return security.area2;
-    }
-    if area == 3 {
-        return security.area3;
-    }
-    security.area4
 }
 
 // Whether the open radio session is the one that an area names.
+#[tactic(auto, unfolding(crate::specs::Rights::session_opens))]
 pub fn session_opens(security: RfaSs, session: u8) -> bool
     ensures { result ≡ session_opens security session }
 {
     (security.bits % 4 != 0) & (session == security.bits % 4 + 1)
 }
 
+#[tactic(auto, using(parts::proofs::Picks::picks), unfolding(crate::specs::Rights::radio_reads))]
 fn radio_reads(security: RfaSs, area: u8, session: u8) -> bool
     ensures { result ≡ radio_reads security area session }
 {
-    if area == 1 {
-        return true;
-    }
-    if security.bits / 4 % 4 < 2 {
-        return true;
-    }
-    session_opens(security, session)
+    (area == 1) | (security.bits / 4 % 4 < 2) | session_opens(security, session)
 }
 
 // The two bits of I2CSS of an area.
+#[tactic(auto, using(parts::proofs::Picks::picks), unfolding(crate::specs::Rights::wire_bits))]
 fn wire_bits(security: I2cSs, area: u8) -> u8
     ensures { result ≡ wire_bits security area }
 {
-    if area == 1 {
-        return security.bits % 4;
+    match area {
+        1 => security.bits % 4,
+        2 => security.bits / 4 % 4,
+        3 => security.bits / 16 % 4,
+        _ => security.bits / 64 % 4,
     }
-    if area == 2 {
-        return security.bits / 4 % 4;
-    }
-    if area == 3 {
-        return security.bits / 16 % 4;
-    }
-    security.bits / 64 % 4
 }
 
 // Whether a write by the wire needs the I2C session in an area.
+#[tactic(auto, unfolding(crate::specs::Rights::wire_guards))]
 pub fn wire_guards(security: I2cSs, area: u8) -> bool
     ensures { result ≡ wire_guards security area }
 {
@@ -66,6 +57,7 @@ pub fn wire_guards(security: I2cSs, area: u8) -> bool
     bits / 1 % 2 == 1
 }
 
+#[tactic(auto, unfolding(crate::specs::Rights::wire_reads))]
 fn wire_reads(security: I2cSs, area: u8, session: bool) -> bool
     ensures { result ≡ wire_reads security area session }
 {
@@ -74,6 +66,7 @@ fn wire_reads(security: I2cSs, area: u8, session: bool) -> bool
 }
 
 // Whether LOCK_CCFILE locks a block.
+#[tactic(auto, unfolding(crate::specs::Rights::is_locked))]
 pub fn is_locked(lock: LockCcFile, block: u16) -> bool
     ensures { result ≡ is_locked lock block }
 {
@@ -88,6 +81,7 @@ pub enum Side {
 }
 
 // Whether a side may read an area.
+#[tactic(auto, unfolding(crate::specs::Rights::read_right))]
 pub fn read_right(r: Registers, by: Side, area: u8) -> bool
     ensures { result ≡ read_right r by area }
 {
@@ -98,6 +92,7 @@ pub fn read_right(r: Registers, by: Side, area: u8) -> bool
 }
 
 // Whether a side may read a block.
+#[tactic(auto, unfolding(crate::specs::Rights::may_read))]
 pub fn may_read(r: Registers, by: Side, block: u16) -> bool
     ensures { result ≡ may_read r by block }
 {

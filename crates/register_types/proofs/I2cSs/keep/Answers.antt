@@ -1,5 +1,0 @@
-use lib.Bits.{and_mask}
-use Rattle.register_types.proofs.I2cSs.keep.Goals as goal
-
-pub returns : goal.returns
-returns c = and_mask c.args.byte 8

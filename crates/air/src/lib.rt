@@ -5,7 +5,7 @@ ghost use Rattle.std.specs.Prelude.{◌≡◌};
 ghost use Rattle.air.specs.Radio.{is_quiet, is_selected, selected, deselected, quieted, reset, field_off, field_on, field_at};
 ghost use Rattle.air.specs.Parts.{out_of_field, with_state, with_radio_session, with_slots};
 
-#[derive(Clone, Copy)]
+#[derive(Clone, Copy, PartialEq, Eq)]
 pub enum RadioState {
     Ready,
     Quiet,
@@ -25,21 +25,13 @@ pub struct Air {
 pub fn is_quiet(x: RadioState) -> bool
     ensures { result ≡ is_quiet x }
 {
-    match x {
-        RadioState::Ready => false,
-        RadioState::Quiet => true,
-        RadioState::Selected => false,
-    }
+    x == RadioState::Quiet
 }
 
 pub fn is_selected(x: RadioState) -> bool
     ensures { result ≡ is_selected x }
 {
-    match x {
-        RadioState::Ready => false,
-        RadioState::Quiet => false,
-        RadioState::Selected => true,
-    }
+    x == RadioState::Selected
 }
 
 impl Air {
@@ -58,28 +50,19 @@ impl Air {
     pub fn with_session(self, n: u8) -> Air
         ensures { result ≡ with_radio_session n self }
     {
-        let mut a = self;
-        a.session = n;
-        a
+        Air { session: n, ..self }
     }
 
     pub fn with_slots(self, n: u8) -> Air
         ensures { result ≡ with_slots n self }
     {
-        let mut a = self;
-        a.slots = n;
-        a
+        Air { slots: n, ..self }
     }
 
     fn with_state(self, radio: RadioState) -> Air
         ensures { result ≡ with_state radio self }
     {
-        Air {
-            field: self.field,
-            radio,
-            session: self.session,
-            slots: self.slots,
-        }
+        Air { radio, ..self }
     }
 
     // Select with the own UID.
@@ -93,8 +76,7 @@ impl Air {
     pub fn deselect(self) -> Air
         ensures { result ≡ deselected self }
     {
-        let radio = self.radio;
-        if is_selected(radio) {
+        if is_selected(self.radio) {
             return self.reset();
         }
         self
@@ -121,24 +103,20 @@ impl Air {
     pub fn field_on(self) -> Air
         ensures { result ≡ field_on self }
     {
-        let mut a = self;
-        a.field = true;
-        a
+        Air {
+            field: true,
+            ..self
+        }
     }
 
     // The field at a level; a repeated level changes nothing.
     pub fn field_at(self, on: bool) -> Air
         ensures { result ≡ field_at on self }
     {
-        if on {
-            if self.field {
-                return self;
-            }
-            return self.field_on();
+        match (self.field, on) {
+            (false, true) => self.field_on(),
+            (true, false) => self.field_off(),
+            _ => self,
         }
-        if self.field {
-            return self.field_off();
-        }
-        self
     }
 }

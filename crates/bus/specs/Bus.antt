@@ -1,35 +1,33 @@
 -- The bus: "idle, started (transfer open or not), or in a read or write leg (open)", and the address counter.
-use Rattle.std.specs.Prelude.{ℕ, ◌+◌, ◌%◌, Bool, true, false, not}
+use Rattle.std.specs.Prelude.{ℕ, ◌+◌, ◌%◌, Bool, true, false, Option, Some, None}
 use Rattle.register_types.specs.declared.RfMngt.{RfMngt}
 use Rattle.bus.specs.declared.Space.{Space}
 use Rattle.bus.specs.declared.OpenTransfer.{OpenTransfer}
-use Rattle.bus.specs.declared.Transfer.{Transfer}
-use Rattle.bus.specs.declared.Transfer.TheVariants.{Closed, Open}
 use Rattle.bus.specs.declared.Bus.{Bus}
 use Rattle.bus.specs.declared.Bus.TheVariants.{Idle, Started, ReadLeg, WriteLeg, LowAddress, DataLeg}
 
-unfoldable pub is_open_transfer : Transfer → Bool
-is_open_transfer Closed = false
-is_open_transfer (Open kept) = true
+unfoldable pub is_open_transfer : Option OpenTransfer → Bool
+is_open_transfer None = false
+is_open_transfer (Some kept) = true
 
 -- "Inside a transfer RF_MNGT_Dyn counts as at the transfer's start (house)."
-unfoldable pub counted_dynamic : Transfer → RfMngt → RfMngt
-counted_dynamic Closed dynamic = dynamic
-counted_dynamic (Open kept) dynamic = kept.dynamic
+unfoldable pub counted_dynamic : Option OpenTransfer → RfMngt → RfMngt
+counted_dynamic None dynamic = dynamic
+counted_dynamic (Some kept) dynamic = kept.dynamic
 
 -- "A transfer is open from an Acked select": what is kept of the transfer that one opens, or finds open
-unfoldable pub kept_of : Transfer → RfMngt → OpenTransfer
-kept_of Closed dynamic = record { dynamic = dynamic }
-kept_of (Open kept) dynamic = kept
+unfoldable pub kept_of : Option OpenTransfer → RfMngt → OpenTransfer
+kept_of None dynamic = record { dynamic = dynamic }
+kept_of (Some kept) dynamic = kept
 
 -- the transfer that is open, with what is kept of it
-unfoldable pub transfer_at : Bus → Transfer
-transfer_at Idle = Closed
+unfoldable pub transfer_at : Bus → Option OpenTransfer
+transfer_at Idle = None
 transfer_at (Started transfer) = transfer
-transfer_at (ReadLeg kept space over last) = Open kept
-transfer_at (WriteLeg kept space) = Open kept
-transfer_at (LowAddress kept space high) = Open kept
-transfer_at (DataLeg kept space count spoiled) = Open kept
+transfer_at (ReadLeg kept space over last) = Some kept
+transfer_at (WriteLeg kept space) = Some kept
+transfer_at (LowAddress kept space high) = Some kept
+transfer_at (DataLeg kept space count spoiled) = Some kept
 
 -- "A transfer is open"
 unfoldable pub is_open : Bus → Bool

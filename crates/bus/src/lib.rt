@@ -21,16 +21,10 @@ pub struct OpenTransfer {
 }
 
 #[derive(Clone, Copy)]
-pub enum Transfer {
-    Closed,
-    Open(OpenTransfer),
-}
-
-#[derive(Clone, Copy)]
 pub enum Bus {
     Idle,
-    // After a Start.
-    Started(Transfer),
+    // After a Start, with the transfer that is still open.
+    Started(Option<OpenTransfer>),
     // A read leg: the host has NoAcked a byte; the last byte of an RF message was fetched.
     ReadLeg {
         kept: OpenTransfer,
@@ -58,107 +52,57 @@ pub enum Bus {
     },
 }
 
-pub fn is_open_transfer(transfer: Transfer) -> bool
+pub fn is_open_transfer(transfer: Option<OpenTransfer>) -> bool
     ensures { result ≡ is_open_transfer transfer }
 {
-    match transfer {
-        Transfer::Closed => false,
-        Transfer::Open(kept) => true,
-    }
+    transfer.is_some()
 }
 
 // RF_MNGT_Dyn as it counts for a frame.
-pub fn counted_dynamic(transfer: Transfer, dynamic: RfMngt) -> RfMngt
+pub fn counted_dynamic(transfer: Option<OpenTransfer>, dynamic: RfMngt) -> RfMngt
     ensures { result ≡ counted_dynamic transfer dynamic }
 {
-    match transfer {
-        Transfer::Closed => dynamic,
-        Transfer::Open(kept) => kept.dynamic,
-    }
+    kept_of(transfer, dynamic).dynamic
 }
 
 // What is kept after an Acked select: one of a later leg leaves it.
-pub fn kept_of(transfer: Transfer, dynamic: RfMngt) -> OpenTransfer
+pub fn kept_of(transfer: Option<OpenTransfer>, dynamic: RfMngt) -> OpenTransfer
     ensures { result ≡ kept_of transfer dynamic }
 {
-    match transfer {
-        Transfer::Closed => OpenTransfer { dynamic },
-        Transfer::Open(kept) => kept,
-    }
+    transfer.unwrap_or(OpenTransfer { dynamic })
 }
 
-pub fn transfer_at(b: Bus) -> Transfer
+pub fn transfer_at(b: Bus) -> Option<OpenTransfer>
     ensures { result ≡ transfer_at b }
 {
     match b {
-        Bus::Idle => Transfer::Closed,
+        Bus::Idle => None,
         Bus::Started(transfer) => transfer,
-        Bus::ReadLeg {
-            kept,
-            space,
-            over,
-            last,
-        } => Transfer::Open(kept),
-        Bus::WriteLeg { kept, space } => Transfer::Open(kept),
-        Bus::LowAddress { kept, space, high } => Transfer::Open(kept),
-        Bus::DataLeg {
-            kept,
-            space,
-            count,
-            spoiled,
-        } => Transfer::Open(kept),
+        Bus::ReadLeg { kept, .. }
+        | Bus::WriteLeg { kept, .. }
+        | Bus::LowAddress { kept, .. }
+        | Bus::DataLeg { kept, .. } => Some(kept),
     }
 }
 
 pub fn is_open(b: Bus) -> bool
     ensures { result ≡ is_open b }
 {
-    is_open_transfer(transfer_at(b))
+    transfer_at(b).is_some()
 }
 
 pub fn is_active(b: Bus) -> bool
     ensures { result ≡ is_active b }
 {
-    match b {
-        Bus::Idle => false,
-        Bus::Started(transfer) => true,
-        Bus::ReadLeg {
-            kept,
-            space,
-            over,
-            last,
-        } => true,
-        Bus::WriteLeg { kept, space } => true,
-        Bus::LowAddress { kept, space, high } => true,
-        Bus::DataLeg {
-            kept,
-            space,
-            count,
-            spoiled,
-        } => true,
-    }
+    !matches!(b, Bus::Idle)
 }
 
 pub fn page_bytes(b: Bus) -> u16
     ensures { result ≡ page_bytes b }
 {
     match b {
-        Bus::Idle => 0,
-        Bus::Started(transfer) => 0,
-        Bus::ReadLeg {
-            kept,
-            space,
-            over,
-            last,
-        } => 0,
-        Bus::WriteLeg { kept, space } => 0,
-        Bus::LowAddress { kept, space, high } => 0,
-        Bus::DataLeg {
-            kept,
-            space,
-            count,
-            spoiled,
-        } => count,
+        Bus::DataLeg { count, .. } => count,
+        _ => 0,
     }
 }
 

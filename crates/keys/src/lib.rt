@@ -2,10 +2,10 @@
 #![tactic(auto)]
 
 ghost use Rattle.std.specs.Prelude.{◌≡◌};
-ghost use Rattle.keys.specs.Keys.{password_at, uid_at, same_password, same_uid, uid_byte, radio_password, with_radio_password, with_i2c_password, fresh_passwords};
+ghost use Rattle.keys.specs.Keys.{password_at, uid_at, uid_byte, radio_password, with_radio_password, with_i2c_password, fresh_passwords};
 
 // Eight bytes, in the order in which they arrive.
-#[derive(Clone, Copy)]
+#[derive(Clone, Copy, PartialEq, Eq)]
 pub struct Password {
     pub bytes: [u8; 8],
 }
@@ -21,7 +21,7 @@ pub struct Passwords {
 }
 
 // The UID, lowest byte first.
-#[derive(Clone, Copy)]
+#[derive(Clone, Copy, PartialEq, Eq)]
 pub struct Uid {
     pub bytes: [u8; 8],
 }
@@ -33,14 +33,6 @@ impl Password {
         Password {
             bytes: parts::eight_at(s, at),
         }
-    }
-
-    pub fn equals(self, other: Password) -> bool
-        ensures { result ≡ same_password self other }
-    {
-        let x = self.bytes;
-        let y = other.bytes;
-        parts::same_eight(x, y)
     }
 }
 
@@ -61,39 +53,22 @@ impl Passwords {
     pub fn radio(self, n: u8) -> Password
         ensures { result ≡ radio_password self n }
     {
-        if n == 0 {
-            return self.rf0;
+        match n {
+            0 => self.rf0,
+            1 => self.rf1,
+            2 => self.rf2,
+            _ => self.rf3,
         }
-        if n == 1 {
-            return self.rf1;
-        }
-        if n == 2 {
-            return self.rf2;
-        }
-        self.rf3
     }
 
     pub fn with_radio(self, n: u8, x: Password) -> Passwords
         ensures { result ≡ with_radio_password n x self }
     {
-        let mut p = self;
         match n {
-            0 => {
-                p.rf0 = x;
-                p
-            }
-            1 => {
-                p.rf1 = x;
-                p
-            }
-            2 => {
-                p.rf2 = x;
-                p
-            }
-            3 => {
-                p.rf3 = x;
-                p
-            }
+            0 => Passwords { rf0: x, ..self },
+            1 => Passwords { rf1: x, ..self },
+            2 => Passwords { rf2: x, ..self },
+            3 => Passwords { rf3: x, ..self },
             _ => self,
         }
     }
@@ -101,9 +76,7 @@ impl Passwords {
     pub fn with_i2c(self, x: Password) -> Passwords
         ensures { result ≡ with_i2c_password x self }
     {
-        let mut p = self;
-        p.i2c = x;
-        p
+        Passwords { i2c: x, ..self }
     }
 }
 
@@ -114,14 +87,6 @@ impl Uid {
         Uid {
             bytes: parts::eight_at(s, at),
         }
-    }
-
-    pub fn equals(self, other: Uid) -> bool
-        ensures { result ≡ same_uid self other }
-    {
-        let x = self.bytes;
-        let y = other.bytes;
-        parts::same_eight(x, y)
     }
 
     pub fn byte(self, i: usize) -> u8

@@ -8,7 +8,7 @@ use native.Mathlib.Nat.{add-zero}
 use lib.Dec.{ltb}
 use borrow.Author.Tests.{ltb-true, ltb-false}
 use lib.ListN.{length, take, drop, get_or, set, length-append, length-set, length-drop, drop_of_length-le, get_or-append, get_or-eq_default}
-use lib.Seq.{sets, sets-eq, take-suc, get_or-drop, get_or-set_other, get_or_at}
+use lib.Seq.{sets, sets-eq, take-suc, take-length, get_or-drop, get_or-set_other, get_or_at}
 use borrow.Rule.Slice.PartMut.{put_mid}
 use Rattle.std.proofs.lemmas.List.{drop-drop}
 use Rattle.std.proofs.Common.{append_assoc}
@@ -50,6 +50,10 @@ bytes_at_part s at zero h = refl
 bytes_at_part s at (suc n) h =
     rw (bytes_at_part s at n (omega arith), ← get_or-drop at s n 0)
     (sym (take-suc (drop at s) n 0 (omega (arith, length-drop at s))))
+
+-- a list is all its bytes
+pub bytes_at_whole : (s : List ℕ) (n : ℕ) → length s ≡ n → bytes_at s 0 n ≡ s
+bytes_at_whole s n e = bytes_at_part s 0 n (omega arith) ∙ ap (λ (k : ℕ). take k s) (sym e) ∙ take-length s
 
 -- a store past a run's bytes
 pub bytes_at_after : (s : List ℕ) (at n i x : ℕ) → at + n ≤ i → bytes_at (set s i x) at n ≡ bytes_at s at n

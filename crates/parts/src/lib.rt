@@ -3,7 +3,7 @@
 
 ghost use Rattle.std.specs.Prelude.{◌≡◌, ◌+◌, ◌≤◌, leb, length, get_or, set};
 ghost use Rattle.std.proofs.lemmas.List.Edits.{sets};
-ghost use Rattle.parts.specs.Bytes.{bytes_at, copied, agree};
+ghost use Rattle.parts.specs.Bytes.{bytes_at, copied};
 
 // The byte at a place.
 pub fn byte_at(s: &[u8], i: usize) -> u8
@@ -87,18 +87,4 @@ pub fn eight_at(s: &[u8], at: usize) -> [u8; 8]
     let mut bytes = [0; 8];
     put_bytes(&mut bytes, 0, s, at, 8);
     bytes
-}
-
-// Whether two groups of eight bytes are the same.
-pub fn same_eight(x: [u8; 8], y: [u8; 8]) -> bool
-    ensures { result ≡ agree 8 x y }
-{
-    (x[0] == y[0])
-        & (x[1] == y[1])
-        & (x[2] == y[2])
-        & (x[3] == y[3])
-        & (x[4] == y[4])
-        & (x[5] == y[5])
-        & (x[6] == y[6])
-        & (x[7] == y[7])
 }

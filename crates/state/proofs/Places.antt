@@ -7,6 +7,7 @@ use native.Mathlib.Nat.{add-zero}
 use lib.ListN.{length, get_or, take, length-append}
 use lib.Seq.{sets, get_or-append-add, take_at, take-length}
 use Rattle.parts.specs.Bytes.{bytes_at}
+pub use Rattle.parts.proofs.Lists.{bytes_at_whole}
 use Rattle.parts.proofs.Lists.{bytes_at_part, bytes_at_get_d, sets_append}
 
 -- lists of the same first and the same rest
@@ -24,10 +25,6 @@ bytes_at_skip p q k at (suc n) e =
 -- the first part
 pub bytes_at_head : (q r : List ℕ) (n : ℕ) → length q ≡ n → bytes_at (q ++ r) 0 n ≡ q
 bytes_at_head q r n e = bytes_at_part (q ++ r) 0 n (omega (arith, length-append q r)) ∙ take_at q r n e
-
--- a list is all its bytes
-pub bytes_at_whole : (s : List ℕ) (n : ℕ) → length s ≡ n → bytes_at s 0 n ≡ s
-bytes_at_whole s n e = bytes_at_part s 0 n (omega arith) ∙ ap (λ (k : ℕ). take k s) (sym e) ∙ take-length s
 
 -- two parts read one after the other
 pub bytes_at_join : (s : List ℕ) (at n m : ℕ) → bytes_at s at n ++ bytes_at s (at + n) m ≡ bytes_at s at (n + m)

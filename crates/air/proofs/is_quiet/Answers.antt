@@ -1,14 +1,6 @@
-use Rattle.air.specs.Radio.{is_quiet}
+use mathlib.Core.Path.{◌∙◌}
+use Rattle.air.proofs.States.{eq_quiet}
 use Rattle.air.proofs.is_quiet.Goals as goal
 
-pub returns-in-Ready : goal.returns-in-Ready
-unfolding is_quiet
-returns-in-Ready c = rw c.in-Ready.is
-
-pub returns-in-Quiet : goal.returns-in-Quiet
-unfolding is_quiet
-returns-in-Quiet c = rw c.in-Quiet.is
-
-pub returns-in-Selected : goal.returns-in-Selected
-unfolding is_quiet
-returns-in-Selected c = rw c.in-Selected.is
+pub returns : goal.returns
+returns c = c.eq.ensures ∙ eq_quiet c.args.x

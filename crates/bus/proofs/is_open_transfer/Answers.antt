@@ -1,10 +1,6 @@
-use Rattle.bus.specs.Bus.{is_open_transfer}
+use mathlib.Core.Path.{◌∙◌}
+use Rattle.bus.proofs.Transfers.{some_open}
 use Rattle.bus.proofs.is_open_transfer.Goals as goal
 
-pub returns-in-Closed : goal.returns-in-Closed
-unfolding is_open_transfer
-returns-in-Closed c = rw c.in-Closed.is
-
-pub returns-in-Open : goal.returns-in-Open
-unfolding is_open_transfer
-returns-in-Open c = rw c.in-Open.is
+pub returns : goal.returns
+returns c = c.is_some.ensures ∙ some_open c.args.transfer

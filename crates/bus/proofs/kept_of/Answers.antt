@@ -1,10 +1,6 @@
-use Rattle.bus.specs.Bus.{kept_of}
+use mathlib.Core.Path.{◌∙◌}
+use Rattle.bus.proofs.Transfers.{kept_or_new}
 use Rattle.bus.proofs.kept_of.Goals as goal
 
-pub returns-in-Closed : goal.returns-in-Closed
-unfolding kept_of
-returns-in-Closed c = rw c.in-Closed.is
-
-pub returns-in-Open : goal.returns-in-Open
-unfolding kept_of
-returns-in-Open c = rw c.in-Open.is
+pub returns : goal.returns
+returns c = c.unwrap_or.ensures ∙ kept_or_new c.args.transfer c.args.dynamic

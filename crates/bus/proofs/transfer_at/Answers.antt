@@ -1,4 +1,5 @@
 use Rattle.bus.specs.Bus.{transfer_at}
+use Rattle.bus.proofs.Buses.{leg_open}
 use Rattle.bus.proofs.transfer_at.Goals as goal
 
 pub returns-in-Idle : goal.returns-in-Idle
@@ -10,17 +11,13 @@ unfolding transfer_at
 returns-in-Started c = rw c.in-Started.is
 
 pub returns-in-ReadLeg : goal.returns-in-ReadLeg
-unfolding transfer_at
-returns-in-ReadLeg c = rw c.in-ReadLeg.is
+returns-in-ReadLeg c = leg_open c.args.b c.in-ReadLeg.kept c.in-ReadLeg.is
 
-pub returns-in-WriteLeg : goal.returns-in-WriteLeg
-unfolding transfer_at
-returns-in-WriteLeg c = rw c.in-WriteLeg.is
+pub returns-in-ReadLeg-2 : goal.returns-in-ReadLeg-2
+returns-in-ReadLeg-2 c = leg_open c.args.b c.in-ReadLeg.kept c.in-ReadLeg.is
 
-pub returns-in-LowAddress : goal.returns-in-LowAddress
-unfolding transfer_at
-returns-in-LowAddress c = rw c.in-LowAddress.is
+pub returns-in-ReadLeg-3 : goal.returns-in-ReadLeg-3
+returns-in-ReadLeg-3 c = leg_open c.args.b c.in-ReadLeg.kept c.in-ReadLeg.is
 
-pub returns-in-DataLeg : goal.returns-in-DataLeg
-unfolding transfer_at
-returns-in-DataLeg c = rw c.in-DataLeg.is
+pub returns-in-ReadLeg-4 : goal.returns-in-ReadLeg-4
+returns-in-ReadLeg-4 c = leg_open c.args.b c.in-ReadLeg.kept c.in-ReadLeg.is

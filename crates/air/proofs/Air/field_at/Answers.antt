@@ -2,18 +2,18 @@ use Rattle.parts.proofs.Picks.{picks}
 use Rattle.air.specs.Radio.{field_at}
 use Rattle.air.proofs.Air.field_at.Goals as goal
 
-pub returns-then-self : goal.returns-then-self
+pub returns-in-true-false : goal.returns-in-true-false
 unfolding field_at
-returns-then-self c = search picks depth 20
+returns-in-true-false c = search (picks, c.in-true-false.is-0, c.in-true-false.is-1, c.field_off.ensures) depth 20
 
-pub returns-then-on : goal.returns-then-on
+pub returns-in-false-true : goal.returns-in-false-true
 unfolding field_at
-returns-then-on c = search picks depth 20
+returns-in-false-true c = search (picks, c.in-false-true.is-0, c.in-false-true.is-1, c.field_on.ensures) depth 20
 
-pub returns-then-self-2 : goal.returns-then-self-2
+pub returns-in_default : goal.returns-in_default
 unfolding field_at
-returns-then-self-2 c = search picks depth 20
+returns-in_default c = search (picks, c.in_default.is-0, c.in_default.is-1) depth 20
 
-pub returns : goal.returns
+pub returns-in_default-2 : goal.returns-in_default-2
 unfolding field_at
-returns c = search picks depth 20
+returns-in_default-2 c = search (picks, c.in_default.is-0, c.in_default.is-1) depth 20

@@ -2,18 +2,18 @@ use Rattle.parts.proofs.Picks.{picks}
 use Rattle.keys.specs.Keys.{radio_password}
 use Rattle.keys.proofs.Passwords.radio.Goals as goal
 
-pub returns-then-n-eq0 : goal.returns-then-n-eq0
+pub returns-in-0 : goal.returns-in-0
 unfolding radio_password
-returns-then-n-eq0 c = search picks depth 20
+returns-in-0 c = search (picks, c.in-0.is) depth 20
 
-pub returns-then-n-eq1 : goal.returns-then-n-eq1
+pub returns-in-1 : goal.returns-in-1
 unfolding radio_password
-returns-then-n-eq1 c = search picks depth 20
+returns-in-1 c = search (picks, c.in-1.is) depth 20
 
-pub returns-then-n-eq2 : goal.returns-then-n-eq2
+pub returns-in-2 : goal.returns-in-2
 unfolding radio_password
-returns-then-n-eq2 c = search picks depth 20
+returns-in-2 c = search (picks, c.in-2.is) depth 20
 
-pub returns : goal.returns
+pub returns-in_default : goal.returns-in_default
 unfolding radio_password
-returns c = search picks depth 20
+returns-in_default c = search picks depth 20

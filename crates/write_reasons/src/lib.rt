@@ -1,8 +1,8 @@
-// What is asked about a write, and the answer: allowed, or the rule that forbids it.
+// What is asked about a write, and the rules that forbid one: a verdict is a `Result<(), WriteReason>`, whose error is the first of them.
 #![tactic(auto)]
 
 ghost use Rattle.std.specs.Prelude.{◌≡◌};
-ghost use Rattle.write_reasons.specs.Reasons.{reason_number, is_allowed};
+ghost use Rattle.write_reasons.specs.Reasons.{reason_number};
 
 use bus::Space;
 
@@ -45,13 +45,6 @@ pub enum WritePlace {
     PasswordByte,
 }
 
-// The password whose session is needed, if it has a number.
-#[derive(Clone, Copy)]
-pub enum SessionKey {
-    Unnumbered,
-    Numbered(u8),
-}
-
 // The rules that forbid a write, in the order in which they are asked.
 #[derive(Clone, Copy)]
 pub enum WriteReason {
@@ -65,7 +58,8 @@ pub enum WriteReason {
     LockedBlock,
     AreaNeverWritable,
     ConfigurationLocked,
-    SessionNeeded(SessionKey),
+    // The session of a password, by its number if it has one.
+    SessionNeeded(Option<u8>),
     RegisterReadOnly,
     PasswordCode,
     EndaRule,
@@ -93,23 +87,6 @@ impl WriteReason {
             WriteReason::PasswordCode => 13,
             WriteReason::EndaRule => 14,
             WriteReason::PageFull => 15,
-        }
-    }
-}
-
-#[derive(Clone, Copy)]
-pub enum WriteVerdict {
-    Allowed,
-    Forbidden(WriteReason),
-}
-
-impl WriteVerdict {
-    pub fn is_allowed(self) -> bool
-        ensures { result ≡ is_allowed self }
-    {
-        match self {
-            WriteVerdict::Allowed => true,
-            WriteVerdict::Forbidden(_) => false,
         }
     }
 }

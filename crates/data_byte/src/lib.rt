@@ -40,7 +40,7 @@ pub fn send_data(
     ensures { wire_result result.answer result.side m.new ≡ data_byte kept space k spoiled w m.old x }
 {
     let verdict = write_verdict::verdict(w.core, m, asked_of(w, space, k, spoiled, x));
-    if verdict.is_allowed() {
+    if verdict.is_ok() {
         parts::put_in(m, tag::PAGE_AT, k as usize, x);
         let next = bus::next_address(w.host.counter);
         let count = k + 1;

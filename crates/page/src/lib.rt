@@ -25,7 +25,7 @@ fn allowed(c: Core, session: bool, m: &[u8], space: Space, first: u16, k: u16, x
         x: x,
     };
     let verdict = write_verdict::verdict(c, m, asked);
-    verdict.is_allowed()
+    verdict.is_ok()
 }
 
 // How many places decide for a page of user space: the last alone where none of its blocks can be locked, since the bytes

@@ -9,7 +9,7 @@
 use bus::Space;
 use std::io::{Read, Write};
 use tag::{Core, Tag};
-use write_reasons::{WriteAsked, WriteVerdict};
+use write_reasons::{WriteAsked, WriteReason};
 
 #[derive(Clone, Copy)]
 struct WriteRun {
@@ -29,7 +29,7 @@ enum WritePrint {
     Bad,
     Done,
     Remark,
-    Verdict(WriteVerdict),
+    Verdict(Result<(), WriteReason>),
 }
 
 // The write that a line asks about, if it asks about one.

@@ -57,7 +57,7 @@ of_wire PageFull = true
 
 -- a verdict gives only reasons that pass a test
 abbrev pub gives_only : (WriteReason → Bool) → Result ⊤ WriteReason → Bool
-gives_only test (Ok x) = true
+gives_only test (Ok unit) = true
 gives_only test (Err reason) = test reason
 
 unfoldable pub side_gives : WriteAsked → WriteReason → Bool

@@ -36,8 +36,8 @@ module _ (v : RadioSide) (m : List ℕ) (block : ℕ) (frame : List ℕ) (at : �
 
   -- each reason that a block of the memory can be given has the same code
   chain : (a b c : Bool) (key : Option ℕ)
-      → pick (is_ok (pick a (Err LockedBlock) (pick b (Err AreaNeverWritable) (pick c (Err (SessionNeeded key)) (Ok tt))))) done forbidden
-      ≡ block_by (pick a (Err LockedBlock) (pick b (Err AreaNeverWritable) (pick c (Err (SessionNeeded key)) (Ok tt)))) v m block frame at
+      → pick (is_ok (pick a (Err LockedBlock) (pick b (Err AreaNeverWritable) (pick c (Err (SessionNeeded key)) (Ok (tt {0})))))) done forbidden
+      ≡ block_by (pick a (Err LockedBlock) (pick b (Err AreaNeverWritable) (pick c (Err (SessionNeeded key)) (Ok (tt {0}))))) v m block frame at
   unfolding done forbidden block_by block_error pick
   chain true b c key = refl
   chain false true c key = refl

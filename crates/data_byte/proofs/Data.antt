@@ -16,7 +16,7 @@ use Rattle.tag.specs.declared.WireSide.{WireSide}
 use Rattle.tag.specs.Layout.{page_place, page}
 use Rattle.select.specs.Select.{first_of}
 use Rattle.write_reasons.specs.declared.WriteAsked.{WriteAsked}
-use Rattle.write_reasons.specs.declared.WriteAsked.TheVariants.{DataByte}
+use Rattle.write_reasons.specs.Asked.{asked_byte}
 use Rattle.write_reasons.specs.declared.WriteReason.{WriteReason}
 use Rattle.write_verdict.specs.Passed.{situation_of, write_verdict}
 use Rattle.rule.specs.Rule.{acked}
@@ -49,7 +49,7 @@ module _ (kept : OpenTransfer) (space : Space) (k : ℕ) (spoiled : Bool) (w : W
   unfolding data_of pick
   spoils h g = rw (g, rw g at h)
 
-  pub judged : (asked : WriteAsked) (v : Result ⊤ WriteReason) (b : Bool) → asked ≡ DataByte w.host.session spoiled space (first_of w.host.counter k) k x
+  pub judged : (asked : WriteAsked) (v : Result ⊤ WriteReason) (b : Bool) → asked ≡ asked_byte w.host.session spoiled space (first_of w.host.counter k) k x
       → v ≡ write_verdict (situation_of w.core m asked) → b ≡ is_ok v → Judged b
   judged asked v b e f g =
       sym (g ∙ ap is_ok f ∙ ap (λ (a : WriteAsked). is_ok (write_verdict (situation_of w.core m a))) e

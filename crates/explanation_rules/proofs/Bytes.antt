@@ -17,7 +17,7 @@ use Rattle.select.specs.Select.{first_of}
 use Rattle.signal_table.specs.declared.WireSignal.TheVariants.{Send}
 use Rattle.signal_table.specs.declared.Signal.TheVariants.{Wire}
 use Rattle.signal_table.specs.Table.{sent_byte}
-use Rattle.write_reasons.specs.declared.WriteAsked.TheVariants.{DataByte}
+use Rattle.write_reasons.specs.Asked.{asked_byte}
 use Rattle.write_rules.specs.Situation.{Situation, situation_of}
 use Rattle.write_rules.specs.Verdict.{forbids, write_reasons, session_key, write_verdict}
 use Rattle.rule_names.specs.Rules.{byte_forbidden, rule_number}
@@ -37,7 +37,7 @@ module _ (t : Tag) (m : List ℕ) (x : ℕ) (f : List ℕ) where
   -- a data byte
   pub data_number : (kept : OpenTransfer) (space : Space) (count : ℕ) (spoiled : Bool) → t.host.bus ≡ DataLeg kept space count spoiled
       → explained_number (explained t m (Wire (Send x)) f)
-      ≡ write_number (write_verdict (situation_of t.core m (DataByte t.host.session spoiled space (first_of t.host.counter count) count x)))
+      ≡ write_number (write_verdict (situation_of t.core m (asked_byte t.host.session spoiled space (first_of t.host.counter count) count x)))
   unfolding explained explained_number rules_for wire_rules byte_rules data_byte_rules data_byte_in rule_holds rule_number signal_byte sent_byte write_verdict session_key write_number
   data_number kept space count spoiled e =
       let holds = rule_holds t m (Wire (Send x)) f in

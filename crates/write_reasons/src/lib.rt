@@ -6,32 +6,26 @@ ghost use Rattle.write_reasons.specs.Reasons.{reason_number};
 
 use bus::Space;
 
+// Data byte k of a write leg, from its first address on, the I2C session open or not.
+#[derive(Clone, Copy)]
+pub struct DataByteAsked {
+    pub session: bool,
+    pub spoiled: bool,
+    pub space: Space,
+    pub first: u16,
+    pub k: u16,
+    pub x: u8,
+}
+
 // The write that is asked about.
 #[derive(Clone, Copy)]
 pub enum WriteAsked {
-    // By the wire, the I2C session open or not: data byte k of a write leg, from its first address on.
-    DataByte {
-        session: bool,
-        spoiled: bool,
-        space: Space,
-        first: u16,
-        k: u16,
-        x: u8,
-    },
+    // By the wire.
+    DataByte(DataByteAsked),
     // By radio, with its open session: a block; the register of a pointer, and the byte for it; a password.
-    Block {
-        session: u8,
-        block: u16,
-    },
-    Pointer {
-        session: u8,
-        pointer: u8,
-        x: u8,
-    },
-    PasswordOf {
-        session: u8,
-        n: u8,
-    },
+    Block { session: u8, block: u16 },
+    Pointer { session: u8, pointer: u8, x: u8 },
+    PasswordOf { session: u8, n: u8 },
 }
 
 // What stands where the write goes.

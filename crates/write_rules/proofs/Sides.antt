@@ -58,7 +58,7 @@ module _ (c : Core) (session : ℕ) where
 
 pub each_side_its_reasons : EachSideItsReasons
 unfolding side_gives block_place pointer_place password_place
-each_side_its_reasons c m (DataByte session spoiled space first k x) = wire_gives c session first k (page k m) x spoiled (byte_place space first k)
+each_side_its_reasons c m (DataByte b) = wire_gives c b.session b.first b.k (page b.k m) b.x b.spoiled (byte_place b.space b.first b.k)
 each_side_its_reasons c m (Block session block) =
     radio_place c session (4 * block) block 0 _ Unmapped UserMemory (λ h. rw radio_unmapped) (λ h. block_gives c session block)
 each_side_its_reasons c m (Pointer session pointer x) =

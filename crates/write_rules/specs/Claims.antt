@@ -61,7 +61,7 @@ gives_only test (Ok unit) = true
 gives_only test (Err reason) = test reason
 
 unfoldable pub side_gives : WriteAsked → WriteReason → Bool
-side_gives (DataByte session spoiled space first k x) = of_wire
+side_gives (DataByte byte) = of_wire
 side_gives (Block session block) = of_radio
 side_gives (Pointer session pointer x) = of_radio
 side_gives (PasswordOf session n) = of_radio

@@ -4,6 +4,7 @@
 ghost use Rattle.std.specs.Prelude.{◌≡◌, Bool, false, List, ℕ};
 ghost use Rattle.tag.specs.declared.Core.{Core};
 ghost use Rattle.tag.specs.Layout.{page};
+ghost use Rattle.write_reasons.specs.declared.WriteAsked.TheVariants.{DataByte};
 ghost use Rattle.write_reasons.specs.declared.WritePlace.TheVariants.{UserMemory, DynamicByte, MailboxByte, SystemRegister, PasswordByte};
 ghost use Rattle.write_rules.specs.Situation.{is_dynamic, user_place, is_system, system_place, byte_place, byte_at, byte_situation, block_situation, pointer_situation, password_situation, situation_of};
 ghost use Rattle.write_rules.specs.Conditions.{needs_session};
@@ -12,7 +13,7 @@ ghost use Rattle.write_rules.specs.Verdict.{area_key, write_verdict};
 use bus::Space;
 use register_types::RfaSs;
 use tag::Core;
-use write_reasons::{WriteAsked, WritePlace, WriteReason};
+use write_reasons::{DataByteAsked, WriteAsked, WritePlace, WriteReason};
 
 // The first address of a password leg.
 const PASSWORD_FIRST: u16 = 0x0900;
@@ -75,9 +76,15 @@ fn byte_place(space: Space, first: u16, k: u16) -> WritePlace
 }
 
 // A byte of user memory, in a leg that is not spoiled.
-fn memory(c: Core, session: bool, first: u16, k: u16) -> Result<(), WriteReason>
-    ensures { (earlier : List ℕ) (x : ℕ) → result ≡ write_verdict (byte_at UserMemory c session false first k earlier x) }
+fn memory(c: Core, byte: DataByteAsked) -> Result<(), WriteReason>
+    ensures { (earlier : List ℕ) (x : ℕ) → result ≡ write_verdict (byte_at UserMemory c byte.session false byte.first byte.k earlier x) }
 {
+    let DataByteAsked {
+        session,
+        first,
+        k,
+        ..
+    } = byte;
     let r = c.registers;
     let block = ((first as u32 + k as u32) / 4) as u16;
     let area = areas::area_of_block(r.ends, block);
@@ -138,9 +145,16 @@ fn mailbox_byte(c: Core, first: u16, k: u16) -> Result<(), WriteReason>
 }
 
 // A system register, after the leg's earlier bytes, which are the page's.
-fn register(c: Core, session: bool, m: &[u8], first: u16, k: u16, x: u8) -> Result<(), WriteReason>
-    ensures { result ≡ write_verdict (byte_at SystemRegister c session false first k (page k m.now) x) }
+fn register(c: Core, m: &[u8], byte: DataByteAsked) -> Result<(), WriteReason>
+    ensures { result ≡ write_verdict (byte_at SystemRegister c byte.session false byte.first byte.k (page byte.k m.now) byte.x) }
 {
+    let DataByteAsked {
+        session,
+        first,
+        k,
+        x,
+        ..
+    } = byte;
     let at = first as u32 + k as u32;
     let row = register_table::row_of(at);
     let writable = row.host;
@@ -165,9 +179,10 @@ fn register(c: Core, session: bool, m: &[u8], first: u16, k: u16, x: u8) -> Resu
 }
 
 // A byte of a password leg; its code stands at place 8.
-fn password_byte(c: Core, session: bool, first: u16, k: u16, x: u8) -> Result<(), WriteReason>
-    ensures { (earlier : List ℕ) → result ≡ write_verdict (byte_at PasswordByte c session false first k earlier x) }
+fn password_byte(c: Core, byte: DataByteAsked) -> Result<(), WriteReason>
+    ensures { (earlier : List ℕ) → result ≡ write_verdict (byte_at PasswordByte c byte.session false byte.first byte.k earlier byte.x) }
 {
+    let DataByteAsked { session, k, x, .. } = byte;
     let writes = (k == 8) & (x == 0x07);
     if writes & c.mailbox.enabled {
         return Err(WriteReason::MailboxModeOn);
@@ -185,29 +200,27 @@ fn password_byte(c: Core, session: bool, first: u16, k: u16, x: u8) -> Result<()
 }
 
 // A data byte of a write leg, by what stands at its address.
-fn data_byte(
-    c: Core,
-    m: &[u8],
-    session: bool,
-    spoiled: bool,
-    space: Space,
-    first: u16,
-    k: u16,
-    x: u8,
-) -> Result<(), WriteReason>
-    ensures { result ≡ write_verdict (byte_situation space c session spoiled first k (page k m.now) x) }
+fn data_byte(c: Core, m: &[u8], byte: DataByteAsked) -> Result<(), WriteReason>
+    ensures { result ≡ write_verdict (situation_of c m.now (DataByte byte)) }
 {
+    let DataByteAsked {
+        spoiled,
+        space,
+        first,
+        k,
+        ..
+    } = byte;
     if spoiled {
         return Err(WriteReason::LegSpoiled);
     }
     let place = byte_place(space, first, k);
     match place {
         WritePlace::Unmapped => Err(WriteReason::OutsideMap),
-        WritePlace::UserMemory => memory(c, session, first, k),
+        WritePlace::UserMemory => memory(c, byte),
         WritePlace::DynamicByte => dynamic_byte(first, k),
         WritePlace::MailboxByte => mailbox_byte(c, first, k),
-        WritePlace::SystemRegister => register(c, session, m, first, k, x),
-        WritePlace::PasswordByte => password_byte(c, session, first, k, x),
+        WritePlace::SystemRegister => register(c, m, byte),
+        WritePlace::PasswordByte => password_byte(c, byte),
     }
 }
 
@@ -296,14 +309,7 @@ pub fn verdict(c: Core, m: &[u8], asked: WriteAsked) -> Result<(), WriteReason>
     ensures { result ≡ write_verdict (situation_of c m.now asked) }
 {
     match asked {
-        WriteAsked::DataByte {
-            session,
-            spoiled,
-            space,
-            first,
-            k,
-            x,
-        } => data_byte(c, m, session, spoiled, space, first, k, x),
+        WriteAsked::DataByte(byte) => data_byte(c, m, byte),
         WriteAsked::Block { session, block } => block_write(c, session, block),
         WriteAsked::Pointer {
             session,

@@ -5,20 +5,22 @@ ghost use Rattle.std.specs.Prelude.{◌≡◌};
 ghost use Rattle.tag.specs.Parts.{with_wire_core};
 ghost use Rattle.effect.specs.Effect.{programming};
 
-use tag::{Core, WireSide};
+use tag::{Core, Host, WireSide};
 
 pub fn start_programming(w: WireSide) -> WireSide
     ensures { result ≡ programming w }
 {
-    let mut n = w;
-    n.host.programming = true;
-    n
+    WireSide {
+        host: Host {
+            programming: true,
+            ..w.host
+        },
+        ..w
+    }
 }
 
 pub fn with_core(w: WireSide, c: Core) -> WireSide
     ensures { result ≡ with_wire_core c w }
 {
-    let mut n = w;
-    n.core = c;
-    n
+    WireSide { core: c, ..w }
 }

@@ -11,6 +11,7 @@ use mailbox::Mailbox;
 use rights::Side;
 use tag::Core;
 
+#[tactic(auto, using(parts::proofs::Picks::picks), unfolding(crate::specs::Fetch::memory_byte))]
 fn memory_byte(c: Core, session: bool, m: &[u8], address: u16) -> u8
     ensures { result ≡ memory_byte c session m.now address }
 {
@@ -24,12 +25,10 @@ fn memory_byte(c: Core, session: bool, m: &[u8], address: u16) -> u8
 fn mailbox_place(address: u16) -> u16
     ensures { result ≡ address - mailbox_first }
 {
-    if address < dynamic::MAILBOX_FIRST {
-        return 0;
-    }
-    address - dynamic::MAILBOX_FIRST
+    address.saturating_sub(dynamic::MAILBOX_FIRST)
 }
 
+#[tactic(auto, using(parts::proofs::Picks::picks), unfolding(crate::specs::Fetch::mailbox_byte))]
 fn mailbox_byte(mailbox: Mailbox, m: &[u8], address: u16) -> u8
     ensures { result ≡ mailbox_byte mailbox m.now address }
 {
@@ -41,44 +40,34 @@ fn mailbox_byte(mailbox: Mailbox, m: &[u8], address: u16) -> u8
 }
 
 // The byte at an address of user space.
+#[tactic(auto, using(parts::proofs::Picks::picks), unfolding(crate::specs::Fetch::user_byte))]
 fn user_byte(c: Core, session: bool, m: &[u8], address: u16) -> u8
     ensures { result ≡ user_byte c session m.now address }
 {
-    if address < 512 {
-        return memory_byte(c, session, m, address);
+    match address {
+        0..=511 => memory_byte(c, session, m, address),
+        dynamic::RF_MNGT_DYN => c.registers.dynamic.bits,
+        dynamic::I2C_SSO_DYN => u8::from(session),
+        dynamic::MB_CTRL_DYN => c.mailbox.control_byte(),
+        dynamic::MB_LEN_DYN => c.mailbox.length_byte(),
+        dynamic::MAILBOX_FIRST..=dynamic::MAILBOX_LAST => mailbox_byte(c.mailbox, m, address),
+        _ => 0xFF,
     }
-    if address == dynamic::RF_MNGT_DYN {
-        return c.registers.dynamic.bits;
-    }
-    if address == dynamic::I2C_SSO_DYN {
-        if session {
-            return 1;
-        }
-        return 0;
-    }
-    if address == dynamic::MB_CTRL_DYN {
-        return c.mailbox.control_byte();
-    }
-    if address == dynamic::MB_LEN_DYN {
-        return c.mailbox.length_byte();
-    }
-    if (dynamic::MAILBOX_FIRST <= address) & (address <= dynamic::MAILBOX_LAST) {
-        return mailbox_byte(c.mailbox, m, address);
-    }
-    0xFF
 }
 
 // The byte at an address of system space.
+#[tactic(auto, using(parts::proofs::Picks::picks), unfolding(crate::specs::Fetch::system_byte))]
 fn system_byte(c: Core, u: Uid, address: u16) -> u8
     ensures { result ≡ system_byte c u address }
 {
-    if (0x0018 <= address) & (address <= 0x001F) {
-        return u.byte(address as usize - 0x0018);
+    match address {
+        0x0018..=0x001F => u.byte(address as usize - 0x0018),
+        _ => c.registers.read(address),
     }
-    c.registers.read(address)
 }
 
 // The byte that a fetch gives at an address.
+#[tactic(auto, unfolding(crate::specs::Fetch::fetched))]
 pub fn fetched(space: Space, c: Core, session: bool, u: Uid, m: &[u8], address: u16) -> u8
     ensures { result ≡ fetched space c session u m.now address }
 {
@@ -89,12 +78,14 @@ pub fn fetched(space: Space, c: Core, session: bool, u: Uid, m: &[u8], address: 
 }
 
 // Whether an address has the last byte of an RF message.
+#[tactic(auto, unfolding(crate::specs::Fetch::is_last))]
 pub fn is_last(space: Space, mailbox: Mailbox, address: u16) -> bool
     ensures { result ≡ is_last space mailbox address }
 {
     match space {
         Space::User => mailbox.rf.current
-            & (address as u32 + 1 == dynamic::MAILBOX_FIRST as u32 + mailbox.length as u32),
+            & (u32::from(address) + 1
+                == u32::from(dynamic::MAILBOX_FIRST) + u32::from(mailbox.length)),
         Space::System => false,
     }
 }

@@ -7,7 +7,7 @@ ghost use Rattle.effect.specs.Effect.{leg_result};
 ghost use Rattle.leg.specs.Leg.{leg_written, acts_at_start, last_fetched};
 
 use bus::Space;
-use tag::WireSide;
+use tag::{Core, WireSide};
 
 // A write leg's effect: the page's k bytes, all Acked, in a space from the first address on.
 pub fn leg_written(space: Space, w: WireSide, m: &mut [u8], first: u16, k: u16) -> WireSide
@@ -33,8 +33,6 @@ pub fn acts_at_start(space: Space, first: u16) -> bool
 pub fn last_fetched(w: WireSide) -> WireSide
     ensures { result ≡ last_fetched w }
 {
-    let mut c = w.core;
-    let mailbox = c.mailbox.host_read();
-    c.mailbox = mailbox;
-    effect::with_core(w, c)
+    let mailbox = w.core.mailbox.host_read();
+    effect::with_core(w, Core { mailbox, ..w.core })
 }

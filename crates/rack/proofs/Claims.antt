@@ -14,8 +14,7 @@ use Rattle.parts.proofs.Picks.{pick_map, pick_true, pick_false}
 use Rattle.parts.proofs.Bools.{and_left, or_second}
 use Rattle.rule_list.specs.RuleList.{any_holds, first_says}
 use Rattle.rule_list.proofs.Laws.{says_passes}
-use Rattle.signal_table.specs.declared.SignalFound.{SignalFound}
-use Rattle.signal_table.specs.declared.SignalFound.TheVariants.{NoSignal, Found}
+use Rattle.std.specs.Prelude.{Option, Some, None}
 use Rattle.signal_table.specs.Table.{SignalRow, signal_table, signal_found, is_found, signal_in_range, signal_in, signal_by}
 use Rattle.tag.specs.declared.Tag.{Tag}
 use Rattle.calls.specs.Passed.{Refusal, NoSuchTag, Judgement, NoRefusal, number, judgement, unless_refused}
@@ -66,8 +65,8 @@ none_elsewhere value = refl
 pub wire_to_one : WireToOne
 unfolding signal_in_range signal_by signal_in is_found signal_found elsewhere
 wire_to_one code value =
-    says_passes (λ (row : SignalRow). eqb code row.code && leb value row.top) (elsewhere value) (λ (row : SignalRow). Found (row.signal value)) NoSignal
-    (λ (found : SignalFound). is_found found ≡ true → to_all code ≡ not (is_wire (signal_in found))) signal_table (none_elsewhere value)
+    says_passes (λ (row : SignalRow). eqb code row.code && leb value row.top) (elsewhere value) (λ (row : SignalRow). Some (row.signal value)) None
+    (λ (found : Option Signal). is_found found ≡ true → to_all code ≡ not (is_wire (signal_in found))) signal_table (none_elsewhere value)
     (λ row h k _. ap to_all (eqb-true code row.code (and_left (eqb code row.code) (leb value row.top) h)) ∙ alike (to_all row.code) (is_wire (row.signal value)) k)
     (λ h. absurd (false≢true h))
 

@@ -16,8 +16,7 @@ use Rattle.tag.specs.Layout.{memory_bytes}
 use Rattle.tag.specs.Parts.{wire_side}
 use Rattle.signal_table.specs.declared.Signal.{Signal}
 use Rattle.signal_table.specs.declared.Signal.TheVariants.{Wire, Field, Frame, EndOfFrame}
-use Rattle.signal_table.specs.declared.SignalFound.{SignalFound}
-use Rattle.signal_table.specs.declared.SignalFound.TheVariants.{NoSignal, Found}
+use Rattle.std.specs.Prelude.{Option, Some, None}
 use Rattle.signal_table.specs.Table.{SignalRow, signal_table, signal_found, is_found, signal_in_range, signal_in, signal_by}
 use Rattle.signal.specs.declared.WireAnswer.{WireAnswer}
 use Rattle.signal.specs.declared.WireAnswer.TheVariants.{Nothing as WireNothing, Ack as WireAck, NoAck as WireNoAck, Byte as WireByte}
@@ -106,8 +105,8 @@ none_other value = refl
 pub field_code : (code value : ℕ) → signal_in_range code value ≡ true → eqb code 2 ≡ is_field (signal_by code value)
 unfolding signal_in_range signal_by signal_in is_found signal_found other_field
 field_code code value =
-    says_passes (λ (row : SignalRow). eqb code row.code && leb value row.top) (other_field value) (λ (row : SignalRow). Found (row.signal value)) NoSignal
-    (λ (found : SignalFound). is_found found ≡ true → eqb code 2 ≡ is_field (signal_in found)) signal_table (none_other value)
+    says_passes (λ (row : SignalRow). eqb code row.code && leb value row.top) (other_field value) (λ (row : SignalRow). Some (row.signal value)) None
+    (λ (found : Option Signal). is_found found ≡ true → eqb code 2 ≡ is_field (signal_in found)) signal_table (none_other value)
     (λ row h k _. ap (λ (n : ℕ). eqb n 2) (eqb-true code row.code (and_left (eqb code row.code) (leb value row.top) h)) ∙ same (eqb row.code 2) (is_field (row.signal value)) k)
     (λ h. absurd (false≢true h))
 

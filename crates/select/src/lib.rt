@@ -14,25 +14,21 @@ pub enum Choice {
     Writing(Space),
 }
 
+#[tactic(auto, using(parts::proofs::Picks::picks), unfolding(crate::specs::Select::select_of))]
 fn select_of(x: u8) -> Choice
     ensures { result ≡ select_of x }
 {
-    if x == 0xA6 {
-        return Choice::Writing(Space::User);
+    match x {
+        0xA6 => Choice::Writing(Space::User),
+        0xA7 => Choice::Reading(Space::User),
+        0xAE => Choice::Writing(Space::System),
+        0xAF => Choice::Reading(Space::System),
+        _ => Choice::NotAcked,
     }
-    if x == 0xA7 {
-        return Choice::Reading(Space::User);
-    }
-    if x == 0xAE {
-        return Choice::Writing(Space::System);
-    }
-    if x == 0xAF {
-        return Choice::Reading(Space::System);
-    }
-    Choice::NotAcked
 }
 
 // The choice of a select byte: none without VCC or while programming.
+#[tactic(auto, using(parts::proofs::Picks::picks), unfolding(crate::specs::Select::choose))]
 pub fn choose(vcc: bool, programming: bool, x: u8) -> Choice
     ensures { result ≡ choose vcc programming x }
 {
@@ -46,12 +42,12 @@ pub fn choose(vcc: bool, programming: bool, x: u8) -> Choice
 pub fn address(high: u8, low: u8) -> u16
     ensures { result ≡ address high low }
 {
-    high as u16 * 256 + low as u16
+    u16::from_be_bytes([high, low])
 }
 
 // The first address of a write leg, from the counter and the page bytes.
 pub fn first_of(counter: u16, count: u16) -> u16
     ensures { result ≡ first_of counter count }
 {
-    std::num::wrapping_sub_u16(counter, count)
+    counter.wrapping_sub(count)
 }

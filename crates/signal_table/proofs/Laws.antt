@@ -12,8 +12,7 @@ use Rattle.rule_list.proofs.Laws.{says_passes}
 use Rattle.signal_table.specs.declared.WireSignal.TheVariants.{Send}
 use Rattle.signal_table.specs.declared.Signal.{Signal}
 use Rattle.signal_table.specs.declared.Signal.TheVariants.{Wire, Field, Frame, EndOfFrame}
-use Rattle.signal_table.specs.declared.SignalFound.{SignalFound}
-use Rattle.signal_table.specs.declared.SignalFound.TheVariants.{NoSignal, Found}
+use Rattle.std.specs.Prelude.{Option, Some, None}
 use Rattle.signal_table.specs.Table.{SignalRow, signal_table, signal_found, is_found, signal_in_range, signal_in, signal_by, sent_byte}
 
 -- ---- the byte that a signal sends is a byte
@@ -34,19 +33,19 @@ none_sends_more value = rw (le-leb 0 value (omega arith), le-leb value value (om
 pub sent_below : (code value : ℕ) → sent (signal_by code value) < 256
 unfolding signal_by signal_in signal_found sends_more sent
 sent_below code value =
-    says_passes (λ (row : SignalRow). eqb code row.code && leb value row.top) (sends_more value) (λ (row : SignalRow). Found (row.signal value)) NoSignal
-    (λ (found : SignalFound). sent (signal_in found) < 256) signal_table (none_sends_more value)
+    says_passes (λ (row : SignalRow). eqb code row.code && leb value row.top) (sends_more value) (λ (row : SignalRow). Some (row.signal value)) None
+    (λ (found : Option Signal). sent (signal_in found) < 256) signal_table (none_sends_more value)
     (λ row h k.
     let both : (leb (sent (row.signal value)) value && leb row.top 255) ≡ true = not-false _ k in
     omega (arith, leb-true value row.top (and_right (eqb code row.code) _ h), leb-true (sent (row.signal value)) value (and_left _ _ both), leb-true row.top 255 (and_right (leb (sent (row.signal value)) value) _ both)))
     (omega arith)
 
 -- ---- code 4 with a byte is the byte sent
-byte_found : (x : ℕ) → leb x 255 ≡ true → signal_found 4 x ≡ Found (Wire (Send x))
+byte_found : (x : ℕ) → leb x 255 ≡ true → signal_found 4 x ≡ Some (Wire (Send x))
 unfolding signal_found signal_table first_says pick
 byte_found x h = rw h
 
-no_byte_found : (x : ℕ) → leb x 255 ≡ false → signal_found 4 x ≡ NoSignal
+no_byte_found : (x : ℕ) → leb x 255 ≡ false → signal_found 4 x ≡ None
 unfolding signal_found signal_table first_says pick
 no_byte_found x h = rw h
 

@@ -1,12 +1,10 @@
 -- "One signal a call: VCC 0/1, field 0/1, Start, byte sent, byte fetched (host Ack or not), Stop, programming end, radio frame."
-use Rattle.std.specs.Prelude.{Bool, true, false, ◌&&◌, List, [], ◌∷◌, ℕ, leb, eqb}
+use Rattle.std.specs.Prelude.{Bool, true, false, ◌&&◌, List, [], ◌∷◌, ℕ, leb, eqb, Option, Some, None}
 use Rattle.rule_list.specs.RuleList.{first_says}
 use Rattle.signal_table.specs.declared.WireSignal.{WireSignal}
 use Rattle.signal_table.specs.declared.WireSignal.TheVariants.{Start, Send, Fetch, Stop, Vcc, ProgrammingEnd}
 use Rattle.signal_table.specs.declared.Signal.{Signal}
 use Rattle.signal_table.specs.declared.Signal.TheVariants.{Wire, Field, Frame, EndOfFrame}
-use Rattle.signal_table.specs.declared.SignalFound.{SignalFound}
-use Rattle.signal_table.specs.declared.SignalFound.TheVariants.{NoSignal, Found}
 
 -- a code, its highest value, and the signal of a value
 pub record SignalRow : Type 0 where
@@ -33,22 +31,22 @@ signal_table =
     ∷ []
 
 -- what a code and a value stand for
-unfoldable pub signal_found : ℕ → ℕ → SignalFound
+unfoldable pub signal_found : ℕ → ℕ → Option Signal
 signal_found code value =
-    first_says (λ (row : SignalRow). eqb code row.code && leb value row.top) (λ (row : SignalRow). Found (row.signal value)) NoSignal signal_table
+    first_says (λ (row : SignalRow). eqb code row.code && leb value row.top) (λ (row : SignalRow). Some (row.signal value)) None signal_table
 
-unfoldable pub is_found : SignalFound → Bool
-is_found NoSignal = false
-is_found (Found signal) = true
+unfoldable pub is_found : Option Signal → Bool
+is_found None = false
+is_found (Some signal) = true
 
 -- not "signal code unknown, or its value out of range"
 unfoldable pub signal_in_range : ℕ → ℕ → Bool
 signal_in_range code value = is_found (signal_found code value)
 
 -- the signal; where there is none, which is refused, any
-unfoldable pub signal_in : SignalFound → Signal
-signal_in NoSignal = Frame
-signal_in (Found signal) = signal
+unfoldable pub signal_in : Option Signal → Signal
+signal_in None = Frame
+signal_in (Some signal) = signal
 
 unfoldable pub signal_by : ℕ → ℕ → Signal
 signal_by code value = signal_in (signal_found code value)

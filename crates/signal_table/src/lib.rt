@@ -29,61 +29,32 @@ pub enum Signal {
 }
 
 // What a code and a value stand for.
-#[derive(Clone, Copy)]
-pub enum SignalFound {
-    NoSignal,
-    Found(Signal),
-}
-
-fn signal_found(code: u32, value: u32) -> SignalFound
+#[tactic(auto, using(parts::proofs::Picks::picks), unfolding(crate::specs::Table::signal_found, crate::specs::Table::signal_table, rule_list::specs::RuleList::first_says))]
+fn signal_found(code: u32, value: u32) -> Option<Signal>
     ensures { result ≡ signal_found code value }
 {
-    if (code == 1) & (value <= 1) {
-        return SignalFound::Found(Signal::Wire(WireSignal::Vcc(value == 1)));
+    match (code, value) {
+        (1, 0..=1) => Some(Signal::Wire(WireSignal::Vcc(value == 1))),
+        (2, 0..=1) => Some(Signal::Field(value == 1)),
+        (3, 0) => Some(Signal::Wire(WireSignal::Start)),
+        (4, 0..=255) => Some(Signal::Wire(WireSignal::Send(value as u8))),
+        (5, 0..=1) => Some(Signal::Wire(WireSignal::Fetch(value == 1))),
+        (6, 0) => Some(Signal::Wire(WireSignal::Stop)),
+        (7, 0) => Some(Signal::Wire(WireSignal::ProgrammingEnd)),
+        (8, 0) => Some(Signal::Frame),
+        (9, 0) => Some(Signal::EndOfFrame),
+        _ => None,
     }
-    if (code == 2) & (value <= 1) {
-        return SignalFound::Found(Signal::Field(value == 1));
-    }
-    if (code == 3) & (value <= 0) {
-        return SignalFound::Found(Signal::Wire(WireSignal::Start));
-    }
-    if (code == 4) & (value <= 255) {
-        return SignalFound::Found(Signal::Wire(WireSignal::Send(value as u8)));
-    }
-    if (code == 5) & (value <= 1) {
-        return SignalFound::Found(Signal::Wire(WireSignal::Fetch(value == 1)));
-    }
-    if (code == 6) & (value <= 0) {
-        return SignalFound::Found(Signal::Wire(WireSignal::Stop));
-    }
-    if (code == 7) & (value <= 0) {
-        return SignalFound::Found(Signal::Wire(WireSignal::ProgrammingEnd));
-    }
-    if (code == 8) & (value <= 0) {
-        return SignalFound::Found(Signal::Frame);
-    }
-    if (code == 9) & (value <= 0) {
-        return SignalFound::Found(Signal::EndOfFrame);
-    }
-    SignalFound::NoSignal
 }
 
 pub fn signal_in_range(code: u32, value: u32) -> bool
     ensures { result ≡ signal_in_range code value }
 {
-    let found = signal_found(code, value);
-    match found {
-        SignalFound::NoSignal => false,
-        SignalFound::Found(signal) => true,
-    }
+    signal_found(code, value).is_some()
 }
 
 pub fn signal_by(code: u32, value: u32) -> Signal
     ensures { result ≡ signal_by code value }
 {
-    let found = signal_found(code, value);
-    match found {
-        SignalFound::NoSignal => Signal::Frame,
-        SignalFound::Found(signal) => signal,
-    }
+    signal_found(code, value).unwrap_or(Signal::Frame)
 }

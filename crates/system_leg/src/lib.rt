@@ -7,29 +7,37 @@ ghost use Rattle.effect.specs.Effect.{leg_result};
 ghost use Rattle.system_leg.specs.SystemLeg.{password_written, system_written};
 
 use keys::Password;
-use tag::WireSide;
+use tag::{Core, Host, WireSide};
 
 // A password leg of k bytes.
 fn password_written(w: WireSide, m: &[u8], k: u16) -> WireSide
     ensures { leg_result result m.now ≡ password_written w m.now (page k m.now) }
 {
-    let first = Password::at(m, 768);
-    let second = Password::at(m, 777);
+    let first = Password::at(m, tag::PAGE_AT);
+    let second = Password::at(m, tag::PAGE_AT + 9);
     let own = w.core.passwords.i2c;
     if k < 17 {
         return w;
     }
-    if parts::byte_at(m, 776) == 0x09 {
-        let mut n = w;
+    if parts::byte_at(m, tag::PAGE_AT + 8) == 0x09 {
         let open = own.equals(first) & own.equals(second);
-        n.host.session = open;
-        return n;
+        return WireSide {
+            host: Host {
+                session: open,
+                ..w.host
+            },
+            ..w
+        };
     }
     if first.equals(second) {
-        let mut c = w.core;
-        let passwords = c.passwords.with_i2c(first);
-        c.passwords = passwords;
-        return effect::start_programming(effect::with_core(w, c));
+        let passwords = w.core.passwords.with_i2c(first);
+        return effect::start_programming(effect::with_core(
+            w,
+            Core {
+                passwords,
+                ..w.core
+            },
+        ));
     }
     w
 }
@@ -41,8 +49,12 @@ pub fn system_written(w: WireSide, m: &[u8], first: u16, k: u16) -> WireSide
     if first == 0x0900 {
         return password_written(w, m, k);
     }
-    let mut c = w.core;
-    let registers = written_registers::written_all(c.registers, m, first, k);
-    c.registers = registers;
-    effect::start_programming(effect::with_core(w, c))
+    let registers = written_registers::written_all(w.core.registers, m, first, k);
+    effect::start_programming(effect::with_core(
+        w,
+        Core {
+            registers,
+            ..w.core
+        },
+    ))
 }

@@ -6,7 +6,7 @@ ghost use Rattle.tag.specs.Layout.{page};
 ghost use Rattle.effect.specs.Effect.{leg_result};
 ghost use Rattle.user_leg.specs.UserLeg.{user_written};
 
-use tag::WireSide;
+use tag::{Core, WireSide};
 
 // Byte i of a page of k bytes, 0 past them.
 fn page_byte(m: &[u8], k: u16, i: u16) -> u8
@@ -22,25 +22,22 @@ fn page_byte(m: &[u8], k: u16, i: u16) -> u8
 pub fn user_written(w: WireSide, m: &mut [u8], first: u16, k: u16) -> WireSide
     ensures { leg_result result m.new ≡ user_written w m.old first (page k m.old) }
 {
-    let mut c = w.core;
+    let c = w.core;
     if first < 512 {
         parts::copy_bytes(m, first as usize, tag::PAGE_AT, k as usize);
         return effect::start_programming(w);
     }
     if first == dynamic::RF_MNGT_DYN {
         let registers = c.registers.with_dynamic(page_byte(m, k, 0));
-        c.registers = registers;
-        return effect::with_core(w, c);
+        return effect::with_core(w, Core { registers, ..c });
     }
     if first == dynamic::MB_CTRL_DYN {
         let mailbox = c
             .mailbox
             .control(page_byte(m, k, 0), c.registers.mode, w.host.vcc);
-        c.mailbox = mailbox;
-        return effect::with_core(w, c);
+        return effect::with_core(w, Core { mailbox, ..c });
     }
     parts::copy_bytes(m, tag::MAILBOX_AT, tag::PAGE_AT, k as usize);
     let mailbox = c.mailbox.host_put(k);
-    c.mailbox = mailbox;
-    effect::with_core(w, c)
+    effect::with_core(w, Core { mailbox, ..c })
 }

@@ -1,13 +1,11 @@
 -- The table of commands. What each does is `serve_command` of serve.
-use Rattle.std.specs.Prelude.{Bool, true, false, List, [], ◌∷◌, ℕ, ◌+◌, ◌*◌, eqb}
+use Rattle.std.specs.Prelude.{Bool, true, false, List, [], ◌∷◌, ℕ, ◌+◌, ◌*◌, eqb, Option, None, Some}
 use Rattle.rule_list.specs.RuleList.{first_says}
 use Rattle.commands.specs.declared.Command.{Command}
 use Rattle.commands.specs.declared.Command.TheVariants.{StayQuiet, Select, ResetToReady, ReadSingleBlock, ReadMultipleBlocks, WriteSingleBlock, WriteMultipleBlocks, LockBlock, GetMultipleBlockSecurityStatus, ReadConfiguration, WriteConfiguration, ReadDynamicConfiguration, WriteDynamicConfiguration, WriteMessage, ReadMessageLength, ReadMessage, PresentPassword, WritePassword}
 use Rattle.commands.specs.declared.ParamSize.{ParamSize}
 use Rattle.commands.specs.declared.ParamSize.TheVariants.{Bytes, BlockData, MessageData}
 use Rattle.commands.specs.declared.CommandRow.{CommandRow}
-use Rattle.commands.specs.declared.CommandCode.{CommandCode}
-use Rattle.commands.specs.declared.CommandCode.TheVariants.{Unknown, Known}
 
 -- a row, under its code
 pub record CodedRow : Type 0 where
@@ -54,17 +52,17 @@ command_table =
     ∷ table_row 0xB1 WritePassword true (Bytes 9)
     ∷ []
 
--- what a code stands for
-unfoldable pub command_of : ℕ → CommandCode
-command_of code = first_says (λ coded. eqb code coded.code) (λ coded. Known coded.row) Unknown command_table
+-- what a code stands for; an unknown one has no row
+unfoldable pub command_of : ℕ → Option CommandRow
+command_of code = first_says (λ coded. eqb code coded.code) (λ coded. Some coded.row) None command_table
 
-unfoldable pub is_known : CommandCode → Bool
-is_known Unknown = false
-is_known (Known row) = true
+unfoldable pub is_known : Option CommandRow → Bool
+is_known None = false
+is_known (Some row) = true
 
-unfoldable pub takes_option : CommandCode → Bool
-takes_option Unknown = false
-takes_option (Known row) = row.option
+unfoldable pub takes_option : Option CommandRow → Bool
+takes_option None = false
+takes_option (Some row) = row.option
 
 -- how many bytes of parameters; first and second are the frame's own first two, for
 -- first, count-1 and four bytes a block, and for length-1 and data
@@ -73,6 +71,6 @@ size_of (Bytes n) first second = n
 size_of BlockData first second = 2 + 4 * (second + 1)
 size_of MessageData first second = 1 + (first + 1)
 
-unfoldable pub param_bytes : CommandCode → ℕ → ℕ → ℕ
-param_bytes Unknown first second = 0
-param_bytes (Known row) first second = size_of row.size first second
+unfoldable pub param_bytes : Option CommandRow → ℕ → ℕ → ℕ
+param_bytes None first second = 0
+param_bytes (Some row) first second = size_of row.size first second

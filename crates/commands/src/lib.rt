@@ -3,7 +3,6 @@
 
 ghost use Rattle.std.specs.Prelude.{◌≡◌, ◌≤◌};
 ghost use Rattle.commands.specs.Table.{command_of, is_known, takes_option, size_of, param_bytes};
-ghost use Rattle.commands.specs.declared.CommandCode.TheVariants.{Known};
 
 // The codes that the judge asks for by themselves.
 pub const STAY_QUIET: u8 = 0x02;
@@ -49,25 +48,18 @@ pub struct CommandRow {
     pub size: ParamSize,
 }
 
-// What a command code stands for.
-#[derive(Clone, Copy)]
-pub enum CommandCode {
-    Unknown,
-    Known(CommandRow),
-}
-
-fn known(command: Command, option: bool, size: ParamSize) -> CommandCode
-    ensures { result ≡ Known (record { command = command; option = option; size = size }) }
+fn known(command: Command, option: bool, size: ParamSize) -> Option<CommandRow>
+    ensures { result ≡ Some (record { command = command; option = option; size = size }) }
 {
-    let row = CommandRow {
-        command: command,
-        option: option,
-        size: size,
-    };
-    CommandCode::Known(row)
+    Some(CommandRow {
+        command,
+        option,
+        size,
+    })
 }
 
-pub fn command_of(code: u8) -> CommandCode
+// What a command code stands for; an unknown one has no row.
+pub fn command_of(code: u8) -> Option<CommandRow>
     ensures { result ≡ command_of code }
 {
     match code {
@@ -101,7 +93,7 @@ pub fn command_of(code: u8) -> CommandCode
         0xAC => known(Command::ReadMessage, false, ParamSize::Bytes(2)),
         0xB3 => known(Command::PresentPassword, false, ParamSize::Bytes(9)),
         0xB1 => known(Command::WritePassword, true, ParamSize::Bytes(9)),
-        _ => CommandCode::Unknown,
+        _ => None,
     }
 }
 
@@ -116,36 +108,22 @@ fn size_of(size: ParamSize, first: u8, second: u8) -> usize
     }
 }
 
-impl CommandCode {
-    pub fn is_known(self) -> bool
-        ensures { result ≡ is_known self }
-    {
-        match self {
-            CommandCode::Unknown => false,
-            CommandCode::Known(_) => true,
-        }
-    }
+pub fn is_known(code: u8) -> bool
+    ensures { result ≡ is_known (command_of code) }
+{
+    command_of(code).is_some()
+}
 
-    pub fn takes_option(self) -> bool
-        ensures { result ≡ takes_option self }
-    {
-        match self {
-            CommandCode::Unknown => false,
-            CommandCode::Known(row) => row.option,
-        }
-    }
+pub fn takes_option(code: u8) -> bool
+    ensures { result ≡ takes_option (command_of code) }
+{
+    command_of(code).is_some_and(|row| row.option)
+}
 
-    // The first two bytes of the parameters may say how many there are.
-    pub fn param_bytes(self, first: u8, second: u8) -> usize
-        ensures value { result ≡ param_bytes self first second }
-        ensures upper_bound { result ≤ 1026 }
-    {
-        match self {
-            CommandCode::Unknown => 0,
-            CommandCode::Known(row) => {
-                let size = row.size;
-                size_of(size, first, second)
-            }
-        }
-    }
+// The first two bytes of the parameters may say how many there are.
+pub fn param_bytes(code: u8, first: u8, second: u8) -> usize
+    ensures value { result ≡ param_bytes (command_of code) first second }
+    ensures upper_bound { result ≤ 1026 }
+{
+    command_of(code).map_or(0, |row| size_of(row.size, first, second))
 }

@@ -9,10 +9,10 @@ ghost use Rattle.signal_table.specs.declared.Signal.TheVariants.{Wire, Frame};
 ghost use Rattle.row_rules.specs.RowErrors.{first_applying};
 ghost use Rattle.explanation_rules.specs.Conditions.{is_select_byte};
 ghost use Rattle.explanation_rules.specs.Explanation.{frame_errors, explained, explained_number, rule_at};
-ghost use Rattle.explanation_rules.specs.Numbers.{verdict_number, write_number};
+ghost use Rattle.explanation_rules.specs.Numbers.{write_number};
 
 use bus::Bus;
-use judge::Verdict;
+use errors::RadioError;
 use register_types::RfMngt;
 use reply::RadioSide;
 use signal_table::{Signal, WireSignal};
@@ -92,25 +92,18 @@ fn sent_byte(t: Tag, m: &[u8], x: u8) -> u8
 }
 
 // ---- a frame
-fn verdict_number(verdict: Verdict) -> u8
-    ensures { result ≡ verdict_number verdict }
-{
-    match verdict {
-        Verdict::Silence => 0,
-        Verdict::Error(error) => error.number(),
-        Verdict::Request => 0,
-    }
-}
-
 // The first error: the judge's, else the row's.
-fn frame_error(v: RadioSide, dynamic: RfMngt, busy: bool, m: &[u8], f: &[u8]) -> Verdict
+fn frame_error(
+    v: RadioSide,
+    dynamic: RfMngt,
+    busy: bool,
+    m: &[u8],
+    f: &[u8],
+) -> Result<(), RadioError>
     ensures { result ≡ first_applying dynamic busy v f.now (frame_errors f.now) }
 {
-    match judge::first_error(f, dynamic, busy) {
-        Verdict::Silence => Verdict::Silence,
-        Verdict::Error(error) => Verdict::Error(error),
-        Verdict::Request => row_errors::row_error(commands::command_of(frame::command(f)), v, m, f),
-    }
+    judge::first_error(f, dynamic, busy)?;
+    row_errors::row_error(commands::command_of(frame::command(f)), v, m, f)
 }
 
 // A frame without the inventory flag.
@@ -131,7 +124,9 @@ fn request_rule(t: Tag, m: &[u8], f: &[u8]) -> u8
     if judge::is_mute(f, t.uid) {
         return 32;
     }
-    verdict_number(frame_error(RadioSide { air, core }, dynamic, busy, m, f))
+    frame_error(RadioSide { air, core }, dynamic, busy, m, f)
+        .err()
+        .map_or(0, RadioError::number)
 }
 
 // One with it.

@@ -3,6 +3,7 @@ use mathlib.Core.Path.{◌≡◌, refl, sym, ap, ◌∙◌}
 use mathlib.Core.Bool.{Bool, true, false, ◌&&◌, ◌||◌, false≢true}
 use mathlib.Core.List.{List, [], ◌∷◌}
 use Prim.Native.Nat.{ℕ}
+use Rattle.std.specs.Prelude.{Option, None, Some, Result, Ok, Err}
 use native.Mathlib.Omega.{arith}
 use lib.Dec.{ltb, eqb}
 use lib.ListN.{length}
@@ -12,7 +13,7 @@ use Rattle.parts.specs.Bits.{is_set}
 use Rattle.parts.specs.Bytes.{bytes_at}
 use Rattle.crc.specs.Crc.{good_frame}
 use Rattle.air.specs.Radio.{is_quiet}
-use Rattle.parts.proofs.Picks.{pick_map, pick_same}
+use Rattle.parts.proofs.Picks.{pick_map}
 use Rattle.rule_list.specs.RuleList.{any_holds, first_says, NoneHolds}
 use Rattle.rule_list.proofs.Laws.{says_through, says_passes}
 use Rattle.rule_list.proofs.First.{by_none}
@@ -21,19 +22,19 @@ use Rattle.keys.specs.declared.Uid.{Uid}
 use Rattle.bus.specs.Bus.{transfer_at}
 use Rattle.tag.specs.declared.Tag.{Tag}
 use Rattle.signal_table.specs.declared.Signal.TheVariants.{Frame}
+use Rattle.errors.specs.declared.RadioError.{RadioError}
 use Rattle.errors.specs.Errors.{error_code}
 use Rattle.reply.specs.declared.RadioSide.{RadioSide}
 use Rattle.reply.specs.Reply.{nothing, good}
 use Rattle.reply.specs.Outcome.{CommandResult, command_result, radio_side}
-use Rattle.commands.specs.declared.CommandCode.{CommandCode}
-use Rattle.commands.specs.declared.CommandCode.TheVariants.{Unknown, Known}
+use Rattle.commands.specs.declared.CommandRow.{CommandRow}
 use Rattle.commands.specs.Table.{CodedRow, command_table, command_of, is_known}
 use Rattle.frame.specs.Fields.{command, inventory_flag}
 use Rattle.inventory.specs.Inventory.{is_malformed, slots_after, answers_now, takes_part, inventory_silent}
 use Rattle.inventory_reply.specs.Answers.{slots_left, is_heard, inventory_of}
 use Rattle.silence_rules.specs.Silence.{silence_holds, reception_silences, request_silences, is_silent}
 use Rattle.judge.specs.declared.Verdict.{Verdict}
-use Rattle.judge.specs.declared.Verdict.TheVariants.{Silence, Error, Request}
+use Rattle.judge.specs.declared.Verdict.TheVariants.{Silence, Error}
 use Rattle.judge.specs.Judge.{ErrorRule, is_mute, error_of, error_holds, rule_error, error_rules, first_error, judge}
 use Rattle.judge.proofs.Muted.{muted, judge_muted}
 use Rattle.request.specs.Request.{request_of}
@@ -46,7 +47,7 @@ use Rattle.explanation_rules.specs.Conditions.{dynamic_of, is_busy, rule_holds}
 use Rattle.explanation_rules.specs.Explanation.{frame_errors, request_rules, inventory_rules, frame_rules}
 use Rattle.explanation_rules.proofs.Frames.{on_request, error_append, list_parts, inventory_parts}
 use Rattle.explanation_claims.proofs.Laws.{same_says, heard_says}
-use Rattle.row_rules.specs.Claims.{Said, hushed, spoke, said_of, verdict_said}
+use Rattle.row_rules.specs.Claims.{Said, hushed, spoke, said_of, found_said}
 use Rattle.row_rules.proofs.Commands.{every_said}
 
 -- what the tag says by a rule; of a rule that is no frame's, anything
@@ -63,61 +64,59 @@ rule_said own_silence = hushed
 rule_said (failed error) = spoke (error_code error)
 
 -- ---- a request is a known command
-tag_of : Verdict → ℕ
-tag_of Silence = 0
-tag_of (Error error) = 1
-tag_of Request = 2
+tag_of : Result (Unit {0}) RadioError → ℕ
+tag_of (Ok w) = 0
+tag_of (Err error) = 1
 
-no_error : (rule : ErrorRule) → Error (rule_error rule) ≡ Request → ⊥
+no_error : (rule : ErrorRule) → ◌≡◌ {A = Result (Unit {0}) RadioError} (Err (rule_error rule)) (Ok tt) → ⊥
 unfolding tag_of
-no_error rule h = let e : ◌≡◌ {A = ℕ} 1 2 = ap tag_of h in omega arith
+no_error rule h = let e : ◌≡◌ {A = ℕ} 1 0 = ap tag_of h in omega arith
 
-known : (f : List ℕ) (dynamic : RfMngt) (busy : Bool) → first_error f dynamic busy ≡ Request → is_known (command_of (command f)) ≡ true
+known : (f : List ℕ) (dynamic : RfMngt) (busy : Bool) → first_error f dynamic busy ≡ Ok tt → is_known (command_of (command f)) ≡ true
 unfolding first_error error_holds error_rules NoneHolds
 known f dynamic busy h =
-    not-false _ ((by_none ErrorRule Verdict (error_holds f dynamic busy) (λ rule. Error (rule_error rule)) Request no_error error_rules).0 h).1.0
+    not-false _ ((by_none ErrorRule (Result (Unit {0}) RadioError) (error_holds f dynamic busy) (λ rule. Err (rule_error rule)) (Ok tt) no_error error_rules).0 h).1.0
 
 module _ (v : RadioSide) (u : Uid) (vcc : Bool) (m f : List ℕ) (dynamic : RfMngt) (busy : Bool) where
-  abbrev row : CommandCode → Verdict
+  abbrev row : Option CommandRow → Result (Unit {0}) RadioError
   row code = first_applying dynamic busy v f (row_errors code)
 
   -- ---- a request served
-  abbrev Served : CommandCode → Type 0
-  Served code = is_known code ≡ true → said_of (serve_code code (request_of f u) v vcc m f).reply ≡ pick (is_mute f u) hushed (verdict_said (row code))
+  abbrev Served : Option CommandRow → Type 0
+  Served code = is_known code ≡ true → said_of (serve_code code (request_of f u) v vcc m f).reply ≡ pick (is_mute f u) hushed (found_said (row code))
 
-  unknown_served : Served Unknown
+  unknown_served : Served None
   unfolding is_known
   unknown_served h = absurd (false≢true h)
 
-  known_served : (coded : CodedRow) → eqb (command f) coded.code ≡ true → differs coded ≡ false → Served (Known coded.row)
+  known_served : (coded : CodedRow) → eqb (command f) coded.code ≡ true → differs coded ≡ false → Served (Some coded.row)
   unfolding serve_code row_errors
   known_served coded h k _ = every_said dynamic busy v u vcc m f coded.row.command (sym (named (command f) coded h k))
 
   served : Served (command_of (command f))
   unfolding command_of
   served =
-      says_passes (λ (coded : CodedRow). eqb (command f) coded.code) differs (λ (coded : CodedRow). Known coded.row) Unknown Served command_table as_in_table
+      says_passes (λ (coded : CodedRow). eqb (command f) coded.code) differs (λ (coded : CodedRow). Some coded.row) None Served command_table as_in_table
       known_served unknown_served
 
   -- ---- the judge's verdict
   abbrev said : Verdict → Said
   said verdict = said_of (verdict_result verdict v u vcc m f).reply
 
-  said_error : (verdict : Verdict) → first_error f dynamic busy ≡ verdict
-      → said (muted f u verdict) ≡ pick (is_mute f u) hushed (verdict_said (on_request verdict (row (command_of (command f)))))
-  unfolding muted on_request error_of verdict_said verdict_result said_of serve_of pick
-  said_error Silence h = sym (pick_same (is_mute f u) hushed)
-  said_error (Error error) h = pick_map said (is_mute f u) Silence (Error error)
-  said_error Request h = served (known f dynamic busy h)
+  said_error : (found : Result (Unit {0}) RadioError) → first_error f dynamic busy ≡ found
+      → said (muted f u found) ≡ pick (is_mute f u) hushed (found_said (on_request found (row (command_of (command f)))))
+  unfolding muted on_request error_of found_said verdict_result said_of serve_of pick
+  said_error (Ok tt) h = served (known f dynamic busy h)
+  said_error (Err error) h = pick_map said (is_mute f u) Silence (Error error)
 
   pub judged : said (judge f v.air u dynamic busy)
-      ≡ pick (is_silent f v.air u dynamic) hushed (pick (is_mute f u) hushed (verdict_said (first_applying dynamic busy v f (frame_errors f))))
+      ≡ pick (is_silent f v.air u dynamic) hushed (pick (is_mute f u) hushed (found_said (first_applying dynamic busy v f (frame_errors f))))
   unfolding verdict_result said_of
   judged =
       ap said (judge_muted f v.air u dynamic busy)
       ∙ pick_map said (is_silent f v.air u dynamic) Silence (muted f u (first_error f dynamic busy))
       ∙ ap (pick (is_silent f v.air u dynamic) hushed)
-      (said_error (first_error f dynamic busy) refl ∙ ap (λ (verdict : Verdict). pick (is_mute f u) hushed (verdict_said verdict)) (sym (error_append dynamic busy v f)))
+      (said_error (first_error f dynamic busy) refl ∙ ap (λ (found : Result (Unit {0}) RadioError). pick (is_mute f u) hushed (found_said found)) (sym (error_append dynamic busy v f)))
 
 -- ---- the list
 module _ (t : Tag) (m f : List ℕ) where
@@ -125,14 +124,14 @@ module _ (t : Tag) (m f : List ℕ) where
   holds = rule_holds t m Frame f
 
   abbrev errors : Said
-  errors = verdict_said (first_applying (dynamic_of t) (is_busy t) (radio_side t) f (frame_errors f))
+  errors = found_said (first_applying (dynamic_of t) (is_busy t) (radio_side t) f (frame_errors f))
 
   list_says : first_says holds rule_said (spoke 0) (request_rules f) ≡ pick (is_silent f t.air t.uid (dynamic_of t)) hushed (pick (is_mute f t.uid) hushed errors)
-  unfolding rule_said is_silent first_applying verdict_said
+  unfolding rule_said is_silent first_applying found_said
   list_says =
       let silent-first = silence_holds f t.air t.uid (dynamic_of t) in
       list_parts t m f rule_said (spoke 0)
-      ∙ ap (λ (x : Said). first_says silent-first (λ rule. hushed) (pick (is_mute f t.uid) hushed x) request_silences) (sym (says_through verdict_said (error_applies (dynamic_of t) (is_busy t) (radio_side t) f) Error Request (frame_errors f)))
+      ∙ ap (λ (x : Said). first_says silent-first (λ rule. hushed) (pick (is_mute f t.uid) hushed x) request_silences) (sym (says_through found_said (error_applies (dynamic_of t) (is_busy t) (radio_side t) f) Err (Ok tt) (frame_errors f)))
       ∙ same_says silent-first hushed _ request_silences
 
   -- ---- an inventory frame

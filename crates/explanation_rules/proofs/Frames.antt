@@ -3,6 +3,7 @@ use mathlib.Core.Path.{◌≡◌, sym, ap, ◌∙◌}
 use mathlib.Core.Bool.{Bool, true, false, ◌&&◌}
 use mathlib.Core.List.{List, [], ◌∷◌, map}
 use Prim.Native.Nat.{ℕ}
+use Rattle.std.specs.Prelude.{Result, Ok, Err}
 use lib.Dec.{eqb}
 use Rattle.parts.specs.Pick.{pick}
 use Rattle.rule_list.specs.RuleList.{first_says}
@@ -17,26 +18,24 @@ use Rattle.reply.specs.declared.RadioSide.{RadioSide}
 use Rattle.reply.specs.Outcome.{radio_side}
 use Rattle.silence_rules.specs.Silence.{silence_holds, silence_number, reception_silences, request_silences, first_silence}
 use Rattle.silence_rules.proofs.Numbers.{numbered}
-use Rattle.judge.specs.declared.Verdict.{Verdict}
-use Rattle.judge.specs.declared.Verdict.TheVariants.{Silence, Error, Request}
+use Rattle.errors.specs.declared.RadioError.{RadioError}
 use Rattle.judge.specs.Judge.{is_mute, error_holds, rule_error, error_rules, first_error}
 use Rattle.row_rules.specs.RowErrors.{error_applies, row_errors, first_applying}
 use Rattle.rule_names.specs.Rules.{Rule, silent, inventory_silence, own_silence, failed, rule_number}
 use Rattle.explanation_rules.specs.Conditions.{dynamic_of, is_busy, rule_holds}
 use Rattle.explanation_rules.specs.Explanation.{frame_errors, request_rules, inventory_rules, frame_rules, rules_for, explained_by, unexplained, explained, explained_number}
-use Rattle.explanation_rules.specs.Numbers.{verdict_number}
+use Rattle.explanation_rules.specs.Numbers.{found_number}
 
 -- ---- the judge's error, else what follows
-unfoldable pub on_request : Verdict → Verdict → Verdict
-on_request Silence next = Silence
-on_request (Error error) next = Error error
-on_request Request next = next
+unfoldable pub on_request : Result (Unit {0}) RadioError → Result (Unit {0}) RadioError → Result (Unit {0}) RadioError
+on_request (Ok w) next = next
+on_request (Err error) next = Err error
 
 pub error_append : (dynamic : RfMngt) (busy : Bool) (v : RadioSide) (f : List ℕ)
     → first_applying dynamic busy v f (frame_errors f) ≡ on_request (first_error f dynamic busy) (first_applying dynamic busy v f (row_errors (command_of (command f))))
 unfolding first_says first_applying frame_errors first_error error_applies rule_error error_rules on_request
 error_append dynamic busy v f =
-    sym (says_through (λ (verdict : Verdict). on_request verdict (first_applying dynamic busy v f (row_errors (command_of (command f))))) (error_holds f dynamic busy) (λ rule. Error (rule_error rule)) Request error_rules)
+    sym (says_through (λ (found : Result (Unit {0}) RadioError). on_request found (first_applying dynamic busy v f (row_errors (command_of (command f))))) (error_holds f dynamic busy) (λ rule. Err (rule_error rule)) (Ok tt) error_rules)
 
 -- ---- the whole list, whatever its rules say
 module _ {A : Type 0} (t : Tag) (m f : List ℕ) (says : Rule → A) (last : A) where
@@ -78,16 +77,16 @@ module _ (t : Tag) (m f : List ℕ) where
       ∙ says_through explained_number (rule_holds t m Frame f) explained_by unexplained (flagged flag)
 
   abbrev errors : ℕ
-  errors = verdict_number (first_applying (dynamic_of t) (is_busy t) (radio_side t) f (frame_errors f))
+  errors = found_number (first_applying (dynamic_of t) (is_busy t) (radio_side t) f (frame_errors f))
 
   pub frame_number : inventory_flag f ≡ false → explained_number (explained t m Frame f)
       ≡ (let silence = first_silence f t.air t.uid (dynamic_of t) in pick (eqb silence 0) (pick (is_mute f t.uid) 32 errors) silence)
-  unfolding pick rule_number first_silence first_applying verdict_number
+  unfolding pick rule_number first_silence first_applying found_number
   frame_number h =
       let silent-first = silence_holds f t.air t.uid (dynamic_of t) in
       listed false h
       ∙ list_parts t m f rule_number 0
-      ∙ ap (λ (n : ℕ). first_says silent-first silence_number (pick (is_mute f t.uid) 32 n) request_silences) (sym (says_through verdict_number (error_applies (dynamic_of t) (is_busy t) (radio_side t) f) Error Request (frame_errors f)))
+      ∙ ap (λ (n : ℕ). first_says silent-first silence_number (pick (is_mute f t.uid) 32 n) request_silences) (sym (says_through found_number (error_applies (dynamic_of t) (is_busy t) (radio_side t) f) Err (Ok tt) (frame_errors f)))
       ∙ numbered_or silent-first silence_number numbered _ request_silences
 
   pub inventory_number : inventory_flag f ≡ true → explained_number (explained t m Frame f)

@@ -1,5 +1,5 @@
 -- "Frames, in the order they are judged": past the silence list.
-use Rattle.std.specs.Prelude.{Bool, not, ◌&&◌, ◌||◌, List, [], ◌∷◌, ℕ, ◌+◌, eqb}
+use Rattle.std.specs.Prelude.{Bool, not, ◌&&◌, ◌||◌, List, [], ◌∷◌, ℕ, ◌+◌, eqb, Result, Ok, Err}
 use Rattle.parts.specs.Pick.{pick}
 use Rattle.parts.specs.Bits.{is_set}
 use Rattle.register_types.specs.declared.RfMngt.{RfMngt}
@@ -58,9 +58,9 @@ rule_error hasWrongLength = WrongLength
 unfoldable pub error_rules : List ErrorRule
 error_rules = isShutOut ∷ isUnknown ∷ hasBadFlags ∷ hasWrongLength ∷ []
 
--- the error of the first that holds, or a request
-unfoldable pub first_error : List ℕ → RfMngt → Bool → Verdict
-first_error f dynamic busy = first_says (error_holds f dynamic busy) (λ rule. Error (rule_error rule)) Request error_rules
+-- the error of the first that holds, if one does
+unfoldable pub first_error : List ℕ → RfMngt → Bool → Result (Unit {0}) RadioError
+first_error f dynamic busy = first_says (error_holds f dynamic busy) (λ rule. Err (rule_error rule)) (Ok tt) error_rules
 
 -- the whole order: silence, the first error that holds, or a request
 unfoldable pub judge : List ℕ → Air → Uid → RfMngt → Bool → Verdict

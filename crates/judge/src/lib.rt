@@ -48,39 +48,36 @@ fn bad_flags(f: &[u8]) -> bool
     ensures { result ≡ bad_flags f.now }
 {
     let flags = parts::byte_at(f, 0);
-    let takes = commands::command_of(frame::command(f)).takes_option();
+    let takes = commands::takes_option(frame::command(f));
     (flags / 0x08 % 2 == 1) | (flags / 0x80 % 2 == 1) | ((flags / 0x40 % 2 == 1) & !takes)
 }
 
 fn wrong_length(f: &[u8]) -> bool
     ensures { result ≡ wrong_length f.now }
 {
-    let takes = commands::command_of(frame::command(f)).param_bytes(
-        frame::param(f, 0),
-        frame::param(f, 1),
-    );
+    let takes = commands::param_bytes(frame::command(f), frame::param(f, 0), frame::param(f, 1));
     let at = frame::param_place(f);
     let end = frame::crc_place(f);
-    !(at + takes == end)
+    at + takes != end
 }
 
 // The error of the first rule past the silence list that holds.
-pub fn first_error(f: &[u8], dynamic: RfMngt, busy: bool) -> Verdict
+pub fn first_error(f: &[u8], dynamic: RfMngt, busy: bool) -> Result<(), RadioError>
     ensures { result ≡ first_error f.now dynamic busy }
 {
     if (dynamic.bits / 1 % 2 == 1) | busy {
-        return Verdict::Error(RadioError::ShutOut);
+        return Err(RadioError::ShutOut);
     }
-    if !commands::command_of(frame::command(f)).is_known() {
-        return Verdict::Error(RadioError::UnknownCommand);
+    if !commands::is_known(frame::command(f)) {
+        return Err(RadioError::UnknownCommand);
     }
     if bad_flags(f) {
-        return Verdict::Error(RadioError::UnsupportedFlags);
+        return Err(RadioError::UnsupportedFlags);
     }
     if wrong_length(f) {
-        return Verdict::Error(RadioError::WrongLength);
+        return Err(RadioError::WrongLength);
     }
-    Verdict::Request
+    Ok(())
 }
 
 // The verdict on a frame.
@@ -91,8 +88,7 @@ pub fn judge(f: &[u8], a: Air, u: Uid, dynamic: RfMngt, busy: bool) -> Verdict
         return Verdict::Silence;
     }
     match first_error(f, dynamic, busy) {
-        Verdict::Silence => Verdict::Silence,
-        Verdict::Error(error) => error_of(f, u, error),
-        Verdict::Request => Verdict::Request,
+        Ok(()) => Verdict::Request,
+        Err(error) => error_of(f, u, error),
     }
 }

@@ -43,8 +43,8 @@ use Rattle.reply.specs.Reply.{nothing, good, fault}
 use Rattle.reply.specs.Outcome.{CommandResult, command_result, fails, with_air, side_mailbox}
 use Rattle.commands.specs.declared.Command.{Command}
 use Rattle.commands.specs.declared.Command.TheVariants.{StayQuiet, Select, ResetToReady, ReadSingleBlock, ReadMultipleBlocks, WriteSingleBlock, WriteMultipleBlocks, LockBlock, GetMultipleBlockSecurityStatus, ReadConfiguration, WriteConfiguration, ReadDynamicConfiguration, WriteDynamicConfiguration, WriteMessage, ReadMessageLength, ReadMessage, PresentPassword, WritePassword}
-use Rattle.commands.specs.declared.CommandCode.{CommandCode}
-use Rattle.commands.specs.declared.CommandCode.TheVariants.{Unknown, Known}
+use Rattle.commands.specs.declared.CommandRow.{CommandRow}
+use Rattle.std.specs.Prelude.{Option, None, Some}
 use Rattle.commands.specs.Table.{CodedRow, command_table, command_of}
 use Rattle.commands.proofs.Codes.{code_of, differs, as_in_table, named}
 use Rattle.frame.specs.Fields.{command, inventory_flag}
@@ -315,8 +315,8 @@ module _ (v : RadioSide) (vcc : Bool) (m f : List ℕ) where
   unfolding serve_of serve_code command_of code_of
   request_behaves u =
       let q = request_of f u in
-      says_passes (λ (coded : CodedRow). eqb (command f) coded.code) differs (λ (coded : CodedRow). Known coded.row) Unknown
-      (λ (c : CommandCode). F q (serve_code c q v vcc m f)) command_table as_in_table
+      says_passes (λ (coded : CodedRow). eqb (command f) coded.code) differs (λ (coded : CodedRow). Some coded.row) None
+      (λ (c : Option CommandRow). F q (serve_code c q v vcc m f)) command_table as_in_table
       (λ coded h k. presents_too _ _ q v vcc m f _ (λ e. sym (named (command f) coded h k) ∙ ap code_of e) (every_command q v vcc m f coded.row.command))
       (silence q)
 

@@ -4,13 +4,14 @@
 ghost use Rattle.std.specs.Prelude.{◌≡◌};
 ghost use Rattle.request.specs.Request.{request_of};
 
-use commands::CommandCode;
+use commands::CommandRow;
 use keys::Uid;
 
 // A frame's fields.
 #[derive(Clone, Copy)]
 pub struct RequestFields {
-    pub command: CommandCode,
+    // None: an unknown command.
+    pub command: Option<CommandRow>,
     // The first two bytes of its parameters.
     pub first: u8,
     pub second: u8,
@@ -27,7 +28,7 @@ pub fn fields(f: &[u8], u: Uid) -> RequestFields
     let at = frame::param_place(f);
     let command = commands::command_of(frame::command(f));
     RequestFields {
-        command: command,
+        command,
         first: frame::param(f, 0),
         second: frame::param(f, 1),
         option: frame::option(f),

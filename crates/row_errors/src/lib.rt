@@ -6,9 +6,8 @@ ghost use Rattle.register_types.specs.declared.RfMngt.{RfMngt};
 ghost use Rattle.errors.specs.declared.RadioError.TheVariants.{NoSuchBlock, NotLockable, AlreadyLocked, NoSuchRegister, ConfigurationClosed, EndRefused, NoSuchDynamicRegister, MailboxUnavailable, MailboxDisabled, PastMessage, NoSuchPassword, WrongPassword, PasswordSessionClosed};
 ghost use Rattle.row_rules.specs.RowErrors.{more_blocks, read_errors, write_errors, command_errors, row_errors, first_applying};
 
-use commands::{Command, CommandCode};
+use commands::{Command, CommandRow};
 use errors::RadioError;
-use judge::Verdict;
 use keys::Password;
 use reply::RadioSide;
 use rights::Side;
@@ -25,7 +24,7 @@ fn more_blocks(f: &[u8]) -> u8
 }
 
 // 20 and 23.
-fn read_error(v: RadioSide, f: &[u8]) -> Verdict
+fn read_error(v: RadioSide, f: &[u8]) -> Result<(), RadioError>
     ensures { (dynamic : RfMngt) (busy : Bool) → result ≡ first_applying dynamic busy v f.now read_errors }
 {
     let first = frame::param(f, 0) as u16;
@@ -33,19 +32,19 @@ fn read_error(v: RadioSide, f: &[u8]) -> Verdict
     let r = v.core.registers;
     let session = v.air.session;
     if tag::BLOCKS <= first {
-        return Verdict::Error(RadioError::NoSuchBlock);
+        return Err(RadioError::NoSuchBlock);
     }
     if blocks::leaves_area(r.ends, first, last) {
-        return Verdict::Error(RadioError::ReadLeavesArea);
+        return Err(RadioError::ReadLeavesArea);
     }
     if !rights::may_read(r, Side::Radio(session), first) {
-        return Verdict::Error(RadioError::ReadProtected);
+        return Err(RadioError::ReadProtected);
     }
-    Verdict::Request
+    Ok(())
 }
 
 // 21 and 24.
-fn write_error(v: RadioSide, m: &[u8], f: &[u8]) -> Verdict
+fn write_error(v: RadioSide, m: &[u8], f: &[u8]) -> Result<(), RadioError>
     ensures { (dynamic : RfMngt) (busy : Bool) → result ≡ first_applying dynamic busy v f.now write_errors }
 {
     let first = frame::param(f, 0);
@@ -53,58 +52,58 @@ fn write_error(v: RadioSide, m: &[u8], f: &[u8]) -> Verdict
     let last = first as u16 + more as u16;
     let ends = v.core.registers.ends;
     if 3 < more {
-        return Verdict::Error(RadioError::TooManyBlocks);
+        return Err(RadioError::TooManyBlocks);
     }
     if tag::BLOCKS <= first as u16 {
-        return Verdict::Error(RadioError::NoSuchBlock);
+        return Err(RadioError::NoSuchBlock);
     }
     if blocks::leaves_area(ends, first as u16, last) {
-        return Verdict::Error(RadioError::WriteLeavesArea);
+        return Err(RadioError::WriteLeavesArea);
     }
     if !block_writes::all_allowed(v.core, m, v.air.session, first, more) {
-        return Verdict::Error(RadioError::WriteForbidden);
+        return Err(RadioError::WriteForbidden);
     }
-    Verdict::Request
+    Ok(())
 }
 
 // 22.
-fn lock_error(v: RadioSide, f: &[u8]) -> Verdict
+fn lock_error(v: RadioSide, f: &[u8]) -> Result<(), RadioError>
     ensures { (dynamic : RfMngt) (busy : Bool) → result ≡ first_applying dynamic busy v f.now (NotLockable ∷ AlreadyLocked ∷ []) }
 {
     let block = frame::param(f, 0);
     let lock = v.core.registers.ccfile;
     if 1 < block {
-        return Verdict::Error(RadioError::NotLockable);
+        return Err(RadioError::NotLockable);
     }
     if rights::is_locked(lock, block as u16) {
-        return Verdict::Error(RadioError::AlreadyLocked);
+        return Err(RadioError::AlreadyLocked);
     }
-    Verdict::Request
+    Ok(())
 }
 
 // 2C.
-fn status_error(v: RadioSide, f: &[u8]) -> Verdict
+fn status_error(v: RadioSide, f: &[u8]) -> Result<(), RadioError>
     ensures { (dynamic : RfMngt) (busy : Bool) → result ≡ first_applying dynamic busy v f.now (NoSuchBlock ∷ []) }
 {
     if tag::BLOCKS <= frame::param(f, 0) as u16 {
-        return Verdict::Error(RadioError::NoSuchBlock);
+        return Err(RadioError::NoSuchBlock);
     }
-    Verdict::Request
+    Ok(())
 }
 
 // A0.
-fn read_config_error(v: RadioSide, f: &[u8]) -> Verdict
+fn read_config_error(v: RadioSide, f: &[u8]) -> Result<(), RadioError>
     ensures { (dynamic : RfMngt) (busy : Bool) → result ≡ first_applying dynamic busy v f.now (NoSuchRegister ∷ []) }
 {
     let row = register_table::row_of(frame::param(f, 0) as u32);
     if !row.radio {
-        return Verdict::Error(RadioError::NoSuchRegister);
+        return Err(RadioError::NoSuchRegister);
     }
-    Verdict::Request
+    Ok(())
 }
 
 // A1.
-fn write_config_error(v: RadioSide, f: &[u8]) -> Verdict
+fn write_config_error(v: RadioSide, f: &[u8]) -> Result<(), RadioError>
     ensures { (dynamic : RfMngt) (busy : Bool) → result ≡ first_applying dynamic busy v f.now (NoSuchRegister ∷ ConfigurationClosed ∷ EndRefused ∷ []) }
 {
     let pointer = frame::param(f, 0) as u32;
@@ -112,103 +111,103 @@ fn write_config_error(v: RadioSide, f: &[u8]) -> Verdict
     let ends = v.core.registers.ends;
     let lock = v.core.registers.config;
     if !row.radio {
-        return Verdict::Error(RadioError::NoSuchRegister);
+        return Err(RadioError::NoSuchRegister);
     }
     if (lock.bits / 1 % 2 == 1) | (v.air.session != 1) {
-        return Verdict::Error(RadioError::ConfigurationClosed);
+        return Err(RadioError::ConfigurationClosed);
     }
     if !areas::end_allows(ends, pointer, frame::param(f, 1)) {
-        return Verdict::Error(RadioError::EndRefused);
+        return Err(RadioError::EndRefused);
     }
-    Verdict::Request
+    Ok(())
 }
 
 // AD and AE.
-fn dynamic_error(v: RadioSide, f: &[u8]) -> Verdict
+fn dynamic_error(v: RadioSide, f: &[u8]) -> Result<(), RadioError>
     ensures { (dynamic : RfMngt) (busy : Bool) → result ≡ first_applying dynamic busy v f.now (NoSuchDynamicRegister ∷ []) }
 {
     if frame::param(f, 0) != dynamic::MB_CTRL_POINTER {
-        return Verdict::Error(RadioError::NoSuchDynamicRegister);
+        return Err(RadioError::NoSuchDynamicRegister);
     }
-    Verdict::Request
+    Ok(())
 }
 
 // AA.
-fn write_message_error(v: RadioSide, f: &[u8]) -> Verdict
+fn write_message_error(v: RadioSide, f: &[u8]) -> Result<(), RadioError>
     ensures { (dynamic : RfMngt) (busy : Bool) → result ≡ first_applying dynamic busy v f.now (MailboxUnavailable ∷ []) }
 {
     let mailbox = v.core.mailbox;
     if !message_writes::takes_message(mailbox) {
-        return Verdict::Error(RadioError::MailboxUnavailable);
+        return Err(RadioError::MailboxUnavailable);
     }
-    Verdict::Request
+    Ok(())
 }
 
 // AB.
-fn length_error(v: RadioSide, f: &[u8]) -> Verdict
+fn length_error(v: RadioSide, f: &[u8]) -> Result<(), RadioError>
     ensures { (dynamic : RfMngt) (busy : Bool) → result ≡ first_applying dynamic busy v f.now (MailboxDisabled ∷ []) }
 {
     let mailbox = v.core.mailbox;
     if !mailbox.enabled {
-        return Verdict::Error(RadioError::MailboxDisabled);
+        return Err(RadioError::MailboxDisabled);
     }
-    Verdict::Request
+    Ok(())
 }
 
 // AC.
-fn read_message_error(v: RadioSide, f: &[u8]) -> Verdict
+fn read_message_error(v: RadioSide, f: &[u8]) -> Result<(), RadioError>
     ensures { (dynamic : RfMngt) (busy : Bool) → result ≡ first_applying dynamic busy v f.now (MailboxDisabled ∷ PastMessage ∷ []) }
 {
     let mailbox = v.core.mailbox;
     let pointer = frame::param(f, 0);
     let end = pointer as u32 + message::asked(mailbox, pointer, frame::param(f, 1)) as u32;
     if !mailbox.enabled {
-        return Verdict::Error(RadioError::MailboxDisabled);
+        return Err(RadioError::MailboxDisabled);
     }
     if ((mailbox.length as u32) < end) | (mailbox.length == 0) {
-        return Verdict::Error(RadioError::PastMessage);
+        return Err(RadioError::PastMessage);
     }
-    Verdict::Request
+    Ok(())
 }
 
 // B3.
-fn present_error(v: RadioSide, f: &[u8]) -> Verdict
+fn present_error(v: RadioSide, f: &[u8]) -> Result<(), RadioError>
     ensures { (dynamic : RfMngt) (busy : Bool) → result ≡ first_applying dynamic busy v f.now (NoSuchPassword ∷ WrongPassword ∷ []) }
 {
     let n = frame::param(f, 0);
     let at = frame::param_place(f);
     let passwords = v.core.passwords;
     if 3 < n {
-        return Verdict::Error(RadioError::NoSuchPassword);
+        return Err(RadioError::NoSuchPassword);
     }
     if !passwords.radio(n).equals(Password::at(f, at + 1)) {
-        return Verdict::Error(RadioError::WrongPassword);
+        return Err(RadioError::WrongPassword);
     }
-    Verdict::Request
+    Ok(())
 }
 
 // B1.
-fn write_password_error(v: RadioSide, f: &[u8]) -> Verdict
+fn write_password_error(v: RadioSide, f: &[u8]) -> Result<(), RadioError>
     ensures { (dynamic : RfMngt) (busy : Bool) → result ≡ first_applying dynamic busy v f.now (NoSuchPassword ∷ PasswordSessionClosed ∷ []) }
 {
     let n = frame::param(f, 0);
     if 3 < n {
-        return Verdict::Error(RadioError::NoSuchPassword);
+        return Err(RadioError::NoSuchPassword);
     }
     if v.air.session != n + 1 {
-        return Verdict::Error(RadioError::PasswordSessionClosed);
+        return Err(RadioError::PasswordSessionClosed);
     }
-    Verdict::Request
+    Ok(())
 }
 
 // Of a command.
-fn command_error(command: Command, v: RadioSide, m: &[u8], f: &[u8]) -> Verdict
+fn command_error(command: Command, v: RadioSide, m: &[u8], f: &[u8]) -> Result<(), RadioError>
     ensures { (dynamic : RfMngt) (busy : Bool) → result ≡ first_applying dynamic busy v f.now (command_errors command) }
 {
     match command {
-        Command::StayQuiet => Verdict::Request,
-        Command::Select => Verdict::Request,
-        Command::ResetToReady => Verdict::Request,
+        Command::StayQuiet => Ok(()),
+        Command::Select => Ok(()),
+        Command::ResetToReady => Ok(()),
         Command::ReadSingleBlock => read_error(v, f),
         Command::ReadMultipleBlocks => read_error(v, f),
         Command::WriteSingleBlock => write_error(v, m, f),
@@ -227,15 +226,17 @@ fn command_error(command: Command, v: RadioSide, m: &[u8], f: &[u8]) -> Verdict
     }
 }
 
-// Of a command code; an unknown one has no row.
-pub fn row_error(code: CommandCode, v: RadioSide, m: &[u8], f: &[u8]) -> Verdict
+// Of what a command code stands for; an unknown one has no row.
+pub fn row_error(
+    code: Option<CommandRow>,
+    v: RadioSide,
+    m: &[u8],
+    f: &[u8],
+) -> Result<(), RadioError>
     ensures { (dynamic : RfMngt) (busy : Bool) → result ≡ first_applying dynamic busy v f.now (row_errors code) }
 {
     match code {
-        CommandCode::Unknown => Verdict::Request,
-        CommandCode::Known(row) => {
-            let command = row.command;
-            command_error(command, v, m, f)
-        }
+        None => Ok(()),
+        Some(row) => command_error(row.command, v, m, f),
     }
 }

@@ -1,5 +1,5 @@
 -- The errors of 01's table of commands, row by row: the condition of each, by itself, and the order of a row.
-use Rattle.std.specs.Prelude.{Bool, not, ◌||◌, List, [], ◌∷◌, ℕ, ◌+◌, leb, ltb, eqb}
+use Rattle.std.specs.Prelude.{Bool, not, ◌||◌, List, [], ◌∷◌, ℕ, ◌+◌, leb, ltb, eqb, Option, None, Some, Result, Ok, Err}
 use Rattle.parts.specs.Pick.{pick}
 use Rattle.parts.specs.Bits.{is_set}
 use Rattle.rule_list.specs.RuleList.{first_says}
@@ -16,11 +16,8 @@ use Rattle.errors.specs.declared.RadioError.TheVariants.{ShutOut, UnknownCommand
 use Rattle.reply.specs.declared.RadioSide.{RadioSide}
 use Rattle.commands.specs.declared.Command.{Command}
 use Rattle.commands.specs.declared.Command.TheVariants.{StayQuiet, Select, ResetToReady, ReadSingleBlock, ReadMultipleBlocks, WriteSingleBlock, WriteMultipleBlocks, LockBlock, GetMultipleBlockSecurityStatus, ReadConfiguration, WriteConfiguration, ReadDynamicConfiguration, WriteDynamicConfiguration, WriteMessage, ReadMessageLength, ReadMessage, PresentPassword, WritePassword}
-use Rattle.commands.specs.declared.CommandCode.{CommandCode}
-use Rattle.commands.specs.declared.CommandCode.TheVariants.{Unknown, Known}
+use Rattle.commands.specs.declared.CommandRow.{CommandRow}
 use Rattle.frame.specs.Fields.{command, param_place, param}
-use Rattle.judge.specs.declared.Verdict.{Verdict}
-use Rattle.judge.specs.declared.Verdict.TheVariants.{Error, Request}
 use Rattle.judge.specs.Judge.{error_holds, isShutOut, isUnknown, hasBadFlags, hasWrongLength}
 use Rattle.blocks.specs.Blocks.{leaves_area}
 use Rattle.serve.specs.Passed.{may_write_all}
@@ -110,10 +107,10 @@ command_errors ReadMessage = MailboxDisabled ∷ PastMessage ∷ []
 command_errors PresentPassword = NoSuchPassword ∷ WrongPassword ∷ []
 command_errors WritePassword = NoSuchPassword ∷ PasswordSessionClosed ∷ []
 
-unfoldable pub row_errors : CommandCode → List RadioError
-row_errors Unknown = []
-row_errors (Known row) = command_errors row.command
+unfoldable pub row_errors : Option CommandRow → List RadioError
+row_errors None = []
+row_errors (Some row) = command_errors row.command
 
 -- the first of a list that applies, or none
-unfoldable pub first_applying : RfMngt → Bool → RadioSide → List ℕ → List RadioError → Verdict
-first_applying dynamic busy v f errors = first_says (error_applies dynamic busy v f) Error Request errors
+unfoldable pub first_applying : RfMngt → Bool → RadioSide → List ℕ → List RadioError → Result (Unit {0}) RadioError
+first_applying dynamic busy v f errors = first_says (error_applies dynamic busy v f) Err (Ok tt) errors

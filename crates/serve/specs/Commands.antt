@@ -1,12 +1,11 @@
 -- What each command says and leaves. They are defined where their crates are: blocks, block_status, block_writes, config, dynamic_config, message_writes, message, password, radio_state.
-use Rattle.std.specs.Prelude.{Bool, List, ℕ, ◌+◌}
+use Rattle.std.specs.Prelude.{Bool, List, ℕ, ◌+◌, Option, None, Some}
 use Rattle.reply.specs.declared.RadioSide.{RadioSide}
 use Rattle.reply.specs.Reply.{nothing}
 use Rattle.reply.specs.Outcome.{CommandResult, command_result}
 use Rattle.commands.specs.declared.Command.{Command}
 use Rattle.commands.specs.declared.Command.TheVariants.{StayQuiet, Select, ResetToReady, ReadSingleBlock, ReadMultipleBlocks, WriteSingleBlock, WriteMultipleBlocks, LockBlock, GetMultipleBlockSecurityStatus, ReadConfiguration, WriteConfiguration, ReadDynamicConfiguration, WriteDynamicConfiguration, WriteMessage, ReadMessageLength, ReadMessage, PresentPassword, WritePassword}
-use Rattle.commands.specs.declared.CommandCode.{CommandCode}
-use Rattle.commands.specs.declared.CommandCode.TheVariants.{Unknown, Known}
+use Rattle.commands.specs.declared.CommandRow.{CommandRow}
 use Rattle.blocks.specs.Blocks.{read_of}
 use Rattle.block_status.specs.Status.{status_reply}
 use Rattle.block_writes.specs.Writes.{write_of, lock_of}
@@ -44,9 +43,9 @@ serve_command ReadMessage q v vcc m f = read_message_of v m q.first q.second
 serve_command PresentPassword q v vcc m f = present_of v m q.first f (q.at + 1)
 serve_command WritePassword q v vcc m f = write_password_of v m q.first f (q.at + 1)
 
-unfoldable pub serve_code : CommandCode → RequestFields → RadioSide → Bool → List ℕ → List ℕ → CommandResult
-serve_code Unknown q v vcc m f = command_result nothing v m
-serve_code (Known row) q v vcc m f = serve_command row.command q v vcc m f
+unfoldable pub serve_code : Option CommandRow → RequestFields → RadioSide → Bool → List ℕ → List ℕ → CommandResult
+serve_code None q v vcc m f = command_result nothing v m
+serve_code (Some row) q v vcc m f = serve_command row.command q v vcc m f
 
 -- a request served; no unknown command is one
 unfoldable pub serve_of : RequestFields → RadioSide → Bool → List ℕ → List ℕ → CommandResult

@@ -5,7 +5,7 @@ ghost use Rattle.std.specs.Prelude.{◌≡◌};
 ghost use Rattle.reply.specs.Outcome.{radio_result, finish};
 ghost use Rattle.serve.specs.Commands.{serve_command, serve_of};
 
-use commands::{Command, CommandCode};
+use commands::Command;
 use reply::{RadioAnswer, RadioOutcome, RadioSide};
 use request::RequestFields;
 
@@ -59,15 +59,11 @@ pub fn serve(
 ) -> RadioOutcome
     ensures { radio_result result m.new out.new ≡ finish (serve_of q v vcc m.old f.now) out.old }
 {
-    let code = q.command;
-    match code {
-        CommandCode::Unknown => RadioOutcome {
+    match q.command {
+        None => RadioOutcome {
             answer: RadioAnswer::Silence,
             side: v,
         },
-        CommandCode::Known(row) => {
-            let command = row.command;
-            serve_command(command, q, v, vcc, m, out, f)
-        }
+        Some(row) => serve_command(row.command, q, v, vcc, m, out, f),
     }
 }

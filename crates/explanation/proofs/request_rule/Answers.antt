@@ -1,6 +1,8 @@
+use Rattle.std.proofs.Common.{rules}
 use borrow.Author.Tests.{eq-eqb, ne_eqb}
 use Rattle.parts.specs.Pick.{pick}
 use Rattle.explanation_rules.proofs.Frames.{frame_number}
+use Rattle.explanation_rules.specs.Numbers.{found_number}
 use Rattle.explanation.proofs.request_rule.Goals as goal
 
 pub returns-then-silent-ne0 : goal.returns-then-silent-ne0
@@ -16,7 +18,7 @@ returns-then-is_mute c plain =
     rw (frame_number a.t a.m.now a.f.now plain, ← c.transfer_at-transfer.ensures, ← c.counted_dynamic-dynamic.ensures, ← c.is_open_transfer.ensures, ← c.first_silence-silent.ensures, eq-eqb _ 0 c.if-silent-ne0.false, ← c.is_mute.ensures, c.if-is_mute.true)
 
 pub returns : goal.returns
-unfolding pick
+unfolding pick found_number
 returns c plain =
     let a = c.args in
-    rw (frame_number a.t a.m.now a.f.now plain, ← c.transfer_at-transfer.ensures, ← c.counted_dynamic-dynamic.ensures, ← c.is_open_transfer.ensures, ← c.first_silence-silent.ensures, eq-eqb _ 0 c.if-silent-ne0.false, ← c.is_mute.ensures, c.if-is_mute.false, ← c.frame_error.ensures) c.verdict_number.ensures
+    rw (frame_number a.t a.m.now a.f.now plain, ← c.transfer_at-transfer.ensures, ← c.counted_dynamic-dynamic.ensures, ← c.is_open_transfer.ensures, ← c.first_silence-silent.ensures, eq-eqb _ 0 c.if-silent-ne0.false, ← c.is_mute.ensures, c.if-is_mute.false, ← c.frame_error.ensures) (search rules)

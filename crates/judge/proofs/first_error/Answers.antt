@@ -10,19 +10,19 @@ returns-then-dynamic-busy c = search picks depth 20
 pub returns-then-not-is_known : goal.returns-then-not-is_known
 unfolding first_says error_holds rule_error error_rules first_error
 returns-then-not-is_known c =
-    rw (← c.command.ensures, ← c.command_of.ensures, ← c.is_known.ensures) (search picks depth 20)
+    rw (← c.command.ensures, ← c.is_known.ensures) (search picks depth 20)
 
 pub returns-then-bad_flags : goal.returns-then-bad_flags
 unfolding first_says error_holds rule_error error_rules first_error
 returns-then-bad_flags c =
-    rw (← c.bad_flags.ensures, ← c.command.ensures, ← c.command_of.ensures, ← c.is_known.ensures) (search picks depth 20)
+    rw (← c.bad_flags.ensures, ← c.command.ensures, ← c.is_known.ensures) (search picks depth 20)
 
 pub returns-then-wrong_length : goal.returns-then-wrong_length
 unfolding first_says error_holds rule_error error_rules first_error
 returns-then-wrong_length c =
-    rw (← c.wrong_length.ensures, ← c.bad_flags.ensures, ← c.command.ensures, ← c.command_of.ensures, ← c.is_known.ensures) (search picks depth 20)
+    rw (← c.wrong_length.ensures, ← c.bad_flags.ensures, ← c.command.ensures, ← c.is_known.ensures) (search picks depth 20)
 
 pub returns : goal.returns
 unfolding first_says error_holds rule_error error_rules first_error
 returns c =
-    rw (← c.wrong_length.ensures, ← c.bad_flags.ensures, ← c.command.ensures, ← c.command_of.ensures, ← c.is_known.ensures) (search picks depth 20)
+    rw (← c.wrong_length.ensures, ← c.bad_flags.ensures, ← c.command.ensures, ← c.is_known.ensures) (search picks depth 20)

@@ -7,17 +7,12 @@ pub returns-then-is_silent : goal.returns-then-is_silent
 returns-then-is_silent c =
     rw (judge_muted, ← c.is_silent.ensures) (search picks depth 20)
 
-pub returns-in-Silence : goal.returns-in-Silence
+pub returns-in-Err : goal.returns-in-Err
 unfolding muted pick
-returns-in-Silence c =
-    rw (judge_muted, ← c.is_silent.ensures, c.if-is_silent.false, ← c.first_error.ensures, c.in-Silence.is)
+returns-in-Err c =
+    rw (judge_muted, ← c.is_silent.ensures, c.if-is_silent.false, ← c.first_error.ensures, c.in-Err.is, c.error_of.ensures)
 
-pub returns-in-Error : goal.returns-in-Error
+pub returns-in-Ok : goal.returns-in-Ok
 unfolding muted pick
-returns-in-Error c =
-    rw (judge_muted, ← c.is_silent.ensures, c.if-is_silent.false, ← c.first_error.ensures, c.in-Error.is, c.error_of.ensures)
-
-pub returns-in-Request : goal.returns-in-Request
-unfolding muted pick
-returns-in-Request c =
-    rw (judge_muted, ← c.is_silent.ensures, c.if-is_silent.false, ← c.first_error.ensures, c.in-Request.is)
+returns-in-Ok c =
+    rw (judge_muted, ← c.is_silent.ensures, c.if-is_silent.false, ← c.first_error.ensures, c.in-Ok.is)

@@ -3,13 +3,13 @@ use Rattle.serve.specs.Commands.{serve_code, serve_of}
 use Rattle.serve.proofs.Rows.{known_row}
 use Rattle.serve.proofs.serve.Goals as goal
 
-pub returns-in-Unknown : goal.returns-in-Unknown
+pub returns-in-None : goal.returns-in-None
 unfolding serve_code serve_of
-returns-in-Unknown c =
+returns-in-None c =
     let a = c.args in
-    silent (serve_of a.q a.v a.vcc a.m.now a.f.now) (rw c.in-Unknown.is)
+    silent (serve_of a.q a.v a.vcc a.m.now a.f.now) (rw c.in-None.is)
 
-pub returns-in-Known : goal.returns-in-Known
-returns-in-Known c =
+pub returns-in-Some : goal.returns-in-Some
+returns-in-Some c =
     let a = c.args in
-    rw (known_row a.q a.v a.vcc a.m.now a.f.now _ c.in-Known.is) c.serve_command.ensures
+    rw (known_row a.q a.v a.vcc a.m.now a.f.now _ c.in-Some.is) c.serve_command.ensures

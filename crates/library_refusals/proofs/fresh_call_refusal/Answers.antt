@@ -13,7 +13,7 @@ returns-then-s-ne-STATE_BYTES c =
     let a = c.args in
     let first = fresh_rules a.m.now in
     let rest = state_rule a.s.now ∷ uid_rule a.uid.now ∷ [] in
-    rw (append_none first rest (sym c.fresh_refusal-first.ensures ∙ c.in-NoRefusal.is)) (search picks depth 20)
+    rw (append_none first rest (sym c.fresh_refusal-first.ensures ∙ c.in-Ok.is)) (search picks depth 20)
 
 pub returns-then-uid-ne8 : goal.returns-then-uid-ne8
 unfolding judgement first_says
@@ -21,14 +21,14 @@ returns-then-uid-ne8 c =
     let a = c.args in
     let first = fresh_rules a.m.now in
     let rest = state_rule a.s.now ∷ uid_rule a.uid.now ∷ [] in
-    rw (append_none first rest (sym c.fresh_refusal-first.ensures ∙ c.in-NoRefusal.is)) (search picks depth 20)
+    rw (append_none first rest (sym c.fresh_refusal-first.ensures ∙ c.in-Ok.is)) (search picks depth 20)
 
-pub returns-in-RefusedBy : goal.returns-in-RefusedBy
-returns-in-RefusedBy c =
+pub returns-in-Err : goal.returns-in-Err
+returns-in-Err c =
     let a = c.args in
     let first = fresh_rules a.m.now in
     let rest = state_rule a.s.now ∷ uid_rule a.uid.now ∷ [] in
-    sym (append_refused first rest _ (sym c.fresh_refusal-first.ensures ∙ c.in-RefusedBy.is))
+    sym (append_refused first rest _ (sym c.fresh_refusal-first.ensures ∙ c.in-Err.is))
 
 pub returns-else-uid-ne8 : goal.returns-else-uid-ne8
 unfolding judgement first_says
@@ -36,4 +36,4 @@ returns-else-uid-ne8 c =
     let a = c.args in
     let first = fresh_rules a.m.now in
     let rest = state_rule a.s.now ∷ uid_rule a.uid.now ∷ [] in
-    rw (append_none first rest (sym c.fresh_refusal-first.ensures ∙ c.in-NoRefusal.is)) (search picks depth 20)
+    rw (append_none first rest (sym c.fresh_refusal-first.ensures ∙ c.in-Ok.is)) (search picks depth 20)

@@ -14,7 +14,7 @@ returns-then-s-ne-STATE_BYTES c =
     let a = c.args in
     let first = call_rules a.m.now (handed_in a.out.now a.code a.value a.frame.now) in
     let rest = state_rule a.s.now ∷ decodes_rule a.s.now ∷ [] in
-    rw (append_none first rest (sym c.call_refusal-first.ensures ∙ c.in-NoRefusal.is)) (search picks depth 20)
+    rw (append_none first rest (sym c.call_refusal-first.ensures ∙ c.in-Ok.is)) (search picks depth 20)
 
 pub returns-then-not-decodes : goal.returns-then-not-decodes
 unfolding judgement first_says
@@ -22,14 +22,14 @@ returns-then-not-decodes c =
     let a = c.args in
     let first = call_rules a.m.now (handed_in a.out.now a.code a.value a.frame.now) in
     let rest = state_rule a.s.now ∷ decodes_rule a.s.now ∷ [] in
-    rw (append_none first rest (sym c.call_refusal-first.ensures ∙ c.in-NoRefusal.is), ← c.decodes.ensures) (search picks depth 20)
+    rw (append_none first rest (sym c.call_refusal-first.ensures ∙ c.in-Ok.is), ← c.decodes.ensures) (search picks depth 20)
 
-pub returns-in-RefusedBy : goal.returns-in-RefusedBy
-returns-in-RefusedBy c =
+pub returns-in-Err : goal.returns-in-Err
+returns-in-Err c =
     let a = c.args in
     let first = call_rules a.m.now (handed_in a.out.now a.code a.value a.frame.now) in
     let rest = state_rule a.s.now ∷ decodes_rule a.s.now ∷ [] in
-    sym (append_refused first rest _ (sym c.call_refusal-first.ensures ∙ c.in-RefusedBy.is))
+    sym (append_refused first rest _ (sym c.call_refusal-first.ensures ∙ c.in-Err.is))
 
 pub returns-else-not-decodes : goal.returns-else-not-decodes
 unfolding judgement first_says
@@ -37,4 +37,4 @@ returns-else-not-decodes c =
     let a = c.args in
     let first = call_rules a.m.now (handed_in a.out.now a.code a.value a.frame.now) in
     let rest = state_rule a.s.now ∷ decodes_rule a.s.now ∷ [] in
-    rw (append_none first rest (sym c.call_refusal-first.ensures ∙ c.in-NoRefusal.is), ← c.decodes.ensures) (search picks depth 20)
+    rw (append_none first rest (sym c.call_refusal-first.ensures ∙ c.in-Ok.is), ← c.decodes.ensures) (search picks depth 20)

@@ -124,14 +124,7 @@ fn by_end_of_frame(t: Tag, m: &[u8], out: &mut [u8], frame: &[u8]) -> Outcome
     };
     let bus = t.host.bus;
     let transfer = bus::transfer_at(bus);
-    let o = radio::end_of_frame(
-        before,
-        t.uid,
-        transfer,
-        t.host.programming,
-        m,
-        out,
-    );
+    let o = radio::end_of_frame(before, t.uid, transfer, t.host.programming, m, out);
     Outcome {
         answer: from_radio(o.answer),
         tag: Tag {

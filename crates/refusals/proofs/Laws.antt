@@ -3,7 +3,8 @@ use mathlib.Core.Path.{◌≡◌, refl, sym, ap, ◌∙◌}
 use mathlib.Core.Bool.{Bool, true, false, false≢true}
 use mathlib.Core.List.{List, [], ◌∷◌, ◌++◌}
 use lib.Dec.{eqb}
-use Rattle.std.specs.Prelude.{Ok, Err}
+use Rattle.std.specs.Prelude.{Ok, Err, IsErrAnd}
+use Rattle.std.proofs.lemmas.Result.{err_from_is_err_and}
 use Rattle.parts.specs.Pick.{pick}
 use Rattle.parts.proofs.Picks.{pick_case}
 use Rattle.rule_list.specs.RuleList.{any_holds, first_says}
@@ -44,6 +45,10 @@ append_none rs qs h = judgement_append rs qs ∙ ap (λ (j : Judgement). unless_
 pub append_refused : (rs qs : List RefusalRule) (r : Refusal) → judgement rs ≡ Err r → judgement (rs ++ qs) ≡ Err r
 unfolding unless_refused
 append_refused rs qs r h = judgement_append rs qs ∙ ap (λ (j : Judgement). unless_refused j Err (judgement qs)) h
+
+-- what `?` gives where the first rules refuse
+pub refused_first : (rs qs : List RefusalRule) (r : Refusal) (j : Judgement) → IsErrAnd j (λ e. e ≡ r) → judgement rs ≡ Err r → j ≡ judgement (rs ++ qs)
+refused_first rs qs r j given h = let p = err_from_is_err_and j given in p.1 ∙ ap Err p.2 ∙ sym (append_refused rs qs r h)
 
 -- ---- no refusal, exactly where no rule applies
 unfoldable pub NoneApplies : List RefusalRule → Type 0

@@ -2,7 +2,6 @@ use mathlib.Core.Path.{sym, ◌∙◌}
 use Rattle.refusals.specs.Refusals.{unless_refused}
 use Rattle.model.specs.Step.{fresh_of}
 use Rattle.model.proofs.Acts.{fresh_size}
-use Rattle.model.proofs.Clear.{cleared}
 use Rattle.model.proofs.fresh.Goals as goal
 
 pub returns-in-Err : goal.returns-in-Err
@@ -15,4 +14,4 @@ unfolding fresh_of unless_refused
 returns-in-Ok c =
     let m = c.args.m.now in
     let none = sym c.fresh_refusal.ensures ∙ c.in-Ok.is in
-    rw (c.put_bytes.ensures, c.fresh-t.ensures, cleared m (fresh_size m none), none)
+    rw (none, c.fill.ensures.after (λ y same. same), fresh_size m none, c.fresh-t.ensures)

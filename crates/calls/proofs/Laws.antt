@@ -3,12 +3,13 @@ use mathlib.Core.Path.{◌≡◌, refl, sym, ap, subst, ◌∙◌}
 use mathlib.Core.Bool.{true}
 use mathlib.Core.List.{List, [], ◌∷◌, ◌++◌}
 use Prim.Native.Nat.{ℕ}
+use Rattle.std.specs.Prelude.{Err}
 use Rattle.parts.specs.Bytes.{are_bytes}
 use Rattle.parts.proofs.Bools.{and_left, and_right, and_both}
 use Rattle.tag.specs.declared.Tag.{Tag}
 use Rattle.ranges.specs.Ranges.{supplied_in_range}
 use Rattle.model.specs.declared.Answer.TheVariants.{Refused}
-use Rattle.model.specs.Passed.{Refusal, Judgement, RefusedBy, argument_rules, judgement, unless_refused, Call}
+use Rattle.model.specs.Passed.{Refusal, Judgement, argument_rules, judgement, unless_refused, Call}
 use Rattle.model.proofs.Passed.{judged_case, judged_map, range_parts}
 use Rattle.signal_table.specs.declared.Signal.{Signal}
 use Rattle.model.specs.Step.{refused, act_of}
@@ -44,7 +45,7 @@ call_is d c f =
 
 -- a property of a call, from the refusals and from the signal
 pub call_case : (P : DeviceResult → Type 0) (d : Device) (c : Call) → Fits d
-    → ((r : Refusal) → found c ≡ RefusedBy r → P (refusal r d c)) → P (acted d c) → P (entry d c)
+    → ((r : Refusal) → found c ≡ Err r → P (refusal r d c)) → P (acted d c) → P (entry d c)
 call_case P d c f p q = subst P (sym (call_is d c f)) (judged_case P _ _ _ p (λ h. q))
 
 -- what is on needs VCC

@@ -3,11 +3,11 @@ use mathlib.Core.Path.{◌≡◌, refl, sym, ◌∙◌}
 use mathlib.Core.Bool.{true}
 use mathlib.Core.List.{List}
 use Prim.Native.Nat.{ℕ}
+use Rattle.std.specs.Prelude.{Ok}
 use Rattle.parts.specs.Pick.{pick}
 use Rattle.parts.proofs.Picks.{pick_true}
 use Rattle.keys.specs.Keys.{uid_at}
 use Rattle.state.specs.Layout.{tag_of}
-use Rattle.refusals.specs.declared.Judgement.TheVariants.{NoRefusal}
 use Rattle.refusals.specs.Call.{Call}
 use Rattle.refusals.specs.Refusals.{judgement, unless_refused}
 use Rattle.model.specs.declared.Answer.{Answer}
@@ -24,14 +24,14 @@ pub number_fits : (answer : Answer) (n : ℕ) → reply_fits answer ≡ true →
 number_fits answer n h e = e ∙ sym (pick_true _ _ _ _ h refl)
 
 pub stepped : (s m : List ℕ) (c : Call) (e : StepResult) (n : ℕ) (s' : List ℕ)
-    → judgement (step_rules s m c) ≡ NoRefusal
+    → judgement (step_rules s m c) ≡ Ok tt
     → e ≡ step_of (tag_of s) m c → n ≡ answer_number e.answer → s' ≡ kept_state s e.answer e.tag
     → call_result n s' e.memory e.reply ≡ step_call s m c
 unfolding step_call unless_refused
 stepped s m c e n s' none h p q = rw (p, q ∙ kept_whole s e.answer e.tag (whole s m c none), none, h)
 
 pub freshened : (u m s : List ℕ) (e : FreshResult) (n : ℕ) (s' : List ℕ)
-    → judgement (fresh_call_rules u m s) ≡ NoRefusal
+    → judgement (fresh_call_rules u m s) ≡ Ok tt
     → e ≡ fresh_of (uid_at u 0) m → n ≡ answer_number e.answer → s' ≡ kept_state s e.answer e.tag
     → fresh_call_result n s' e.memory ≡ fresh_call u m s
 unfolding fresh_call unless_refused

@@ -5,16 +5,15 @@ use mathlib.Core.List.{List, [], ◌∷◌}
 use Prim.Native.Nat.{ℕ}
 use lib.Dec.{eqb}
 use lib.ListN.{length}
+use Rattle.std.specs.Prelude.{Ok, Err}
 use Rattle.parts.specs.Pick.{pick}
 use Rattle.tag.specs.declared.Tag.{Tag}
 use Rattle.state.specs.Layout.{state_bytes, bytes_of, decodes, tag_of}
 use Rattle.state.proofs.There.{decodes_encoded}
 use Rattle.state.proofs.Again.{parted}
 use Rattle.refusals.specs.declared.Refusal.{Refusal}
-use Rattle.refusals.specs.declared.Judgement.{Judgement}
-use Rattle.refusals.specs.declared.Judgement.TheVariants.{NoRefusal, RefusedBy}
 use Rattle.refusals.specs.Call.{Call}
-use Rattle.refusals.specs.Refusals.{call_rules, later_rules, judgement, unless_refused}
+use Rattle.refusals.specs.Refusals.{call_rules, later_rules, judgement, unless_refused, Judgement}
 use Rattle.refusals.proofs.Laws.{judgement_append, append_idle, NoneApplies}
 use Rattle.model.specs.Step.{StepResult, is_refused, refused, act_of, step_of}
 use Rattle.model.proofs.Acts.{signal_of_call}
@@ -33,10 +32,10 @@ called_by s e = call_result (answer_number e.answer) (state_after s e.answer e.t
 
 -- refusals that a function of the outcome gives, judged once more inside it
 pub twice : {A B : Type 0} (f : A → B) (j q : Judgement) (refuses : Refusal → A) (serves : A)
-    → unless_refused j (λ r. f (refuses r)) (f (unless_refused (unless_refused j RefusedBy q) refuses serves)) ≡ f (unless_refused (unless_refused j RefusedBy q) refuses serves)
+    → unless_refused j (λ r. f (refuses r)) (f (unless_refused (unless_refused j Err q) refuses serves)) ≡ f (unless_refused (unless_refused j Err q) refuses serves)
 unfolding unless_refused
-twice f NoRefusal q refuses serves = refl
-twice f (RefusedBy r) q refuses serves = refl
+twice f (Ok tt) q refuses serves = refl
+twice f (Err r) q refuses serves = refl
 
 decoded : (s m : List ℕ) (c : Call) → eqb (length s) state_bytes ≡ true → decodes s ≡ true
     → step_call s m c ≡ called_by s (step_of (tag_of s) m c)

@@ -11,7 +11,6 @@ ghost use Rattle.capi.specs.Interface.{answer_number, call_result, step_call, fr
 
 use keys::Uid;
 use model::Answer;
-use refusals::Judgement;
 
 // ---- the answers
 // Of a reply's length. No reply is longer than the shortest buffer for it.
@@ -51,10 +50,9 @@ pub fn st25dv_step(
 ) -> u32
     ensures { call_result result s.new m.new out.new ≡ step_call s.old m.old (handed_in out.old code value frame.now) }
 {
-    let judged = library_refusals::step_refusal(s, m, out, code, value, frame);
-    match judged {
-        Judgement::RefusedBy(why) => why.number() as u32,
-        Judgement::NoRefusal => {
+    match library_refusals::step_refusal(s, m, out, code, value, frame) {
+        Err(why) => why.number() as u32,
+        Ok(()) => {
             let t = state_decode::decode(s);
             let o = model::step(t, m, out, code, value, frame);
             next_state::keep(o, s);
@@ -68,10 +66,9 @@ pub fn st25dv_step(
 pub fn st25dv_fresh(uid: &[u8], m: &mut [u8], s: &mut [u8]) -> u32
     ensures { fresh_call_result result s.new m.new ≡ fresh_call uid.now m.old s.old }
 {
-    let judged = library_refusals::fresh_call_refusal(uid, m, s);
-    match judged {
-        Judgement::RefusedBy(why) => why.number() as u32,
-        Judgement::NoRefusal => {
+    match library_refusals::fresh_call_refusal(uid, m, s) {
+        Err(why) => why.number() as u32,
+        Ok(()) => {
             let o = model::fresh(Uid::at(uid, 0), m);
             next_state::keep(o, s);
             let answer = o.answer;

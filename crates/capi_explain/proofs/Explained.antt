@@ -4,14 +4,13 @@ use mathlib.Core.Path.{◌≡◌, sym, ap, subst, ◌∙◌}
 use mathlib.Core.Bool.{false, not, false≢true}
 use mathlib.Core.List.{[], ◌∷◌}
 use Prim.Native.Nat.{ℕ, ◌+◌, ◌≤◌, ◌<◌}
+use Rattle.std.specs.Prelude.{Ok, Err}
 use native.Mathlib.Omega.{arith}
 use Rattle.tag.specs.declared.Tag.{Tag}
 use Rattle.state.specs.Layout.{bytes_of, tag_of}
 use Rattle.state.proofs.There.{decodes_encoded}
 use Rattle.refusals.specs.declared.Refusal.{Refusal}
-use Rattle.refusals.specs.declared.Judgement.{Judgement}
-use Rattle.refusals.specs.declared.Judgement.TheVariants.{NoRefusal, RefusedBy}
-use Rattle.refusals.specs.Refusals.{number, call_rules, later_rules, entry_rules, judgement, unless_refused}
+use Rattle.refusals.specs.Refusals.{number, call_rules, later_rules, entry_rules, judgement, unless_refused, Judgement}
 use Rattle.refusals.proofs.Laws.{judged_map, judgement_append, append_idle, NoneApplies}
 use Rattle.library_refusals.specs.Rules.{state_rule, decodes_rule, step_rules}
 use Rattle.explanation_rules.specs.Explanation.{rule_at}
@@ -40,9 +39,9 @@ served_number (Reply n) h = omega arith
 alike : (j k : Judgement) (x y n : ℕ) → 0x100 ≤ x → 0x100 ≤ y → n ≡ unless_refused j number (unless_refused k number x)
     → let e = unless_refused j number (unless_refused k number y) in (n < 0x100 → e ≡ n) × (0x100 ≤ n → 0x100 ≤ e)
 unfolding unless_refused
-alike (RefusedBy r) k x y n h g e = (λ _. sym e, λ l. subst (λ (z : ℕ). 0x100 ≤ z) e l)
-alike NoRefusal (RefusedBy r) x y n h g e = (λ _. sym e, λ l. subst (λ (z : ℕ). 0x100 ≤ z) e l)
-alike NoRefusal NoRefusal x y n h g e = (λ l. absurd (omega arith), λ _. g)
+alike (Err r) k x y n h g e = (λ _. sym e, λ l. subst (λ (z : ℕ). 0x100 ≤ z) e l)
+alike (Ok tt) (Err r) x y n h g e = (λ _. sym e, λ l. subst (λ (z : ℕ). 0x100 ≤ z) e l)
+alike (Ok tt) (Ok tt) x y n h g e = (λ l. absurd (omega arith), λ _. g)
 
 pub explain_refuses_alike : ExplainRefusesAlike
 unfolding step_call step_of explain_call explain_of answer_number

@@ -5,16 +5,14 @@ ghost use Rattle.std.specs.Prelude.{◌≡◌};
 ghost use Rattle.refusals.specs.Call.{handed_in};
 ghost use Rattle.capi_explain.specs.Explain.{explain_of, explain_call};
 
-use refusals::Judgement;
 use tag::Tag;
 
 fn explain(t: Tag, m: &[u8], out: &[u8], code: u32, value: u32, frame: &[u8]) -> u32
     ensures { result ≡ explain_of t m.now (handed_in out.now code value frame.now) }
 {
-    let judged = refusals::entry_refusal(t, m, out, code, value, frame);
-    match judged {
-        Judgement::RefusedBy(why) => why.number() as u32,
-        Judgement::NoRefusal => 0x100 + explanation::rule_of(t, m, code, value, frame) as u32,
+    match refusals::entry_refusal(t, m, out, code, value, frame) {
+        Err(why) => why.number() as u32,
+        Ok(()) => 0x100 + explanation::rule_of(t, m, code, value, frame) as u32,
     }
 }
 
@@ -22,9 +20,8 @@ fn explain(t: Tag, m: &[u8], out: &[u8], code: u32, value: u32, frame: &[u8]) ->
 pub fn st25dv_explain(s: &[u8], m: &[u8], out: &[u8], code: u32, value: u32, frame: &[u8]) -> u32
     ensures { result ≡ explain_call s.now m.now (handed_in out.now code value frame.now) }
 {
-    let judged = library_refusals::step_refusal(s, m, out, code, value, frame);
-    match judged {
-        Judgement::RefusedBy(why) => why.number() as u32,
-        Judgement::NoRefusal => explain(state_decode::decode(s), m, out, code, value, frame),
+    match library_refusals::step_refusal(s, m, out, code, value, frame) {
+        Err(why) => why.number() as u32,
+        Ok(()) => explain(state_decode::decode(s), m, out, code, value, frame),
     }
 }

@@ -3,16 +3,15 @@ use mathlib.Core.Path.{◌≡◌, sym, ap, ◌∙◌}
 use mathlib.Core.Bool.{Bool, true}
 use mathlib.Core.List.{List, []}
 use Prim.Native.Nat.{ℕ}
+use Rattle.std.specs.Prelude.{Ok, Err}
 use native.Mathlib.Omega.{arith}
 use lib.ListN.{length, take}
 use Rattle.parts.specs.Pick.{pick}
 use Rattle.parts.specs.Bytes.{are_bytes}
 use Rattle.tag.specs.declared.Tag.{Tag}
 use Rattle.refusals.specs.declared.Refusal.{Refusal}
-use Rattle.refusals.specs.declared.Judgement.{Judgement}
-use Rattle.refusals.specs.declared.Judgement.TheVariants.{NoRefusal, RefusedBy}
 use Rattle.refusals.specs.Call.{handed_in}
-use Rattle.refusals.specs.Refusals.{number, judgement, unless_refused}
+use Rattle.refusals.specs.Refusals.{number, judgement, unless_refused, Judgement}
 use Rattle.model.specs.declared.Answer.{Answer}
 use Rattle.replies_fit.specs.Claims.{reply_fits}
 use Rattle.calls.specs.Calls.{call_answer}
@@ -20,8 +19,7 @@ use Rattle.capi.specs.Interface.{answer_number, call_result}
 use Rattle.capi.proofs.Calls.{number_fits}
 use Rattle.rack.specs.Rack.{Rack, RackCall, rack_of}
 use Rattle.rack.specs.Step.{numbers_from, rack_answer, RackResult, rack_result, rack_entry}
-use Rattle.rack_search.specs.declared.SearchAnswer.{SearchAnswer}
-use Rattle.rack_search.specs.Search.{search_result, search_entry}
+use Rattle.rack_search.specs.Search.{search_result, search_entry, SearchAnswer}
 use Rattle.rack_states.specs.States.{states_of, sixteen_at, stored_tags}
 use Rattle.rack_states.proofs.States.{sixteen_first}
 use Rattle.library_rack_refusals.specs.Rules.{rack_at, rack_bytes_rules}
@@ -29,7 +27,7 @@ use Rattle.capi_rack.specs.RackInterface.{mask_of, search_number, rack_call_resu
 use Rattle.capi_rack.proofs.Says.{rack_short}
 use Rattle.capi_rack.proofs.Unrefused.{judged, steps_at, searches_at, step_refused, search_refused, stored_fit}
 
-pub refused_step : (n : ℕ) (s m : List ℕ) (c : RackCall) (x : Refusal) (k : ℕ) → judgement (rack_bytes_rules n s m c.handed) ≡ RefusedBy x → k ≡ number x
+pub refused_step : (n : ℕ) (s m : List ℕ) (c : RackCall) (x : Refusal) (k : ℕ) → judgement (rack_bytes_rules n s m c.handed) ≡ Err x → k ≡ number x
     → rack_call_result k 0 s m c.handed.buffer ≡ rack_step_call n s m c
 unfolding rack_step_call unless_refused
 refused_step n s m c x k h e =
@@ -37,7 +35,7 @@ refused_step n s m c x k h e =
     ∙ ap (λ (j : Judgement). unless_refused j (λ (x : Refusal). rack_call_result (number x) 0 s m c.handed.buffer) (rack_called (rack_entry (rack_at n s m) c))) (sym (step_refused n s m c x h))
 
 pub stepped : (n : ℕ) (s m : List ℕ) (c : RackCall) (answer : Answer) (flags : List Bool) (ts : List Tag) (m' o' s' : List ℕ) (k mask : ℕ)
-    → are_bytes s ≡ true → judgement (rack_bytes_rules n s m c.handed) ≡ NoRefusal
+    → are_bytes s ≡ true → judgement (rack_bytes_rules n s m c.handed) ≡ Ok tt
     → rack_result (rack_answer (call_answer answer o') (numbers_from 0 flags)) (rack_of (take n ts) m') ≡ rack_entry (rack_of (take n (sixteen_at s)) m) c
     → length ts ≡ 16 → s' ≡ stored_tags ts s → k ≡ pick (reply_fits answer) (answer_number answer) 0 → mask ≡ mask_of (numbers_from 0 flags)
     → rack_call_result k mask s' m' o' ≡ rack_step_call n s m c
@@ -54,7 +52,7 @@ stepped n s m c answer flags ts m' o' s' k mask b none e sixteen f g h =
     ∙ sym (steps_at n s m c b j)
 
 -- ---- the search
-pub refused_search : (n : ℕ) (s m o f : List ℕ) (x : Refusal) (k : ℕ) → judgement (rack_bytes_rules n s m (handed_in o 8 0 [])) ≡ RefusedBy x → k ≡ number x
+pub refused_search : (n : ℕ) (s m o f : List ℕ) (x : Refusal) (k : ℕ) → judgement (rack_bytes_rules n s m (handed_in o 8 0 [])) ≡ Err x → k ≡ number x
     → call_result k s m o ≡ rack_search_call n s m o f
 unfolding rack_search_call unless_refused
 refused_search n s m o f x k h e =
@@ -62,7 +60,7 @@ refused_search n s m o f x k h e =
     ∙ ap (λ (j : Judgement). unless_refused j (λ (x : Refusal). call_result (number x) s m o) (search_called (search_entry (rack_at n s m) o f))) (sym (search_refused n s m o x h))
 
 pub searched : (n : ℕ) (s m o f : List ℕ) (answer : SearchAnswer) (ts : List Tag) (m' o' s' : List ℕ) (k : ℕ)
-    → are_bytes s ≡ true → judgement (rack_bytes_rules n s m (handed_in o 8 0 [])) ≡ NoRefusal
+    → are_bytes s ≡ true → judgement (rack_bytes_rules n s m (handed_in o 8 0 [])) ≡ Ok tt
     → search_result answer (rack_of (take n ts) m') o' ≡ search_entry (rack_of (take n (sixteen_at s)) m) o f
     → length ts ≡ 16 → s' ≡ stored_tags ts s → k ≡ search_number answer
     → call_result k s' m' o' ≡ rack_search_call n s m o f

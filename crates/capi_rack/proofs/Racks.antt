@@ -3,6 +3,7 @@ use mathlib.Core.Path.{◌≡◌, refl, sym, ap, ◌∙◌}
 use mathlib.Core.Bool.{true, not}
 use mathlib.Core.List.{List, [], ◌∷◌, ◌++◌}
 use Prim.Native.Nat.{ℕ, suc, ◌+◌, ◌*◌}
+use Rattle.std.specs.Prelude.{Ok, Err}
 use native.Mathlib.Omega.{arith}
 use lib.ListN.{length, take, drop, length-append}
 use lib.Seq.{take_at, drop_at}
@@ -13,10 +14,8 @@ use Rattle.state.specs.Layout.{state_bytes, bytes_of, decodes, tag_of}
 use Rattle.state.specs.Claims.{Fits}
 use Rattle.state.proofs.There.{decodes_encoded}
 use Rattle.refusals.specs.declared.Refusal.{Refusal}
-use Rattle.refusals.specs.declared.Judgement.{Judgement}
-use Rattle.refusals.specs.declared.Judgement.TheVariants.{NoRefusal, RefusedBy}
 use Rattle.refusals.specs.Call.{handed_in}
-use Rattle.refusals.specs.Refusals.{number, RefusalRule, reply_rule, signal_rule, judgement, unless_refused}
+use Rattle.refusals.specs.Refusals.{number, RefusalRule, reply_rule, signal_rule, judgement, unless_refused, Judgement}
 use Rattle.refusals.proofs.Laws.{NoneApplies, no_refusal, judgement_append, append_none}
 use Rattle.capi.specs.Interface.{answer_number, call_result}
 use Rattle.capi.proofs.Tags.{decodes_length}
@@ -24,7 +23,6 @@ use Rattle.rack.specs.Rack.{Rack, RackCall, rack_of}
 use Rattle.rack.specs.Rules.{rack_memory_rule, rack_range_rule, size_rule, named_rule, uids_rule, rack_rules}
 use Rattle.rack.specs.Step.{rack_refused, rack_result, rack_acts, rack_step, rack_entry}
 use Rattle.calls.specs.Calls.{entry}
-use Rattle.rack_search.specs.declared.SearchAnswer.TheVariants.{Refused as SearchRefused}
 use Rattle.rack_search.specs.Search.{slot_count, sends_frame, look, search_result, search_rules, search_of, search_entry}
 use Rattle.rack_states.specs.States.{states_of, tags_at, all_decode}
 use Rattle.library_rack_refusals.specs.Rules.{rack_at, states_rule, all_decode_rule, rack_step_rules, rack_search_rules}
@@ -79,14 +77,14 @@ encoded (t ∷ ts) h = one_more t ts (h 0 (omega arith)) (encoded ts (λ i l. h 
 -- ---- rules in the middle that do not apply
 pub idle_between : (rs qs ps : List RefusalRule) → NoneApplies qs → judgement (rs ++ (qs ++ ps)) ≡ judgement (rs ++ ps)
 idle_between rs qs ps h =
-    judgement_append rs (qs ++ ps) ∙ ap (unless_refused (judgement rs) RefusedBy) (append_none qs ps (no_refusal qs h)) ∙ sym (judgement_append rs ps)
+    judgement_append rs (qs ++ ps) ∙ ap (unless_refused (judgement rs) Err) (append_none qs ps (no_refusal qs h)) ∙ sym (judgement_append rs ps)
 
 -- what is refused, judged once more inside
 again : {A B : Type 0} (f : A → B) (j : Judgement) (refuses : Refusal → A) (serves : A)
     → unless_refused j (λ r. f (refuses r)) (f (unless_refused j refuses serves)) ≡ f (unless_refused j refuses serves)
 unfolding unless_refused
-again f NoRefusal refuses serves = refl
-again f (RefusedBy r) refuses serves = refl
+again f (Ok tt) refuses serves = refl
+again f (Err r) refuses serves = refl
 
 -- ---- states that decode
 library_idle : (n : ℕ) (s : List ℕ) → length s ≡ n * state_bytes → all_decode n s ≡ true → NoneApplies (states_rule n s ∷ all_decode_rule n s ∷ [])
@@ -129,7 +127,7 @@ module _ (ts : List Tag) (m : List ℕ) (e : Encoded ts) where
       let r = rack_of ts m in
       ap (λ (j : Judgement). unless_refused j (λ (x : Refusal). call_result (number x) s m o) (search_called (search_entry (rack_at n s m) o f))) (search_judged o)
       ∙ ap (λ (q : Rack). unless_refused (judgement (search_rules r o)) (λ (x : Refusal). call_result (number x) s m o) (search_called (search_entry q o f))) at_is
-      ∙ again search_called (judgement (search_rules r o)) (λ (x : Refusal). search_result (SearchRefused x) r o) (look rack_entry (slot_count f) 0 r (sends_frame o f))
+      ∙ again search_called (judgement (search_rules r o)) (λ (x : Refusal). search_result (Err x) r o) (look rack_entry (slot_count f) 0 r (sends_frame o f))
 
 pub steps_the_rack : StepsTheRack
 steps_the_rack ts m c h = steps ts m (encoded ts h) c

@@ -5,11 +5,11 @@ use mathlib.Core.List.{List, [], ◌∷◌}
 use Prim.Native.Nat.{ℕ, zero, suc}
 use lib.Dec.{eqb}
 use lib.ListN.{get_or}
+use Rattle.std.specs.Prelude.{Ok}
 use Rattle.parts.specs.Pick.{pick}
 use Rattle.parts.proofs.Picks.{pick_case}
 use Rattle.rule_list.specs.RuleList.{first_says}
 use Rattle.refusals.specs.declared.Refusal.TheVariants.{ReplyShort, SignalUnknown}
-use Rattle.refusals.specs.declared.Judgement.TheVariants.{NoRefusal}
 use Rattle.refusals.specs.Call.{Call}
 use Rattle.refusals.specs.Refusals.{number, argument_rules, judgement}
 use Rattle.refusals.proofs.Laws.{NoneApplies, applies_of, no_refusal, not_refused, judged_case}
@@ -83,17 +83,17 @@ rack_short r c =
     (λ _. acts_says (λ a. reply_fits a ≡ true) refl refl c r (each_short c.handed (devices r)))
 
 -- ---- a call that no rule of the rack refuses is not refused
-each_served : (c : Call) (ds : List Device) → judgement (argument_rules c) ≡ NoRefusal → AllFit ds → EachSays (λ a. is_refused a ≡ false) c ds
+each_served : (c : Call) (ds : List Device) → judgement (argument_rules c) ≡ Ok tt → AllFit ds → EachSays (λ a. is_refused a ≡ false) c ds
 unfolding EachSays AllFit entry
 each_served c [] h f = tt
 each_served c (d ∷ ds) h f =
     (ap (λ (e : StepResult). is_refused e.answer) (fit_acts d.tag d.memory c f.0 h) ∙ act_served (signal_of_call c) d.tag d.memory c.buffer c.frame, each_served c ds h f.1)
 
-arguments : (r : Rack) (c : RackCall) → judgement (rack_rules r c) ≡ NoRefusal → judgement (argument_rules c.handed) ≡ NoRefusal
+arguments : (r : Rack) (c : RackCall) → judgement (rack_rules r c) ≡ Ok tt → judgement (argument_rules c.handed) ≡ Ok tt
 unfolding NoneApplies applies_of first_says number pick
 arguments r c h = no_refusal (argument_rules c.handed) (not_refused ReplyShort (rack_rules r c) h, (not_refused SignalUnknown (rack_rules r c) h, tt))
 
-pub rack_served : (r : Rack) (c : RackCall) → judgement (rack_rules r c) ≡ NoRefusal → is_refused (rack_acts entry r c).says.says.answer ≡ false
+pub rack_served : (r : Rack) (c : RackCall) → judgement (rack_rules r c) ≡ Ok tt → is_refused (rack_acts entry r c).says.says.answer ≡ false
 unfolding is_refused
 rack_served r c h =
     acts_says (λ a. is_refused a ≡ false) refl refl c r (each_served c.handed (devices r) (arguments r c h) (fit_of r c h))

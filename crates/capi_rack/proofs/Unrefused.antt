@@ -3,6 +3,7 @@ use mathlib.Core.Path.{◌≡◌, refl, sym, ap, ◌∙◌}
 use mathlib.Core.Bool.{Bool, true, false, not, false≢true}
 use mathlib.Core.List.{List, [], ◌∷◌, ◌++◌, append-nil}
 use Prim.Native.Nat.{ℕ, zero, suc, ◌+◌, ◌*◌, ◌≤◌}
+use Rattle.std.specs.Prelude.{Ok, Err}
 use native.Mathlib.Omega.{arith}
 use borrow.Author.Tests.{eqb-true, not-false, ltb-false}
 use lib.Dec.{ltb, eqb}
@@ -14,7 +15,6 @@ use Rattle.tag.specs.declared.Tag.{Tag}
 use Rattle.state.specs.Layout.{state_bytes, decodes}
 use Rattle.state.proofs.Again.{encodes_decoded}
 use Rattle.refusals.specs.declared.Refusal.{Refusal}
-use Rattle.refusals.specs.declared.Judgement.TheVariants.{NoRefusal, RefusedBy}
 use Rattle.refusals.specs.Call.{Call, handed_in}
 use Rattle.refusals.specs.Refusals.{RefusalRule, reply_rule, signal_rule, judgement}
 use Rattle.refusals.proofs.Laws.{NoneApplies, none_applies, append_refused}
@@ -65,7 +65,7 @@ unfolding NoneApplies pick
 few_of n r false p e h = ltb-false 16 n p
 few_of n r true p e h = absurd (false≢true (sym h.1.0 ∙ or_second (eqb (length r.tags) 0) (ltb 16 (length r.tags)) (ap (ltb 16) e ∙ p)))
 
-pub judged : (n : ℕ) (s m : List ℕ) (c : Call) → judgement (rack_bytes_rules n s m c) ≡ NoRefusal → Judged n s
+pub judged : (n : ℕ) (s m : List ℕ) (c : Call) → judgement (rack_bytes_rules n s m c) ≡ Ok tt → Judged n s
 unfolding NoneApplies
 judged n s m c h =
     let none = none_applies (rack_bytes_rules n s m c) h in
@@ -103,14 +103,14 @@ abbrev first_rules : ℕ → List ℕ → Rack → Call → List RefusalRule
 first_rules n s r c = rack_memory_rule r ∷ reply_rule c ∷ signal_rule c ∷ states_rule n s ∷ all_decode_rule n s ∷ []
 
 step_by : (n : ℕ) (s : List ℕ) (r : Rack) (c : RackCall) (x : Refusal) (b : Bool)
-    → judgement (first_rules n s r c.handed ++ pick b (rack_range_rule r ∷ size_rule r ∷ []) []) ≡ RefusedBy x
-    → judgement (first_rules n s r c.handed ++ (rack_range_rule r ∷ size_rule r ∷ named_rule r c ∷ uids_rule r ∷ [])) ≡ RefusedBy x
+    → judgement (first_rules n s r c.handed ++ pick b (rack_range_rule r ∷ size_rule r ∷ []) []) ≡ Err x
+    → judgement (first_rules n s r c.handed ++ (rack_range_rule r ∷ size_rule r ∷ named_rule r c ∷ uids_rule r ∷ [])) ≡ Err x
 unfolding pick
 step_by n s r c x false h = append_refused (first_rules n s r c.handed) (rack_range_rule r ∷ size_rule r ∷ named_rule r c ∷ uids_rule r ∷ []) x h
 step_by n s r c x true h =
     append_refused (first_rules n s r c.handed ++ (rack_range_rule r ∷ size_rule r ∷ [])) (named_rule r c ∷ uids_rule r ∷ []) x h
 
-pub step_refused : (n : ℕ) (s m : List ℕ) (c : RackCall) (x : Refusal) → judgement (rack_bytes_rules n s m c.handed) ≡ RefusedBy x → judgement (rack_step_rules n s m c) ≡ RefusedBy x
+pub step_refused : (n : ℕ) (s m : List ℕ) (c : RackCall) (x : Refusal) → judgement (rack_bytes_rules n s m c.handed) ≡ Err x → judgement (rack_step_rules n s m c) ≡ Err x
 step_refused n s m c x h = step_by n s (rack_at n s m) c x (ltb 16 n) h
 
 -- a frame's signal is known
@@ -119,14 +119,14 @@ unfolding NoneApplies
 frame_idle o = (ap not frame_known, tt)
 
 search_by : (n : ℕ) (s o : List ℕ) (r : Rack) (x : Refusal) (b : Bool)
-    → judgement (first_rules n s r (handed_in o 8 0 []) ++ pick b (rack_range_rule r ∷ size_rule r ∷ []) []) ≡ RefusedBy x
-    → judgement (first_rules n s r (handed_in o 8 0 []) ++ (rack_range_rule r ∷ size_rule r ∷ uids_rule r ∷ [])) ≡ RefusedBy x
+    → judgement (first_rules n s r (handed_in o 8 0 []) ++ pick b (rack_range_rule r ∷ size_rule r ∷ []) []) ≡ Err x
+    → judgement (first_rules n s r (handed_in o 8 0 []) ++ (rack_range_rule r ∷ size_rule r ∷ uids_rule r ∷ [])) ≡ Err x
 unfolding pick
 search_by n s o r x false h = append_refused (first_rules n s r (handed_in o 8 0 [])) (rack_range_rule r ∷ size_rule r ∷ uids_rule r ∷ []) x h
 search_by n s o r x true h =
     append_refused (first_rules n s r (handed_in o 8 0 []) ++ (rack_range_rule r ∷ size_rule r ∷ [])) (uids_rule r ∷ []) x h
 
-pub search_refused : (n : ℕ) (s m o : List ℕ) (x : Refusal) → judgement (rack_bytes_rules n s m (handed_in o 8 0 [])) ≡ RefusedBy x → judgement (rack_search_rules n s m o) ≡ RefusedBy x
+pub search_refused : (n : ℕ) (s m o : List ℕ) (x : Refusal) → judgement (rack_bytes_rules n s m (handed_in o 8 0 [])) ≡ Err x → judgement (rack_search_rules n s m o) ≡ Err x
 search_refused n s m o x h =
     let r = rack_at n s m in
     sym (idle_between (rack_memory_rule r ∷ reply_rule (handed_in o 8 0 []) ∷ []) (signal_rule (handed_in o 8 0 []) ∷ [])

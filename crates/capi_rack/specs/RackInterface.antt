@@ -1,14 +1,12 @@
 -- What a program in C or Rust calls for a rack: numbers and lent bytes, among them the states of its tags end to end.
-use Rattle.std.specs.Prelude.{List, [], ◌∷◌, ℕ, ◌+◌, ◌^◌}
+use Rattle.std.specs.Prelude.{List, [], ◌∷◌, ℕ, ◌+◌, ◌^◌, Ok, Err, Some, None}
 use Rattle.refusals.specs.declared.Refusal.{Refusal}
 use Rattle.refusals.specs.Refusals.{number, judgement, unless_refused}
 use Rattle.capi.specs.Interface.{answer_number, CallResult, call_result}
 use Rattle.rack_states.specs.States.{states_of}
 use Rattle.rack.specs.Rack.{RackCall}
 use Rattle.rack.specs.Step.{RackResult, rack_entry}
-use Rattle.rack_search.specs.declared.SearchAnswer.{SearchAnswer}
-use Rattle.rack_search.specs.declared.SearchAnswer.TheVariants.{Refused, NoCollision, Collision}
-use Rattle.rack_search.specs.Search.{SearchResult, search_entry}
+use Rattle.rack_search.specs.Search.{SearchResult, search_entry, SearchAnswer}
 use Rattle.library_rack_refusals.specs.Rules.{rack_at, rack_step_rules, rack_search_rules}
 
 -- ---- the numbers; that of the rack's answer is an answer's
@@ -19,9 +17,9 @@ mask_of (i ∷ report) = 2 ^ i + mask_of report
 
 -- of a search's answer
 unfoldable pub search_number : SearchAnswer → ℕ
-search_number (Refused refusal) = number refusal
-search_number NoCollision = 0x100
-search_number (Collision k) = 0x400 + k
+search_number (Err refusal) = number refusal
+search_number (Ok None) = 0x100
+search_number (Ok (Some k)) = 0x400 + k
 
 -- ---- one call
 -- the number, which tags answered, and each lent buffer at the return

@@ -9,8 +9,7 @@ ghost use Rattle.rack.specs.Step.{numbers_from};
 ghost use Rattle.capi.specs.Interface.{call_result};
 ghost use Rattle.capi_rack.specs.RackInterface.{mask_of, search_number, rack_call_result, rack_step_call, rack_search_call};
 
-use rack_search::SearchAnswer;
-use refusals::Judgement;
+use refusals::Refusal;
 
 // What a step gives.
 #[repr(C)]
@@ -45,13 +44,13 @@ fn mask(answered: [bool; 16]) -> u32
     mask
 }
 
-fn search_number(answer: SearchAnswer) -> u32
+fn search_number(answer: Result<Option<u8>, Refusal>) -> u32
     ensures { result ≡ search_number answer }
 {
     match answer {
-        SearchAnswer::Refused(r) => r.number() as u32,
-        SearchAnswer::NoCollision => 0x100,
-        SearchAnswer::Collision(k) => 0x400 + k as u32,
+        Err(r) => r.number() as u32,
+        Ok(None) => 0x100,
+        Ok(Some(k)) => 0x400 + k as u32,
     }
 }
 
@@ -70,13 +69,12 @@ pub fn st25dv_rack_step(
 ) -> RackNumbers
     ensures { rack_call_result result.answer result.answered s.new m.new out.new ≡ rack_step_call number s.old m.old (rack_call (handed_in out.old code value frame.now) to) }
 {
-    let judged = library_rack_refusals::rack_bytes_refusal(s, m, out, number, code, value);
-    match judged {
-        Judgement::RefusedBy(why) => RackNumbers {
+    match library_rack_refusals::rack_bytes_refusal(s, m, out, number, code, value) {
+        Err(why) => RackNumbers {
             answer: why.number() as u32,
             answered: 0,
         },
-        Judgement::NoRefusal => {
+        Ok(()) => {
             let tags = rack_states::decode_tags(s);
             let n = number as usize;
             let o = rack_model::step(tags, n, m, out, code, value, frame, to as usize);
@@ -102,10 +100,9 @@ pub fn st25dv_rack_search(
 ) -> u32
     ensures { call_result result s.new m.new out.new ≡ rack_search_call number s.old m.old out.old frame.now }
 {
-    let judged = library_rack_refusals::rack_bytes_refusal(s, m, out, number, 8, 0);
-    match judged {
-        Judgement::RefusedBy(why) => why.number() as u32,
-        Judgement::NoRefusal => {
+    match library_rack_refusals::rack_bytes_refusal(s, m, out, number, 8, 0) {
+        Err(why) => why.number() as u32,
+        Ok(()) => {
             let tags = rack_states::decode_tags(s);
             let o = collision_search::search(tags, number as usize, m, out, frame);
             let left = o.tags;

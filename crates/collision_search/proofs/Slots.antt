@@ -3,6 +3,7 @@ use mathlib.Core.Path.{◌≡◌, refl, sym, ap, subst, ◌∙◌}
 use mathlib.Core.Bool.{Bool, true, false}
 use mathlib.Core.List.{List, [], ◌∷◌}
 use Prim.Native.Nat.{ℕ, suc, ◌+◌, ◌-◌, ◌<◌, ◌≤◌}
+use Rattle.std.specs.Prelude.{Ok, Some, None}
 use native.Mathlib.Omega.{arith}
 use lib.Dec.{eqb, ltb}
 use lib.ListN.{length, get_or, take, drop, length-take, drop_of_length-le}
@@ -14,7 +15,6 @@ use Rattle.parts.proofs.Picks.{pick_case}
 use Rattle.tag.specs.declared.Tag.{Tag}
 use Rattle.tag.specs.Layout.{reply_bytes}
 use Rattle.signal_table.proofs.Laws.{frame_known}
-use Rattle.refusals.specs.declared.Judgement.TheVariants.{NoRefusal}
 use Rattle.refusals.specs.Refusals.{judgement}
 use Rattle.rack.specs.Passed.{call_answer, entry}
 use Rattle.rack.specs.Rack.{Rack, rack_of, RackCall, to_all}
@@ -22,7 +22,6 @@ use Rattle.rack.specs.Rules.{rack_rules}
 use Rattle.rack.specs.Step.{numbers_from, rack_answer, RackResult, rack_result, rack_acts, rack_entry}
 use Rattle.rack.proofs.Kept.{call_acts}
 use Rattle.rack_search.proofs.Passed.{Formed, next_formed}
-use Rattle.rack_search.specs.declared.SearchAnswer.TheVariants.{NoCollision, Collision}
 use Rattle.rack_search.specs.Search.{sends_frame, sends_end, sends_next, search_result, collides, look}
 use Rattle.rack_search.proofs.OneTag.{end_known}
 use Rattle.rack_search.proofs.Slots.{unrefused}
@@ -102,10 +101,10 @@ slot_case : (P : RackCall → Type 0) (k : ℕ) (o f : List ℕ) → P (sends_fr
 unfolding sends_slot
 slot_case P k o f p q = pick_case P (eqb k 0) (sends_frame o f) (sends_end o) (λ _. p) (λ _. q)
 
-slot_unrefused : (k : ℕ) (r : Rack) (o f : List ℕ) → Formed r → reply_bytes ≤ length o → judgement (rack_rules r (sends_slot k o f)) ≡ NoRefusal
+slot_unrefused : (k : ℕ) (r : Rack) (o f : List ℕ) → Formed r → reply_bytes ≤ length o → judgement (rack_rules r (sends_slot k o f)) ≡ Ok tt
 unfolding to_all
 slot_unrefused k r o f h b =
-    slot_case (λ (c : RackCall). judgement (rack_rules r c) ≡ NoRefusal) k o f
+    slot_case (λ (c : RackCall). judgement (rack_rules r c) ≡ Ok tt) k o f
     (unrefused (sends_frame o f) refl r h b frame_known) (unrefused (sends_end o) refl r h b end_known)
 
 slot_bytes : (k : ℕ) (o f : List ℕ) → are_bytes f ≡ true → are_bytes (sends_slot k o f).handed.frame ≡ true
@@ -157,15 +156,15 @@ module _ (number slots : ℕ) (f : List ℕ) where
     call = sends_slot k o f
 
     -- no slot is left
-    pub none_left : slots ≤ k → search_result NoCollision rack o ≡ look rack_entry slots 0 (rack_of (take number tags₀) m₀) (sends_frame o₀ f)
+    pub none_left : slots ≤ k → search_result (Ok None) rack o ≡ look rack_entry slots 0 (rack_of (take number tags₀) m₀) (sends_frame o₀ f)
     unfolding look
     none_left l =
         let z : slots - k ≡ 0 = omega (arith, l) in
-        sym (h.rest ∙ ap (λ (n : ℕ). look rack_entry n k rack call) z ∙ ap (search_result NoCollision rack) (slot_buffer k o f))
+        sym (h.rest ∙ ap (λ (n : ℕ). look rack_entry n k rack call) z ∙ ap (search_result (Ok None) rack) (slot_buffer k o f))
 
     -- what its tags leave of the call
     module _ (heard : Heard) (tags' : List Tag) (m' o' : List ℕ) (e : heard_all heard tags' m' o' ≡ hears_call tags number m call) where
-      served : judgement (rack_rules rack call) ≡ NoRefusal
+      served : judgement (rack_rules rack call) ≡ Ok tt
       served = slot_unrefused k rack o f h.formed h.room
 
       abbrev left : RackResult
@@ -190,20 +189,20 @@ module _ (number slots : ℕ) (f : List ℕ) where
       -- the slot, and the rest
       opened : k < slots
           → look rack_entry slots 0 (rack_of (take number tags₀) m₀) (sends_frame o₀ f)
-          ≡ pick (ltb 1 (count heard.answered)) (search_result (Collision k) (rack_of (take number tags') m') o')
+          ≡ pick (ltb 1 (count heard.answered)) (search_result (Ok (Some k)) (rack_of (take number tags') m') o')
           (look rack_entry (slots - suc k) (suc k) (rack_of (take number tags') m') (sends_end o'))
       unfolding look
       opened l =
           let n : slots - k ≡ suc (slots - suc k) = omega (arith, l) in
           h.rest
           ∙ ap (λ (i : ℕ). look rack_entry i k rack call) n
-          ∙ ap (λ (r : RackResult). pick (collides r) (search_result (Collision k) r.rack r.says.says.buffer) (look rack_entry (slots - suc k) (suc k) r.rack (sends_next r))) stepped
-          ∙ ap (λ (i : ℕ). pick (ltb 1 i) (search_result (Collision k) (rack_of (take number tags') m') o') (look rack_entry (slots - suc k) (suc k) (rack_of (take number tags') m') (sends_end o')))
+          ∙ ap (λ (r : RackResult). pick (collides r) (search_result (Ok (Some k)) r.rack r.says.says.buffer) (look rack_entry (slots - suc k) (suc k) r.rack (sends_next r))) stepped
+          ∙ ap (λ (i : ℕ). pick (ltb 1 i) (search_result (Ok (Some k)) (rack_of (take number tags') m') o') (look rack_entry (slots - suc k) (suc k) (rack_of (take number tags') m') (sends_end o')))
           (numbers_count 0 heard.answered)
 
       -- two answered in it
       pub collided : k < slots → 2 ≤ count heard.answered
-          → (search_result (Collision k) (rack_of (take number tags') m') o' ≡ look rack_entry slots 0 (rack_of (take number tags₀) m₀) (sends_frame o₀ f))
+          → (search_result (Ok (Some k)) (rack_of (take number tags') m') o' ≡ look rack_entry slots 0 (rack_of (take number tags₀) m₀) (sends_frame o₀ f))
           × (drop number tags' ≡ drop number tags₀)
       unfolding pick
       collided l two = (sym (opened l ∙ rw (lt-ltb 1 (count heard.answered) (omega (arith, two)))), others_left)
@@ -225,6 +224,6 @@ module _ (number slots : ℕ) (f : List ℕ) where
           }
         where
           next : count heard.answered < 2
-              → pick (ltb 1 (count heard.answered)) (search_result (Collision k) (rack_of (take number tags') m') o') (look rack_entry (slots - suc k) (suc k) (rack_of (take number tags') m') (sends_end o'))
+              → pick (ltb 1 (count heard.answered)) (search_result (Ok (Some k)) (rack_of (take number tags') m') o') (look rack_entry (slots - suc k) (suc k) (rack_of (take number tags') m') (sends_end o'))
               ≡ look rack_entry (slots - suc k) (suc k) (rack_of (take number tags') m') (sends_end o')
           next less = rw (le-ltb 1 (count heard.answered) (omega (arith, less)))

@@ -1,8 +1,7 @@
 // The installer's search: the first slot in which two tags of a rack answer, by what its tags really do.
 #![tactic(auto)]
 
-ghost use Rattle.std.specs.Prelude.{◌≡◌, ◌≤◌, take, drop};
-ghost use Rattle.refusals.specs.declared.Judgement.TheVariants.{NoRefusal};
+ghost use Rattle.std.specs.Prelude.{◌≡◌, ◌≤◌, Ok, take, drop};
 ghost use Rattle.refusals.specs.Refusals.{judgement};
 ghost use Rattle.rack.specs.Rack.{rack_of};
 ghost use Rattle.rack.specs.Step.{rack_entry};
@@ -10,15 +9,14 @@ ghost use Rattle.rack_search.specs.Search.{sends_frame, opens_sixteen, slot_coun
 ghost use Rattle.rack_hear.specs.Hear.{heard_all};
 ghost use Rattle.collision_search.specs.Slot.{sends_slot, hears_call};
 
-use rack_search::SearchAnswer;
 use rack_walk::HeardRack;
-use refusals::Judgement;
+use refusals::Refusal;
 use tag::Tag;
 
-// What is found, and the tags as it leaves them.
+// What is found, none or the slot, and the tags as it leaves them.
 #[derive(Clone, Copy)]
 pub struct SearchOutcome {
-    pub answer: SearchAnswer,
+    pub answer: Result<Option<u8>, Refusal>,
     pub tags: [Tag; 16],
 }
 
@@ -72,12 +70,12 @@ fn look_into(
     frame: &[u8],
     slots: u8,
 ) -> SearchOutcome
-    requires { (number ≤ 16) × (judgement (search_rules (rack_of (take number tags) memory.old) out.old) ≡ NoRefusal) }
+    requires { (number ≤ 16) × (judgement (search_rules (rack_of (take number tags) memory.old) out.old) ≡ Ok tt) }
     ensures out_after { search_result result.answer (rack_of (take number result.tags) memory.new) out.new ≡ look rack_entry slots 0 (rack_of (take number tags) memory.old) (sends_frame out.old frame.now) }
     ensures tags_value { drop number result.tags ≡ drop number tags }
 {
     let mut left = tags;
-    let mut answer = SearchAnswer::NoCollision;
+    let mut answer = Ok(None);
     'search: for slot in 0..slots {
         let opened = open_slot(left, number, memory, out, frame, slot);
         left = opened.tags;
@@ -87,7 +85,7 @@ fn look_into(
         for i in 0..16 {
             if answered[i] {
                 if seen {
-                    answer = SearchAnswer::Collision(slot);
+                    answer = Ok(Some(slot));
                     break 'search;
                 }
                 seen = true;
@@ -111,10 +109,10 @@ pub fn search(
     let judged = rack_judge::rack_refusal(tags, number, memory, out, 8, 0, 0);
     let n = rack_judge::tag_count(number);
     match judged {
-        Judgement::RefusedBy(why) => SearchOutcome {
-            answer: SearchAnswer::Refused(why),
+        Err(why) => SearchOutcome {
+            answer: Err(why),
             tags,
         },
-        Judgement::NoRefusal => look_into(tags, n, memory, out, frame, slot_count(frame)),
+        Ok(()) => look_into(tags, n, memory, out, frame, slot_count(frame)),
     }
 }

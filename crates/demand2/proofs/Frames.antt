@@ -4,6 +4,7 @@ use mathlib.Core.Bool.{true}
 use Prim.Native.Nat.{◌≤◌}
 use lib.ListN.{length}
 use borrow.Author.Tests.{le-ltb}
+use Rattle.std.specs.Prelude.{Ok}
 use Rattle.parts.specs.Pick.{pick}
 use Rattle.tag.specs.Layout.{reply_bytes}
 use Rattle.rule_list.specs.RuleList.{first_says}
@@ -11,7 +12,6 @@ use Rattle.signal_table.specs.declared.Signal.{Signal}
 use Rattle.signal_table.specs.declared.Signal.TheVariants.{EndOfFrame}
 use Rattle.signal_table.specs.Table.{signal_table, signal_found, is_found, signal_in_range, signal_in, signal_by}
 use Rattle.signal_table.proofs.Laws.{frame_known, frame_code}
-use Rattle.refusals.specs.declared.Judgement.TheVariants.{NoRefusal}
 use Rattle.refusals.specs.Call.{Call, handed_in}
 use Rattle.refusals.specs.Refusals.{argument_rules, judgement}
 use Rattle.model.specs.Step.{act_of}
@@ -19,7 +19,7 @@ use Rattle.model.proofs.Acts.{fit_acts}
 use Rattle.demand2.specs.Demand2.{FrameServed, NextSlotServed}
 
 -- a long enough reply buffer and a known signal are not refused
-pub not_refused_by : (c : Call) → reply_bytes ≤ length c.buffer → signal_in_range c.code c.value ≡ true → judgement (argument_rules c) ≡ NoRefusal
+pub not_refused_by : (c : Call) → reply_bytes ≤ length c.buffer → signal_in_range c.code c.value ≡ true → judgement (argument_rules c) ≡ Ok tt
 unfolding judgement first_says pick
 not_refused_by c l k = rw (le-ltb (length c.buffer) reply_bytes l, k)
 

@@ -3,12 +3,12 @@ use mathlib.Core.Path.{◌≡◌, refl, sym, ap}
 use mathlib.Core.List.{List}
 use Prim.Native.Nat.{ℕ}
 use mathlib.Core.Bool.{true, false, not, ◌&&◌, false≢true}
+use Rattle.std.specs.Prelude.{Err}
 use Rattle.parts.proofs.Bools.{and_left, and_right}
 use Rattle.waiting.specs.Passed.{side_counted, Answer, Refused, Nothing, Ack, NoAck, Byte, Silence, Reply as ReplyOf, transfer_open, act_of, is_refused, Device, DeviceResult, device_result, entry, call_reply}
 use Rattle.waiting.proofs.Passed.{counted_stays, act_served, Fits, acted_by, found, call_case, supplied}
 use Rattle.rule_list.specs.RuleList.{any_holds}
 use Rattle.refusals.specs.declared.Refusal.{Refusal}
-use Rattle.refusals.specs.declared.Judgement.TheVariants.{RefusedBy}
 use Rattle.refusals.specs.Refusals.{number, looks_at_tag, argument_rules}
 use Rattle.refusals.proofs.Laws.{refused_by}
 use Rattle.signal_table.specs.declared.Signal.{Signal}
@@ -77,7 +77,7 @@ call_stays d c f =
 
 -- ---- its answer is not refusal 1 or 4
 -- the call's own arguments tell none of these
-argument_judged : (c : Call) (r : Refusal) → found c ≡ RefusedBy r → refused_by_state (Refused r) ≡ false
+argument_judged : (c : Call) (r : Refusal) → found c ≡ Err r → refused_by_state (Refused r) ≡ false
 unfolding refused_by_state looks_at_tag number any_holds
 argument_judged c r h = refused_by looks_at_tag (argument_rules c) r refl h
 

@@ -1,5 +1,5 @@
 -- What is proved of explanations: every NoAck, error reply and silence has one, and it is the first rule that holds.
-use Rattle.std.specs.Prelude.{◌≡◌, Bool, true, false, List, ℕ, eqb, get_or}
+use Rattle.std.specs.Prelude.{◌≡◌, Bool, true, false, List, ℕ, eqb, get_or, Ok}
 use Rattle.parts.specs.Pick.{pick}
 use Rattle.rule_list.specs.RuleList.{IsFirst}
 use Rattle.tag.specs.declared.Tag.{Tag}
@@ -7,7 +7,6 @@ use Rattle.signal_table.specs.declared.Signal.{Signal}
 use Rattle.signal_table.specs.declared.Signal.TheVariants.{Wire, Field, Frame, EndOfFrame}
 use Rattle.signal_table.specs.Table.{signal_by}
 use Rattle.errors.specs.Errors.{error_code}
-use Rattle.refusals.specs.declared.Judgement.TheVariants.{NoRefusal}
 use Rattle.refusals.specs.Call.{Call}
 use Rattle.refusals.specs.Refusals.{entry_rules, judgement}
 use Rattle.model.specs.declared.Answer.{Answer}
@@ -82,6 +81,6 @@ pub record Explanation (t : Tag) (m : List ℕ) (signal : Signal) (f : List ℕ)
 
 -- every call that is not refused, asked of the tag and the memory before it
 abbrev pub Explains : Type 0
-Explains = (t : Tag) (m : List ℕ) (call : Call) → judgement (entry_rules t m call) ≡ NoRefusal
+Explains = (t : Tag) (m : List ℕ) (call : Call) → judgement (entry_rules t m call) ≡ Ok tt
     → let signal = signal_by call.code call.value in
     Explanation t m signal call.frame (explained t m signal call.frame) (step_of t m call)

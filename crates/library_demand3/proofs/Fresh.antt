@@ -3,6 +3,7 @@ use mathlib.Core.Path.{◌≡◌, refl, sym, ap, subst, ◌∙◌}
 use mathlib.Core.Bool.{true, false, not}
 use mathlib.Core.List.{List}
 use Prim.Native.Nat.{ℕ}
+use Rattle.std.specs.Prelude.{Err}
 use native.Mathlib.Omega.{arith}
 use lib.Dec.{ltb, eqb}
 use borrow.Author.Tests.{ltb-true, not-false}
@@ -27,7 +28,6 @@ use Rattle.model.specs.Step.{transfer_open, fresh_of, is_refused}
 use Rattle.rule_list.specs.RuleList.{any_holds, first_says}
 use Rattle.refusals.specs.declared.Refusal.{Refusal}
 use Rattle.refusals.specs.declared.Refusal.TheVariants.{MemoryLength}
-use Rattle.refusals.specs.declared.Judgement.TheVariants.{RefusedBy}
 use Rattle.refusals.specs.Refusals.{number, tag_in_range, judgement, unless_refused}
 use Rattle.refusals.proofs.Laws.{judged_case, applies_of, not_refused, refused_by}
 use Rattle.model.proofs.Kept.{fresh_fits}
@@ -50,7 +50,7 @@ unfolding fresh_of state_after is_refused judgement first_says unless_refused pi
 served u m s h = rw h
 
 -- the refusals' numbers are below those of the other answers
-number_small : (u m s : List ℕ) (r : Refusal) → judgement (fresh_call_rules u m s) ≡ RefusedBy r → ltb (number r) 0x100 ≡ true
+number_small : (u m s : List ℕ) (r : Refusal) → judgement (fresh_call_rules u m s) ≡ Err r → ltb (number r) 0x100 ≡ true
 unfolding number any_holds
 number_small u m s r h = not-false _ (refused_by (λ (r : Refusal). not (ltb (number r) 0x100)) (fresh_call_rules u m s) r refl h)
 

@@ -3,6 +3,7 @@ use mathlib.Core.Path.{◌≡◌, refl, sym, ap, subst, ◌∙◌}
 use mathlib.Core.Bool.{Bool, true, false, not, ◌&&◌, false≢true}
 use mathlib.Core.List.{List, [], ◌∷◌}
 use Prim.Native.Nat.{ℕ, ◌+◌}
+use Rattle.std.specs.Prelude.{Err}
 use native.Mathlib.Omega.{arith}
 use lib.Dec.{ltb}
 use borrow.Author.Tests.{le-ltb, not-false}
@@ -14,7 +15,6 @@ use Rattle.state.specs.Claims.{Fits}
 use Rattle.state.proofs.There.{decodes_encoded}
 use Rattle.rule_list.specs.RuleList.{any_holds}
 use Rattle.refusals.specs.declared.Refusal.{Refusal}
-use Rattle.refusals.specs.declared.Judgement.TheVariants.{RefusedBy}
 use Rattle.model.specs.declared.Answer.{Answer}
 use Rattle.model.specs.declared.Answer.TheVariants.{Refused, Nothing, Ack, NoAck, Byte, Silence, Reply}
 use Rattle.signal_table.specs.Table.{signal_by}
@@ -98,7 +98,7 @@ run_good (c ∷ cs) d b g = run_good cs (entry d c).device (rest_fits c cs b) (g
 abbrev Numbered : Answer → Type 0
 Numbered a = ltb (answer_number a) 0x100 ≡ is_refused a
 
-refused_number : (t : Tag) (m : List ℕ) (c : Call) (r : Refusal) → judgement (entry_rules t m c) ≡ RefusedBy r → Numbered (Refused r)
+refused_number : (t : Tag) (m : List ℕ) (c : Call) (r : Refusal) → judgement (entry_rules t m c) ≡ Err r → Numbered (Refused r)
 unfolding answer_number is_refused number any_holds
 refused_number t m c r h = not-false _ (refused_by (λ (r : Refusal). not (ltb (number r) 0x100)) (entry_rules t m c) r refl h)
 

@@ -3,6 +3,7 @@ use mathlib.Core.Path.{◌≡◌, sym, ap, subst, ◌∙◌}
 use mathlib.Core.Bool.{Bool, true, false, not, ◌&&◌}
 use mathlib.Core.List.{List, [], ◌∷◌}
 use Prim.Native.Nat.{ℕ, ◌*◌, ◌<◌}
+use Rattle.std.specs.Prelude.{Err}
 use native.Mathlib.Omega.{arith}
 use lib.Dec.{leb, eqb}
 use lib.ListN.{length, get_or, take}
@@ -14,10 +15,8 @@ use Rattle.state.specs.Layout.{state_bytes, bytes_of, tag_of}
 use Rattle.rule_list.specs.RuleList.{any_holds, first_says}
 use Rattle.refusals.specs.declared.Refusal.{Refusal}
 use Rattle.refusals.specs.declared.Refusal.TheVariants.{MemoryLength, NoSuchTag}
-use Rattle.refusals.specs.declared.Judgement.{Judgement}
-use Rattle.refusals.specs.declared.Judgement.TheVariants.{RefusedBy}
 use Rattle.refusals.specs.Call.{Call}
-use Rattle.refusals.specs.Refusals.{number, refusal_rule, reply_rule, signal_rule, judgement, unless_refused}
+use Rattle.refusals.specs.Refusals.{number, refusal_rule, reply_rule, signal_rule, judgement, unless_refused, Judgement}
 use Rattle.model.specs.Step.{transfer_open}
 use Rattle.demand3.specs.Demand3.{is_closed}
 use Rattle.calls.specs.Calls.{Device, entry, frames_fit, run_by}
@@ -173,7 +172,7 @@ library_answers_as_waiting n s m cs t b h =
 
 -- ---- another number of tags
 memory_refused : (n other : ℕ) (s m : List ℕ) (c : RackCall) → length m ≡ memory_sizes (tags_at n s) → (other ≡ n → ⊥)
-    → judgement (rack_step_rules other s m c) ≡ RefusedBy MemoryLength
+    → judgement (rack_step_rules other s m c) ≡ Err MemoryLength
 unfolding judgement first_says pick
 memory_refused n other s m c l h =
     let a = sizes_at n s in

@@ -3,6 +3,7 @@ use mathlib.Core.Path.{◌≡◌, refl, sym, ap, subst, ◌∙◌}
 use mathlib.Core.Bool.{Bool, true, false, ◌||◌, false≢true}
 use mathlib.Core.List.{List, [], ◌∷◌}
 use Prim.Native.Nat.{ℕ, suc, ◌≤◌}
+use Rattle.std.specs.Prelude.{Ok, Err}
 use native.Mathlib.Omega.{arith}
 use lib.Dec.{ltb}
 use borrow.Author.Tests.{ne_eqb, ltb-true, ltb-false}
@@ -14,9 +15,7 @@ use Rattle.parts.proofs.Picks.{pick_case}
 use Rattle.tag.specs.declared.Tag.{Tag}
 use Rattle.rule_list.specs.RuleList.{any_holds}
 use Rattle.refusals.specs.declared.Refusal.{Refusal}
-use Rattle.refusals.specs.declared.Judgement.{Judgement}
-use Rattle.refusals.specs.declared.Judgement.TheVariants.{NoRefusal, RefusedBy}
-use Rattle.refusals.specs.Refusals.{number, judgement}
+use Rattle.refusals.specs.Refusals.{number, judgement, Judgement}
 use Rattle.refusals.proofs.Laws.{refused_by}
 use Rattle.model.specs.declared.Answer.{Answer}
 use Rattle.model.specs.Step.{is_refused}
@@ -87,15 +86,15 @@ pub rack_next : (r : Rack) (c : RackCall) → are_bytes c.handed.frame ≡ true 
 rack_next r c b g = by (judgement (rack_rules r c)) refl
   where
     by : (j : Judgement) → judgement (rack_rules r c) ≡ j → GoodRack (rack_entry r c).rack
-    by NoRefusal h = subst (λ (e : RackResult). GoodRack e.rack) (sym (call_acts r c h)) (served_good r c b g)
-    by (RefusedBy x) h = subst (λ (e : RackResult). GoodRack e.rack) (sym (call_refused r c x h)) g
+    by (Ok tt) h = subst (λ (e : RackResult). GoodRack e.rack) (sym (call_acts r c h)) (served_good r c b g)
+    by (Err x) h = subst (λ (e : RackResult). GoodRack e.rack) (sym (call_refused r c x h)) g
 
 same_number : (r : Rack) (c : RackCall) → length (rack_entry r c).rack.tags ≡ length r.tags
 same_number r c = by (judgement (rack_rules r c)) refl
   where
     by : (j : Judgement) → judgement (rack_rules r c) ≡ j → length (rack_entry r c).rack.tags ≡ length r.tags
-    by NoRefusal h = call_number r c h
-    by (RefusedBy x) h = ap (λ (e : RackResult). length e.rack.tags) (call_refused r c x h)
+    by (Ok tt) h = call_number r c h
+    by (Err x) h = ap (λ (e : RackResult). length e.rack.tags) (call_refused r c x h)
 
 pub step_is : (r : Rack) (c : RackCall) → GoodRack r → exported_rack (length r.tags) (states_of r.tags) r.memory c ≡ rack_called (rack_entry r c)
 unfolding exported_rack
@@ -144,7 +143,7 @@ above_none (x ∷ l) n b h =
     let few = ltb-true x 256 (and_left (ltb x 256) (are_bytes l) b) in
     ap (λ (y : Bool). y || is_among n l) (ne_eqb x n (λ e. absurd (omega (arith, few, h, e)))) ∙ above_none l n (and_right (ltb x 256) (are_bytes l) b) h
 
-served_above : (r : Rack) (c : RackCall) → judgement (rack_rules r c) ≡ NoRefusal → 0x100 ≤ answer_number (rack_entry r c).says.says.answer
+served_above : (r : Rack) (c : RackCall) → judgement (rack_rules r c) ≡ Ok tt → 0x100 ≤ answer_number (rack_entry r c).says.says.answer
 served_above r c h =
     let a = (rack_entry r c).says.says.answer in
     let served : is_refused a ≡ false = ap (λ (e : RackResult). is_refused e.says.says.answer) (call_acts r c h) ∙ rack_served r c h in
@@ -159,8 +158,8 @@ unfolding looks_at_states is_among answer_number number any_holds are_bytes
 first_number r c f = by (judgement (rack_rules r c)) refl
   where
     by : (j : Judgement) → judgement (rack_rules r c) ≡ j → looks_at_states (in_rack_number (rack_entry r c).says) ≡ false
-    by NoRefusal h = above_none state_refusals (answer_number (rack_entry r c).says.says.answer) refl (served_above r c h)
-    by (RefusedBy x) h =
+    by (Ok tt) h = above_none state_refusals (answer_number (rack_entry r c).says.says.answer) refl (served_above r c h)
+    by (Err x) h =
         ap (λ (e : RackResult). looks_at_states (in_rack_number e.says)) (call_refused r c x h)
         ∙ refused_by (λ (y : Refusal). looks_at_states (library_rack_answer (number y) 0 [])) (call_rules r c) x refl (sym (formed_judged r c f) ∙ h)
 

@@ -3,6 +3,7 @@ use mathlib.Core.Path.{◌≡◌, refl, sym, ap, ◌∙◌}
 use mathlib.Core.Bool.{true}
 use mathlib.Core.List.{List, [], ◌∷◌}
 use Prim.Native.Nat.{ℕ, zero, suc, ◌+◌, ◌<◌}
+use Rattle.std.specs.Prelude.{Ok, Err, Some, None}
 use native.Mathlib.Omega.{arith}
 use lib.Dec.{eqb}
 use lib.ListN.{length}
@@ -15,7 +16,7 @@ use Rattle.refusals.specs.Refusals.{number}
 use Rattle.library_demand3.specs.Passed.{CallResult}
 use Rattle.rack.specs.Rack.{Rack, RackCall}
 use Rattle.rack.specs.Step.{RackAnswer, rack_entry, rack_run}
-use Rattle.wrong_racks.specs.Passed.{rack_frames_fit, SearchAnswer, Refused, NoCollision, Collision, sends_frame, sends_next, search_entry, sent_calls, slots_opened, buffer_after}
+use Rattle.wrong_racks.specs.Passed.{rack_frames_fit, SearchAnswer, sends_frame, sends_next, search_entry, sent_calls, slots_opened, buffer_after}
 use Rattle.wrong_racks.proofs.Passed.{searches}
 use Rattle.rack_states.specs.States.{states_of, tags_at}
 use Rattle.rack_states.proofs.States.{tags_number}
@@ -57,23 +58,23 @@ number_back EqualUids = refl
 number_back StateLength = refl
 number_back UidLength = refl
 
-refused_only : (a : SearchAnswer) (x : Refusal) → search_number a ≡ number x → a ≡ Refused x
+refused_only : (a : SearchAnswer) (x : Refusal) → search_number a ≡ number x → a ≡ Err x
 unfolding search_number
-refused_only (Refused y) x h = ap Refused (sym (number_back y) ∙ ap numbered h ∙ number_back x)
-refused_only NoCollision x h = let s = small x in absurd (omega (arith, h, s))
-refused_only (Collision k) x h = let s = small x in absurd (omega (arith, h, s))
+refused_only (Err y) x h = ap Err (sym (number_back y) ∙ ap numbered h ∙ number_back x)
+refused_only (Ok None) x h = let s = small x in absurd (omega (arith, h, s))
+refused_only (Ok (Some k)) x h = let s = small x in absurd (omega (arith, h, s))
 
-collision_only : (a : SearchAnswer) (k : ℕ) → search_number a ≡ 0x400 + k → a ≡ Collision k
+collision_only : (a : SearchAnswer) (k : ℕ) → search_number a ≡ 0x400 + k → a ≡ Ok (Some k)
 unfolding search_number
-collision_only (Refused y) k h = let s = small y in absurd (omega (arith, h, s))
-collision_only NoCollision k h = absurd (omega (arith, h))
-collision_only (Collision j) k h = let e : j ≡ k = omega (arith, h) in ap Collision e
+collision_only (Err y) k h = let s = small y in absurd (omega (arith, h, s))
+collision_only (Ok None) k h = absurd (omega (arith, h))
+collision_only (Ok (Some j)) k h = let e : j ≡ k = omega (arith, h) in ap (λ (i : ℕ). Ok (Some i)) e
 
-none_only : (a : SearchAnswer) → search_number a ≡ 0x100 → a ≡ NoCollision
+none_only : (a : SearchAnswer) → search_number a ≡ 0x100 → a ≡ Ok None
 unfolding search_number
-none_only (Refused y) h = let s = small y in absurd (omega (arith, h, s))
-none_only NoCollision h = refl
-none_only (Collision k) h = absurd (omega (arith, h))
+none_only (Err y) h = let s = small y in absurd (omega (arith, h, s))
+none_only (Ok None) h = refl
+none_only (Ok (Some k)) h = absurd (omega (arith, h))
 
 -- ---- the calls that it sends
 sent_fit : (n : ℕ) (r : Rack) (c : RackCall) → are_bytes c.handed.frame ≡ true → rack_frames_fit (sent_calls rack_entry n r c) ≡ true

@@ -1,11 +1,10 @@
 -- What is claimed of the library's rack calls: their lists are the rack's, and so all that is claimed of a rack holds of bytes and numbers.
-use Rattle.std.specs.Prelude.{◌≡◌, Bool, true, false, List, [], ◌∷◌, ◌++◌, ◌↔◌, ℕ, ◌+◌, ◌*◌, ◌<◌, length, take, drop}
+use Rattle.std.specs.Prelude.{◌≡◌, Bool, true, false, List, [], ◌∷◌, ◌++◌, ◌↔◌, ℕ, ◌+◌, ◌*◌, ◌<◌, length, take, drop, Ok, Err}
 use Rattle.parts.specs.Bytes.{are_bytes}
 use Rattle.rule_list.specs.RuleList.{any_holds}
 use Rattle.state.specs.Layout.{state_bytes, tag_of}
 use Rattle.signal_table.specs.Table.{signal_by}
 use Rattle.refusals.specs.declared.Refusal.{Refusal}
-use Rattle.refusals.specs.declared.Judgement.TheVariants.{NoRefusal, RefusedBy}
 use Rattle.refusals.specs.Call.{Call}
 use Rattle.refusals.specs.Refusals.{number, judgement}
 use Rattle.model.specs.Step.{transfer_open}
@@ -158,10 +157,10 @@ calls_sent n s m o f = sent_by rack_entry search_entry (rack_at n s m) o f
 
 pub record LibrarySearched (step : LibraryRackStep) (find : LibrarySearch) (n : ℕ) (s m o f : List ℕ) : Type 0 where
   -- a refusal's number, below 0x100
-  pub refused : (refusal : Refusal) → ((find n s m o f).number ≡ number refusal) ↔ (judgement (search_rules (rack_at n s m) o) ≡ RefusedBy refusal)
+  pub refused : (refusal : Refusal) → ((find n s m o f).number ≡ number refusal) ↔ (judgement (search_rules (rack_at n s m) o) ≡ Err refusal)
   -- where there is none: 0x400 and the first slot in which two tags answer, or 0x100
-  pub collision : judgement (search_rules (rack_at n s m) o) ≡ NoRefusal → (k : ℕ) → ((find n s m o f).number ≡ 0x400 + k) ↔ FirstCollision f (rack_at n s m) k
-  pub none : judgement (search_rules (rack_at n s m) o) ≡ NoRefusal → ((find n s m o f).number ≡ 0x100) ↔ NoCollisions f (rack_at n s m)
+  pub collision : judgement (search_rules (rack_at n s m) o) ≡ Ok tt → (k : ℕ) → ((find n s m o f).number ≡ 0x400 + k) ↔ FirstCollision f (rack_at n s m) k
+  pub none : judgement (search_rules (rack_at n s m) o) ≡ Ok tt → ((find n s m o f).number ≡ 0x100) ↔ NoCollisions f (rack_at n s m)
   -- the bytes are as the rack calls leave them that it sent, one by one
   pub states : (find n s m o f).state ≡ (library_rack_run step n s m (calls_sent n s m o f)).states
   pub memory : (find n s m o f).memory ≡ (library_rack_run step n s m (calls_sent n s m o f)).memory

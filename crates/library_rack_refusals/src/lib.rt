@@ -11,7 +11,7 @@ ghost use Rattle.rack.specs.Rack.{devices_of};
 ghost use Rattle.rack.specs.Rules.{all_in_range};
 ghost use Rattle.library_rack_refusals.specs.Rules.{rack_bytes_rules};
 
-use refusals::{Judgement, Refusal};
+use refusals::Refusal;
 
 // Whether each of n states decodes to a tag.
 fn all_decode(s: &[u8], n: usize) -> bool
@@ -63,30 +63,30 @@ pub fn rack_bytes_refusal(
     number: u32,
     code: u32,
     value: u32,
-) -> Judgement
+) -> Result<(), Refusal>
     ensures { result ≡ judgement (rack_bytes_rules number s.now m.now (handed_in out.now code value [])) }
 {
     let n = number as usize;
     if m.len() != n * tag::MEMORY_BYTES {
-        return Judgement::RefusedBy(Refusal::MemoryLength);
+        return Err(Refusal::MemoryLength);
     }
     if out.len() < tag::REPLY_BYTES {
-        return Judgement::RefusedBy(Refusal::ReplyShort);
+        return Err(Refusal::ReplyShort);
     }
     if !signal_table::signal_in_range(code, value) {
-        return Judgement::RefusedBy(Refusal::SignalUnknown);
+        return Err(Refusal::SignalUnknown);
     }
     if s.len() != n * state::STATE_BYTES {
-        return Judgement::RefusedBy(Refusal::StateLength);
+        return Err(Refusal::StateLength);
     }
     if !all_decode(s, n) {
-        return Judgement::RefusedBy(Refusal::OutOfRange);
+        return Err(Refusal::OutOfRange);
     }
     if n <= rack_states::MOST_TAGS {
-        return Judgement::NoRefusal;
+        return Ok(());
     }
     if !all_in_range(s, m, n) {
-        return Judgement::RefusedBy(Refusal::OutOfRange);
+        return Err(Refusal::OutOfRange);
     }
-    Judgement::RefusedBy(Refusal::RackSize)
+    Err(Refusal::RackSize)
 }

@@ -6,7 +6,7 @@ ghost use Rattle.refusals.specs.Call.{handed_in};
 ghost use Rattle.refusals.specs.Refusals.{judgement};
 ghost use Rattle.library_refusals.specs.Rules.{step_rules, fresh_call_rules};
 
-use refusals::{Judgement, Refusal};
+use refusals::Refusal;
 
 // Of a call: 1, 2, 3, 13, 4.
 pub fn step_refusal(
@@ -16,39 +16,29 @@ pub fn step_refusal(
     code: u32,
     value: u32,
     frame: &[u8],
-) -> Judgement
+) -> Result<(), Refusal>
     ensures { result ≡ judgement (step_rules s.now m.now (handed_in out.now code value frame.now)) }
 {
-    let first = refusals::call_refusal(m, out, code, value, frame);
-    match first {
-        Judgement::RefusedBy(why) => Judgement::RefusedBy(why),
-        Judgement::NoRefusal => {
-            if s.len() != state::STATE_BYTES {
-                return Judgement::RefusedBy(Refusal::StateLength);
-            }
-            if !state_judge::decodes(s) {
-                return Judgement::RefusedBy(Refusal::OutOfRange);
-            }
-            Judgement::NoRefusal
-        }
+    refusals::call_refusal(m, out, code, value, frame)?;
+    if s.len() != state::STATE_BYTES {
+        return Err(Refusal::StateLength);
     }
+    if !state_judge::decodes(s) {
+        return Err(Refusal::OutOfRange);
+    }
+    Ok(())
 }
 
 // Of a fresh tag: 1, 13, 14.
-pub fn fresh_call_refusal(uid: &[u8], m: &[u8], s: &[u8]) -> Judgement
+pub fn fresh_call_refusal(uid: &[u8], m: &[u8], s: &[u8]) -> Result<(), Refusal>
     ensures { result ≡ judgement (fresh_call_rules uid.now m.now s.now) }
 {
-    let first = refusals::fresh_refusal(m);
-    match first {
-        Judgement::RefusedBy(why) => Judgement::RefusedBy(why),
-        Judgement::NoRefusal => {
-            if s.len() != state::STATE_BYTES {
-                return Judgement::RefusedBy(Refusal::StateLength);
-            }
-            if uid.len() != 8 {
-                return Judgement::RefusedBy(Refusal::UidLength);
-            }
-            Judgement::NoRefusal
-        }
+    refusals::fresh_refusal(m)?;
+    if s.len() != state::STATE_BYTES {
+        return Err(Refusal::StateLength);
     }
+    if uid.len() != 8 {
+        return Err(Refusal::UidLength);
+    }
+    Ok(())
 }

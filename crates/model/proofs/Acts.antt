@@ -5,6 +5,7 @@ use mathlib.Core.List.{List}
 use Prim.Native.Nat.{ℕ, ◌≤◌}
 use lib.ListN.{length}
 use borrow.Author.Tests.{eq-eqb, eqb-true, ltb-false, not-false}
+use Rattle.std.specs.Prelude.{Ok}
 use Rattle.parts.specs.Pick.{pick}
 use Rattle.tag.specs.declared.Tag.{Tag}
 use Rattle.tag.specs.Layout.{memory_bytes, reply_bytes}
@@ -13,16 +14,14 @@ use Rattle.signal_table.specs.declared.Signal.{Signal}
 use Rattle.signal_table.specs.Table.{signal_in_range, signal_by}
 use Rattle.refusals.specs.declared.Refusal.{Refusal}
 use Rattle.refusals.specs.declared.Refusal.TheVariants.{MemoryLength, ReplyShort, SignalUnknown, OutOfRange}
-use Rattle.refusals.specs.declared.Judgement.{Judgement}
-use Rattle.refusals.specs.declared.Judgement.TheVariants.{NoRefusal}
 use Rattle.refusals.specs.Call.{Call}
-use Rattle.refusals.specs.Refusals.{number, argument_rules, entry_rules, fresh_rules, tag_in_range, judgement, unless_refused}
+use Rattle.refusals.specs.Refusals.{number, argument_rules, entry_rules, fresh_rules, tag_in_range, judgement, unless_refused, Judgement}
 use Rattle.refusals.proofs.Laws.{applies_of, not_refused}
 use Rattle.model.specs.Step.{refused, act_of, step_of}
 use Rattle.model.specs.Claims.{Fit}
 
 -- ---- what the judged things are then
-module _ (t : Tag) (m : List ℕ) (c : Call) (h : judgement (entry_rules t m c) ≡ NoRefusal) where
+module _ (t : Tag) (m : List ℕ) (c : Call) (h : judgement (entry_rules t m c) ≡ Ok tt) where
   pub size_of : length m ≡ memory_bytes
   unfolding applies_of first_says number pick
   size_of = eqb-true _ _ (not-false _ (not_refused MemoryLength (entry_rules t m c) h))
@@ -39,7 +38,7 @@ module _ (t : Tag) (m : List ℕ) (c : Call) (h : judgement (entry_rules t m c) 
   unfolding applies_of first_says number pick
   range_of = not-false _ (not_refused OutOfRange (entry_rules t m c) h)
 
-pub fresh_size : (m : List ℕ) → judgement (fresh_rules m) ≡ NoRefusal → length m ≡ memory_bytes
+pub fresh_size : (m : List ℕ) → judgement (fresh_rules m) ≡ Ok tt → length m ≡ memory_bytes
 unfolding applies_of first_says number pick
 fresh_size m h = eqb-true _ _ (not-false _ (not_refused MemoryLength (fresh_rules m) h))
 
@@ -53,10 +52,10 @@ unfolding step_of
 judged_as t m c j h =
     ap (λ (j : Judgement). unless_refused j (λ (r : Refusal). refused r t m c.buffer) (act_of (signal_of_call c) t m c.buffer c.frame)) h
 
-pub acts : (t : Tag) (m : List ℕ) (c : Call) → judgement (entry_rules t m c) ≡ NoRefusal
+pub acts : (t : Tag) (m : List ℕ) (c : Call) → judgement (entry_rules t m c) ≡ Ok tt
     → step_of t m c ≡ act_of (signal_of_call c) t m c.buffer c.frame
 unfolding unless_refused
-acts t m c h = judged_as t m c NoRefusal h
+acts t m c h = judged_as t m c (Ok tt) h
 
 -- ---- of a tag in range only what the call's own arguments tell is refused
 pub fit_judged : (t : Tag) (m : List ℕ) (c : Call) → Fit t m → judgement (entry_rules t m c) ≡ judgement (argument_rules c)
@@ -68,6 +67,6 @@ pub fit_step : (t : Tag) (m : List ℕ) (c : Call) → Fit t m
 fit_step t m c f = judged_as t m c (judgement (argument_rules c)) (fit_judged t m c f)
 
 -- where they tell none, none
-pub fit_acts : (t : Tag) (m : List ℕ) (c : Call) → Fit t m → judgement (argument_rules c) ≡ NoRefusal
+pub fit_acts : (t : Tag) (m : List ℕ) (c : Call) → Fit t m → judgement (argument_rules c) ≡ Ok tt
     → step_of t m c ≡ act_of (signal_of_call c) t m c.buffer c.frame
 fit_acts t m c f h = acts t m c (fit_judged t m c f ∙ h)

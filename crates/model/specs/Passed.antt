@@ -12,7 +12,6 @@ unfoldable pub use Rattle.radio.specs.Radio.{next_slot_of, radio_of, verdict_res
 pub use Rattle.refusals.specs.Call.{Call, handed_in}
 pub use Rattle.refusals.specs.Refusals.{RefusalRule, argument_rules, refusal_rule, reply_rule, signal_rule}
 unfoldable pub use Rattle.refusals.specs.Refusals.{judgement, looks_at_tag, number, tag_in_range, unless_refused}
-pub use Rattle.refusals.specs.declared.Judgement.{Judgement}
-pub use Rattle.refusals.specs.declared.Judgement.TheVariants.{NoRefusal, RefusedBy}
+pub use Rattle.refusals.specs.Refusals.{Judgement}
 pub use Rattle.refusals.specs.declared.Refusal.{Refusal}
 pub use Rattle.refusals.specs.declared.Refusal.TheVariants.{EqualUids, MemoryLength, NoSuchTag, OutOfRange, RackSize, ReplyShort}

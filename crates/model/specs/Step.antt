@@ -1,5 +1,5 @@
 -- "What the bench hands in": the refusals, and what a call does to the tag and both lent buffers.
-use Rattle.std.specs.Prelude.{Bool, true, false, List, ℕ, length, replicate}
+use Rattle.std.specs.Prelude.{Bool, true, false, List, ℕ, replicate}
 use Rattle.keys.specs.declared.Uid.{Uid}
 use Rattle.tag.specs.declared.Tag.{Tag}
 use Rattle.tag.specs.Layout.{memory_bytes}

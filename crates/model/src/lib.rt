@@ -11,7 +11,7 @@ ghost use Rattle.refusals.specs.Call.{handed_in};
 ghost use Rattle.model.specs.Step.{step_result_of, fresh_result, from_wire, from_radio, act_of, step_of, fresh_of};
 
 use keys::Uid;
-use refusals::{Judgement, Refusal};
+use refusals::Refusal;
 use reply::RadioSide;
 use signal_table::{Signal, WireSignal};
 use tag::{Tag, WireSide};
@@ -59,43 +59,44 @@ fn from_radio(answer: reply::RadioAnswer) -> Answer
 fn by_wire(t: Tag, m: &mut [u8], signal: WireSignal) -> Outcome
     ensures { fresh_result result.answer result.tag m.new ≡ (let stepped = signal_of (wire_side t) t.uid m.old signal in fresh_result (from_wire stepped.answer) (with_wire stepped.side t) stepped.memory) }
 {
-    let host = t.host;
-    let core = t.core;
-    let o = wire::step(WireSide { host, core }, t.uid, m, signal);
-    let answer = o.answer;
-    let side = o.side;
-    let next_host = side.host;
-    let next_core = side.core;
-    let mut n = t;
-    n.host = next_host;
-    n.core = next_core;
+    let before = WireSide {
+        host: t.host,
+        core: t.core,
+    };
+    let o = wire::step(before, t.uid, m, signal);
     Outcome {
-        answer: from_wire(answer),
-        tag: n,
+        answer: from_wire(o.answer),
+        tag: Tag {
+            host: o.side.host,
+            core: o.side.core,
+            ..t
+        },
     }
 }
 
 fn by_field(t: Tag, on: bool) -> Outcome
     ensures { result ≡ record { answer = Nothing; tag = with_tag_air (field_at on t.air) t } }
 {
-    let mut n = t;
-    n.air = t.air.field_at(on);
     Outcome {
         answer: Answer::Nothing,
-        tag: n,
+        tag: Tag {
+            air: t.air.field_at(on),
+            ..t
+        },
     }
 }
 
 fn by_frame(t: Tag, m: &mut [u8], out: &mut [u8], frame: &[u8]) -> Outcome
     ensures { step_result_of result m.new out.new ≡ act_of Frame t m.old out.old frame.now }
 {
-    let air = t.air;
-    let core = t.core;
-    let host = t.host;
-    let bus = host.bus;
+    let before = RadioSide {
+        air: t.air,
+        core: t.core,
+    };
+    let bus = t.host.bus;
     let transfer = bus::transfer_at(bus);
     let o = radio::radio(
-        RadioSide { air, core },
+        before,
         t.uid,
         t.host.vcc,
         transfer,
@@ -104,45 +105,33 @@ fn by_frame(t: Tag, m: &mut [u8], out: &mut [u8], frame: &[u8]) -> Outcome
         out,
         frame,
     );
-    let answer = o.answer;
-    let side = o.side;
-    let next_air = side.air;
-    let next_core = side.core;
-    let mut n = t;
-    n.air = next_air;
-    n.core = next_core;
     Outcome {
-        answer: from_radio(answer),
-        tag: n,
+        answer: from_radio(o.answer),
+        tag: Tag {
+            air: o.side.air,
+            core: o.side.core,
+            ..t
+        },
     }
 }
 
 fn by_end_of_frame(t: Tag, m: &[u8], out: &mut [u8], frame: &[u8]) -> Outcome
     ensures { step_result_of result m.now out.new ≡ act_of EndOfFrame t m.now out.old frame.now }
 {
-    let air = t.air;
-    let core = t.core;
-    let host = t.host;
-    let bus = host.bus;
+    let before = RadioSide {
+        air: t.air,
+        core: t.core,
+    };
+    let bus = t.host.bus;
     let transfer = bus::transfer_at(bus);
-    let o = radio::end_of_frame(
-        RadioSide { air, core },
-        t.uid,
-        transfer,
-        t.host.programming,
-        m,
-        out,
-    );
-    let answer = o.answer;
-    let side = o.side;
-    let next_air = side.air;
-    let next_core = side.core;
-    let mut n = t;
-    n.air = next_air;
-    n.core = next_core;
+    let o = radio::end_of_frame(before, t.uid, transfer, t.host.programming, m, out);
     Outcome {
-        answer: from_radio(answer),
-        tag: n,
+        answer: from_radio(o.answer),
+        tag: Tag {
+            air: o.side.air,
+            core: o.side.core,
+            ..t
+        },
     }
 }
 
@@ -171,10 +160,9 @@ fn refused(why: Refusal, t: Tag) -> Outcome
 pub fn step(t: Tag, m: &mut [u8], out: &mut [u8], code: u32, value: u32, frame: &[u8]) -> Outcome
     ensures { step_result_of result m.new out.new ≡ step_of t m.old (handed_in out.old code value frame.now) }
 {
-    let judged = refusals::entry_refusal(t, m, out, code, value, frame);
-    match judged {
-        Judgement::RefusedBy(why) => refused(why, t),
-        Judgement::NoRefusal => act(signal_table::signal_by(code, value), t, m, out, frame),
+    match refusals::entry_refusal(t, m, out, code, value, frame) {
+        Err(why) => refused(why, t),
+        Ok(()) => act(signal_table::signal_by(code, value), t, m, out, frame),
     }
 }
 
@@ -183,12 +171,10 @@ pub fn fresh(u: Uid, m: &mut [u8]) -> Outcome
     ensures { fresh_result result.answer result.tag m.new ≡ fresh_of u m.old }
 {
     let t = Tag::fresh(u);
-    let judged = refusals::fresh_refusal(m);
-    match judged {
-        Judgement::RefusedBy(why) => refused(why, t),
-        Judgement::NoRefusal => {
-            let zeros = [0u8; 1024];
-            parts::put_bytes(m, 0, &zeros, 0, tag::MEMORY_BYTES);
+    match refusals::fresh_refusal(m) {
+        Err(why) => refused(why, t),
+        Ok(()) => {
+            m.fill(0);
             Outcome {
                 answer: Answer::Nothing,
                 tag: t,

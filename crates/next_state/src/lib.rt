@@ -10,15 +10,7 @@ use model::{Answer, Outcome};
 fn is_refused(answer: Answer) -> bool
     ensures { result ≡ is_refused answer }
 {
-    match answer {
-        Answer::Refused(r) => true,
-        Answer::Nothing => false,
-        Answer::Ack => false,
-        Answer::NoAck => false,
-        Answer::Byte(x) => false,
-        Answer::Silence => false,
-        Answer::Reply(n) => false,
-    }
+    matches!(answer, Answer::Refused(_))
 }
 
 // Stores the next state, unless the call was refused. A buffer of another length stays.
@@ -29,8 +21,7 @@ pub fn keep(outcome: Outcome, s: &mut [u8])
     if s.len() != state::STATE_BYTES {
         return;
     }
-    let answer = outcome.answer;
-    if !is_refused(answer) {
+    if !is_refused(outcome.answer) {
         state_encode::encode(outcome.tag, s);
     }
 }

@@ -3,6 +3,7 @@ use mathlib.Core.Path.{◌≡◌, refl, sym, ap, subst, ◌∙◌}
 use mathlib.Core.Bool.{Bool, true, false, not, ◌&&◌, ◌||◌, false≢true}
 use mathlib.Core.List.{List, [], ◌∷◌, ◌++◌}
 use Prim.Native.Nat.{ℕ, zero, suc, ◌+◌, ◌<◌}
+use Rattle.std.specs.Prelude.{Ok}
 use native.Mathlib.Omega.{arith}
 use native.Mathlib.Nat.{zero-add}
 use lib.Dec.{leb, eqb}
@@ -17,7 +18,7 @@ use Rattle.rule_list.proofs.Laws.{says_passes}
 use Rattle.std.specs.Prelude.{Option, Some, None}
 use Rattle.signal_table.specs.Table.{SignalRow, signal_table, signal_found, is_found, signal_in_range, signal_in, signal_by}
 use Rattle.tag.specs.declared.Tag.{Tag}
-use Rattle.calls.specs.Passed.{Refusal, NoSuchTag, Judgement, NoRefusal, number, judgement, unless_refused}
+use Rattle.calls.specs.Passed.{Refusal, NoSuchTag, Judgement, number, judgement, unless_refused}
 use Rattle.calls.proofs.Passed.{applies_of, not_refused}
 use Rattle.calls.specs.Calls.{CallAnswer, Device, DeviceResult, entry}
 use Rattle.rack.specs.Rack.{Rack, rack_of, RackCall, memory_size, memory_sizes, device_at, devices_of, devices, memories_of, to_all, goes_to}
@@ -104,7 +105,7 @@ turn_said c (suc i) j (d ∷ ds) z a h =
     let e : suc j + i ≡ j + suc i = omega arith in
     turn_said c i (suc j) ds z a (omega arith) ∙ ap (λ (k : ℕ). (turn_of entry c k (get_or ds i z)).says) e
 
-module _ (r : Rack) (c : RackCall) (b : are_bytes c.handed.frame ≡ true) (h : judgement (rack_rules r c) ≡ NoRefusal) where
+module _ (r : Rack) (c : RackCall) (b : are_bytes c.handed.frame ≡ true) (h : judgement (rack_rules r c) ≡ Ok tt) where
   abbrev z : Device
   z = device_at r 0
 

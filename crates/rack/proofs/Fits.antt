@@ -3,6 +3,7 @@ use mathlib.Core.Path.{◌≡◌, refl, sym, subst}
 use mathlib.Core.Bool.{true, false, ◌||◌}
 use mathlib.Core.List.{List, [], ◌∷◌}
 use Prim.Native.Nat.{ℕ, suc, zero, ◌<◌, ◌≤◌}
+use Rattle.std.specs.Prelude.{Ok}
 use native.Mathlib.Omega.{arith}
 use lib.Dec.{eqb, ltb}
 use lib.ListN.{length, get_or}
@@ -13,7 +14,7 @@ use Rattle.parts.proofs.Picks.{pick_case}
 use Rattle.parts.proofs.Bools.{and_left, and_right, and_both}
 use Rattle.rule_list.specs.RuleList.{first_says}
 use Rattle.tag.specs.Layout.{reply_bytes}
-use Rattle.calls.specs.Passed.{NoRefusal, MemoryLength, ReplyShort, OutOfRange, RackSize, EqualUids, number, tag_in_range, judgement}
+use Rattle.calls.specs.Passed.{MemoryLength, ReplyShort, OutOfRange, RackSize, EqualUids, number, tag_in_range, judgement}
 use Rattle.calls.proofs.Passed.{applies_of, not_refused}
 use Rattle.calls.specs.Calls.{Device, DeviceResult, entry}
 use Rattle.calls.proofs.Laws.{Fits, fits_next}
@@ -74,7 +75,7 @@ turns_fit c i (d ∷ ds) b f = (
 )
 
 -- ---- an unrefused call finds a rack in range
-module _ (r : Rack) (c : RackCall) (h : judgement (rack_rules r c) ≡ NoRefusal) where
+module _ (r : Rack) (c : RackCall) (h : judgement (rack_rules r c) ≡ Ok tt) where
   pub size_of : length r.memory ≡ memory_sizes r.tags
   unfolding applies_of first_says number pick
   size_of = eqb-true _ _ (not-false _ (not_refused MemoryLength (rack_rules r c) h))

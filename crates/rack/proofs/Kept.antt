@@ -4,8 +4,9 @@ use mathlib.Core.Bool.{true}
 use mathlib.Core.List.{List, [], ◌∷◌}
 use Prim.Native.Nat.{ℕ, suc, ◌+◌}
 use lib.ListN.{length}
+use Rattle.std.specs.Prelude.{Ok, Err}
 use Rattle.parts.specs.Bytes.{are_bytes}
-use Rattle.calls.specs.Passed.{Refusal, Judgement, NoRefusal, RefusedBy, judgement, unless_refused}
+use Rattle.calls.specs.Passed.{Refusal, Judgement, judgement, unless_refused}
 use Rattle.calls.specs.Calls.{Device, entry}
 use Rattle.rack.specs.Rack.{Rack, RackCall, memory_size, memory_sizes, devices, tags_of}
 use Rattle.rack.specs.Rules.{rack_rules}
@@ -25,16 +26,16 @@ judged_as : (r : Rack) (c : RackCall) (j : Judgement) → judgement (rack_rules 
 unfolding rack_step
 judged_as r c j h = ap (λ (j : Judgement). unless_refused j (λ (x : Refusal). rack_result (rack_refused x c.handed) r) (rack_acts entry r c)) h
 
-pub call_refused : (r : Rack) (c : RackCall) (x : Refusal) → judgement (rack_rules r c) ≡ RefusedBy x
+pub call_refused : (r : Rack) (c : RackCall) (x : Refusal) → judgement (rack_rules r c) ≡ Err x
     → rack_entry r c ≡ rack_result (rack_refused x c.handed) r
 unfolding unless_refused
-call_refused r c x h = judged_as r c (RefusedBy x) h
+call_refused r c x h = judged_as r c (Err x) h
 
 -- ---- or not
-module _ (r : Rack) (c : RackCall) (h : judgement (rack_rules r c) ≡ NoRefusal) where
+module _ (r : Rack) (c : RackCall) (h : judgement (rack_rules r c) ≡ Ok tt) where
   pub call_acts : rack_entry r c ≡ rack_acts entry r c
   unfolding unless_refused
-  call_acts = judged_as r c NoRefusal h
+  call_acts = judged_as r c (Ok tt) h
 
   pub call_says : (rack_entry r c).says ≡ together c (said_by (turns_of entry c 0 (devices r)))
   unfolding rack_acts

@@ -1,8 +1,8 @@
 -- What is proved of the definitions of a rack.
-use Rattle.std.specs.Prelude.{◌≡◌, Bool, true, false, not, ◌&&◌, ◌||◌, List, [], ◌∷◌, ℕ, suc, ◌<◌, leb, eqb, length, get_or}
+use Rattle.std.specs.Prelude.{◌≡◌, Bool, true, false, not, ◌&&◌, ◌||◌, List, [], ◌∷◌, ℕ, suc, ◌<◌, leb, eqb, length, get_or, Ok, Err}
 use Rattle.parts.specs.Pick.{pick}
 use Rattle.parts.specs.Bytes.{are_bytes}
-use Rattle.calls.specs.Passed.{Refusal, NoRefusal, RefusedBy, Call, number, RefusalRule, judgement, Refused, is_reply}
+use Rattle.calls.specs.Passed.{Refusal, Call, number, RefusalRule, judgement, Refused, is_reply}
 use Rattle.signal_table.specs.declared.Signal.{Signal}
 use Rattle.signal_table.specs.declared.Signal.TheVariants.{Wire, Field, Frame, EndOfFrame}
 use Rattle.signal_table.specs.Table.{signal_in_range, signal_by}
@@ -69,7 +69,7 @@ RefusalsInOrder = (rack : Rack) (call : RackCall) → refusal_numbers (rack_rule
 -- ---- one call
 -- one that is refused changes no tag and no byte, and nobody answered
 abbrev pub RefusedChangesNothing : Type 0
-RefusedChangesNothing = (step : Step) (rack : Rack) (call : RackCall) (refusal : Refusal) → judgement (rack_rules rack call) ≡ RefusedBy refusal
+RefusedChangesNothing = (step : Step) (rack : Rack) (call : RackCall) (refusal : Refusal) → judgement (rack_rules rack call) ≡ Err refusal
     → rack_step step rack call ≡ rack_result (rack_answer (call_answer (Refused refusal) call.handed.buffer) []) rack
 
 -- in any other, tag i steps if the signal goes to it, and else stays
@@ -80,4 +80,4 @@ pub record Served (rack : Rack) (call : RackCall) : Type 0 where
   pub named : to_all call.handed.code ≡ false → (rack_entry rack call).says.says ≡ (entry (device_at rack call.to) call.handed).says
 
 abbrev pub ServesEach : Type 0
-ServesEach = (rack : Rack) (call : RackCall) → are_bytes call.handed.frame ≡ true → judgement (rack_rules rack call) ≡ NoRefusal → Served rack call
+ServesEach = (rack : Rack) (call : RackCall) → are_bytes call.handed.frame ≡ true → judgement (rack_rules rack call) ≡ Ok tt → Served rack call

@@ -1,9 +1,9 @@
 -- 02's refusals of a rack: "1 and 4 read every tag; 5 rack empty or above 16; 6 no such tag; 7 two equal UIDs; all after 1 to 4".
-use Rattle.std.specs.Prelude.{◌≡◌, Bool, true, false, not, ◌&&◌, ◌||◌, List, [], ◌∷◌, ℕ, leb, ltb, eqb, length}
+use Rattle.std.specs.Prelude.{◌≡◌, Bool, true, false, not, ◌&&◌, ◌||◌, List, [], ◌∷◌, ℕ, leb, ltb, eqb, length, Ok}
 use Rattle.keys.specs.declared.Uid.{Uid}
 use Rattle.keys.specs.Keys.{same_uid}
 use Rattle.tag.specs.declared.Tag.{Tag}
-use Rattle.calls.specs.Passed.{Refusal, MemoryLength, OutOfRange, RackSize, NoSuchTag, EqualUids, NoRefusal, number, RefusalRule, refusal_rule, reply_rule, signal_rule, tag_in_range, judgement}
+use Rattle.calls.specs.Passed.{Refusal, MemoryLength, OutOfRange, RackSize, NoSuchTag, EqualUids, number, RefusalRule, refusal_rule, reply_rule, signal_rule, tag_in_range, judgement}
 use Rattle.calls.specs.Calls.{Device}
 use Rattle.rack.specs.Rack.{Rack, RackCall, memory_sizes, devices, to_all}
 
@@ -44,7 +44,7 @@ abbrev pub rack_alone_rules : Rack → List RefusalRule
 rack_alone_rules rack = rack_memory_rule rack ∷ rack_range_rule rack ∷ size_rule rack ∷ uids_rule rack ∷ []
 
 abbrev pub WellFormed : Rack → Type 0
-WellFormed rack = judgement (rack_alone_rules rack) ≡ NoRefusal
+WellFormed rack = judgement (rack_alone_rules rack) ≡ Ok tt
 
 -- their refusals: 1, 4, 5 and 7
 unfoldable pub looks_at_rack : Refusal → Bool

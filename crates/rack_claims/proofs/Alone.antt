@@ -3,11 +3,11 @@ use mathlib.Core.Path.{◌≡◌, refl, ap, ◌∙◌}
 use mathlib.Core.Bool.{Bool, true, false}
 use mathlib.Core.List.{List, [], ◌∷◌}
 use Prim.Native.Nat.{ℕ, zero, suc, ◌+◌, ◌<◌}
+use Rattle.std.specs.Prelude.{Ok, Err}
 use native.Mathlib.Omega.{arith}
 use lib.ListN.{length, get_or}
 use Rattle.parts.specs.Pick.{pick}
 use Rattle.refusals.specs.declared.Refusal.{Refusal}
-use Rattle.refusals.specs.declared.Judgement.TheVariants.{NoRefusal, RefusedBy}
 use Rattle.refusals.specs.Refusals.{unless_refused}
 use Rattle.refusals.specs.Call.{Call}
 use Rattle.refusals.proofs.Laws.{judged_case}
@@ -44,22 +44,22 @@ end_if false d x cs = refl
 -- ---- a call that is not refused
 module _ (c : RackCall) (js : List JudgedCall) where
   abbrev served : List JudgedCall
-  served = judged_call NoRefusal c ∷ js
+  served = judged_call (Ok tt) c ∷ js
 
-  pub next_served : (i : ℕ) (ds : List Device) → next_of_each (judged_call NoRefusal c) i (of_each answers_alone served i ds) ≡ said_by (turns_of entry c i ds)
+  pub next_served : (i : ℕ) (ds : List Device) → next_of_each (judged_call (Ok tt) c) i (of_each answers_alone served i ds) ≡ said_by (turns_of entry c i ds)
   unfolding next_of_each of_each own_calls own_call has_call unless_refused said_by turns_of turn_of
   next_served i [] = refl
   next_served i (d ∷ ds) =
-      ap (λ (a : CallAnswer). a ∷ next_of_each (judged_call NoRefusal c) (suc i) (of_each answers_alone served (suc i) ds))
+      ap (λ (a : CallAnswer). a ∷ next_of_each (judged_call (Ok tt) c) (suc i) (of_each answers_alone served (suc i) ds))
       (next_if (goes_to c i) d c.handed (own_calls i js))
       ∙ ap (λ (l : List CallAnswer). (turn_of entry c i d).says ∷ l) (next_served (suc i) ds)
 
   pub later_served : (i : ℕ) (ds : List Device)
-      → later_of_each (judged_call NoRefusal c) i (of_each answers_alone served i ds) ≡ of_each answers_alone js i (left_by (turns_of entry c i ds))
+      → later_of_each (judged_call (Ok tt) c) i (of_each answers_alone served i ds) ≡ of_each answers_alone js i (left_by (turns_of entry c i ds))
   unfolding later_of_each of_each own_calls own_call has_call unless_refused left_by turns_of turn_of
   later_served i [] = refl
   later_served i (d ∷ ds) =
-      ap (λ (a : List CallAnswer). a ∷ later_of_each (judged_call NoRefusal c) (suc i) (of_each answers_alone served (suc i) ds))
+      ap (λ (a : List CallAnswer). a ∷ later_of_each (judged_call (Ok tt) c) (suc i) (of_each answers_alone served (suc i) ds))
       (later_if (goes_to c i) d c.handed (own_calls i js))
       ∙ ap (λ (l : List (List CallAnswer)). answers_alone (turn_of entry c i d).device (own_calls i js) ∷ l) (later_served (suc i) ds)
 
@@ -80,13 +80,13 @@ still d c =
 
 module _ (r : Refusal) (c : RackCall) (js : List JudgedCall) where
   abbrev kept : List JudgedCall
-  kept = judged_call (RefusedBy r) c ∷ js
+  kept = judged_call (Err r) c ∷ js
 
-  pub later_refused : (i : ℕ) (ds : List Device) → later_of_each (judged_call (RefusedBy r) c) i (of_each answers_alone kept i ds) ≡ of_each answers_alone js i ds
+  pub later_refused : (i : ℕ) (ds : List Device) → later_of_each (judged_call (Err r) c) i (of_each answers_alone kept i ds) ≡ of_each answers_alone js i ds
   unfolding later_of_each later_answers of_each own_calls own_call has_call unless_refused run_by pick
   later_refused i [] = refl
   later_refused i (d ∷ ds) =
-      ap (λ (a : List CallAnswer). a ∷ later_of_each (judged_call (RefusedBy r) c) (suc i) (of_each answers_alone kept (suc i) ds))
+      ap (λ (a : List CallAnswer). a ∷ later_of_each (judged_call (Err r) c) (suc i) (of_each answers_alone kept (suc i) ds))
       (ap (λ (e : Device). answers_alone e (own_calls i js)) (still d c.handed))
       ∙ ap (λ (l : List (List CallAnswer)). answers_alone d (own_calls i js) ∷ l) (later_refused (suc i) ds)
 

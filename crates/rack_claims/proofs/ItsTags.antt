@@ -3,14 +3,13 @@ use mathlib.Core.Path.{◌≡◌, refl, sym, ap, subst, ◌∙◌}
 use mathlib.Core.Bool.{true}
 use mathlib.Core.List.{List, [], ◌∷◌}
 use Prim.Native.Nat.{ℕ, ◌+◌, ◌<◌}
+use Rattle.std.specs.Prelude.{Ok, Err}
 use native.Mathlib.Nat.{zero-add}
 use lib.ListN.{length, get_or}
 use Rattle.parts.specs.Bytes.{are_bytes}
 use Rattle.parts.proofs.Bools.{and_left, and_right}
 use Rattle.refusals.specs.declared.Refusal.{Refusal}
-use Rattle.refusals.specs.declared.Judgement.{Judgement}
-use Rattle.refusals.specs.declared.Judgement.TheVariants.{NoRefusal, RefusedBy}
-use Rattle.refusals.specs.Refusals.{judgement, unless_refused}
+use Rattle.refusals.specs.Refusals.{judgement, unless_refused, Judgement}
 use Rattle.rack.specs.Passed.{Device, entry}
 use Rattle.rack.specs.Rack.{Rack, RackCall, device_at, devices}
 use Rattle.rack.specs.Rules.{rack_rules}
@@ -39,7 +38,7 @@ module _ (r : Rack) (c : RackCall) (b : are_bytes c.handed.frame ≡ true) (r' :
   abbrev turns : List Device
   turns = left_by (turns_of entry c 0 (devices r))
 
-  same_served : judgement (rack_rules r c) ≡ NoRefusal → SameAfter NoRefusal
+  same_served : judgement (rack_rules r c) ≡ Ok tt → SameAfter (Ok tt)
   unfolding answers_made answer_made unless_refused
   same_served h =
       let after : devices (rack_entry r c).rack ≡ turns = call_leaves r c h b in
@@ -52,11 +51,11 @@ module _ (r : Rack) (c : RackCall) (b : are_bytes c.handed.frame ≡ true) (r' :
             (next.made
             ∙ ap (λ (ds : List Device). answers_made js (of_each answers_alone js 0 ds)) after
             ∙ ap (answers_made js) (sym (later_served c js 0 (devices r))))
-            ∙ ap (λ (a : RackAnswer). a ∷ answers_made js (later_of_each (judged_call NoRefusal c) 0 (of_each answers_alone (judged_call NoRefusal c ∷ js) 0 (devices r))))
+            ∙ ap (λ (a : RackAnswer). a ∷ answers_made js (later_of_each (judged_call (Ok tt) c) 0 (of_each answers_alone (judged_call (Ok tt) c ∷ js) 0 (devices r))))
             (call_says r c h ∙ ap (together c) (sym (next_served c js 0 (devices r))));
       }
 
-  same_refused : (x : Refusal) → judgement (rack_rules r c) ≡ RefusedBy x → SameAfter (RefusedBy x)
+  same_refused : (x : Refusal) → judgement (rack_rules r c) ≡ Err x → SameAfter (Err x)
   unfolding answers_made answer_made unless_refused
   same_refused x h =
       let stays = call_refused r c x h in
@@ -69,13 +68,13 @@ module _ (r : Rack) (c : RackCall) (b : are_bytes c.handed.frame ≡ true) (r' :
             (next.made
             ∙ ap (λ (e : RackResult). answers_made js (of_each answers_alone js 0 (devices e.rack))) stays
             ∙ ap (answers_made js) (sym (later_refused x c js 0 (devices r))))
-            ∙ ap (λ (a : RackAnswer). a ∷ answers_made js (later_of_each (judged_call (RefusedBy x) c) 0 (of_each answers_alone (judged_call (RefusedBy x) c ∷ js) 0 (devices r))))
+            ∙ ap (λ (a : RackAnswer). a ∷ answers_made js (later_of_each (judged_call (Err x) c) 0 (of_each answers_alone (judged_call (Err x) c ∷ js) 0 (devices r))))
             (ap (λ (e : RackResult). e.says) stays);
       }
 
   same_by : (j : Judgement) → judgement (rack_rules r c) ≡ j → SameAfter j
-  same_by NoRefusal h = same_served h
-  same_by (RefusedBy x) h = same_refused x h
+  same_by (Ok tt) h = same_served h
+  same_by (Err x) h = same_refused x h
 
 same : (cs : List RackCall) (r : Rack) → rack_frames_fit cs ≡ true → Same r cs
 unfolding rack_run judged_calls answers_made rack_frames_fit

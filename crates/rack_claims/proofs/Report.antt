@@ -3,6 +3,7 @@ use mathlib.Core.Path.{◌≡◌, refl, sym, ap, ◌∙◌}
 use mathlib.Core.Bool.{Bool, false, false≢true}
 use mathlib.Core.List.{List, [], ◌∷◌}
 use Prim.Native.Nat.{ℕ, suc}
+use Rattle.std.specs.Prelude.{Ok, Err}
 use Rattle.parts.specs.Pick.{pick}
 use Rattle.parts.proofs.Picks.{pick_case}
 use Rattle.tag.specs.Parts.{wire_side}
@@ -12,9 +13,7 @@ use Rattle.demand3.specs.Passed.{signal_of, is_reply, from_wire, act_of}
 use Rattle.signal_table.specs.declared.Signal.{Signal}
 use Rattle.signal_table.specs.declared.Signal.TheVariants.{Wire, Field, Frame, EndOfFrame}
 use Rattle.signal_table.specs.Table.{signal_by}
-use Rattle.refusals.specs.declared.Judgement.{Judgement}
-use Rattle.refusals.specs.declared.Judgement.TheVariants.{NoRefusal, RefusedBy}
-use Rattle.refusals.specs.Refusals.{judgement}
+use Rattle.refusals.specs.Refusals.{judgement, Judgement}
 use Rattle.refusals.specs.Call.{Call}
 use Rattle.rack.specs.Passed.{Device, DeviceResult, entry}
 use Rattle.rack.proofs.Passed.{Fits, acted_by, call_case}
@@ -66,5 +65,5 @@ unfolding together
 only_radio_reported r c h = by (judgement (rack_rules r c)) refl
   where
     by : (j : Judgement) → judgement (rack_rules r c) ≡ j → (rack_entry r c).says.report ≡ []
-    by NoRefusal k = ap (λ (a : RackAnswer). a.report) (call_says r c k) ∙ none_replied c h 0 0 (devices r) (fit_of r c k)
-    by (RefusedBy x) k = ap (λ (e : RackResult). e.says.report) (call_refused r c x k)
+    by (Ok tt) k = ap (λ (a : RackAnswer). a.report) (call_says r c k) ∙ none_replied c h 0 0 (devices r) (fit_of r c k)
+    by (Err x) k = ap (λ (e : RackResult). e.says.report) (call_refused r c x k)

@@ -6,6 +6,7 @@ use Prim.Native.Nat.{ℕ, suc}
 use lib.Dec.{eqb, ltb}
 use lib.ListN.{length}
 use borrow.Author.Tests.{eqb-true, eq-eqb, not-false}
+use Rattle.std.specs.Prelude.{Ok, Err}
 use Rattle.parts.specs.Pick.{pick}
 use Rattle.parts.specs.Bytes.{are_bytes}
 use Rattle.parts.proofs.Picks.{pick_case}
@@ -13,9 +14,7 @@ use Rattle.parts.proofs.Bools.{and_left, and_right}
 use Rattle.rule_list.specs.RuleList.{any_holds, first_says}
 use Rattle.keys.specs.declared.Uid.{Uid}
 use Rattle.keys.specs.Keys.{same_uid}
-use Rattle.refusals.specs.declared.Judgement.{Judgement}
-use Rattle.refusals.specs.declared.Judgement.TheVariants.{NoRefusal, RefusedBy}
-use Rattle.refusals.specs.Refusals.{number, RefusalRule, reply_rule, signal_rule, judgement, unless_refused}
+use Rattle.refusals.specs.Refusals.{number, RefusalRule, reply_rule, signal_rule, judgement, unless_refused, Judgement}
 use Rattle.refusals.proofs.Laws.{NoneApplies, none_applies, no_refusal, refused_by}
 use Rattle.rack.specs.Passed.{Device, DeviceResult, entry}
 use Rattle.rack.proofs.Passed.{Fits}
@@ -64,8 +63,8 @@ call_judged r c f =
     ap (λ (j : Judgement). unless_refused j looks_at_rack false) (formed_judged r c f) ∙ by (judgement (call_rules r c)) refl
   where
     by : (j : Judgement) → judgement (call_rules r c) ≡ j → unless_refused j looks_at_rack false ≡ false
-    by NoRefusal h = refl
-    by (RefusedBy x) h = refused_by looks_at_rack (call_rules r c) x refl h
+    by (Ok tt) h = refl
+    by (Err x) h = refused_by looks_at_rack (call_rules r c) x refl h
 
 -- ---- the UIDs stay
 turn_uid : (c : RackCall) (i : ℕ) (d : Device) → Fits d → (turn_of entry c i d).device.tag.uid ≡ d.tag.uid
@@ -91,7 +90,7 @@ uids_kept c i (d ∷ ds) f =
     ∙ ap (λ (b : Bool). has_uid d.tag.uid (tags_of ds) || b) (uids_kept c (suc i) ds f.1)
 
 -- ---- so a call leaves a well_formed rack well_formed
-served_formed : (r : Rack) (c : RackCall) → are_bytes c.handed.frame ≡ true → judgement (rack_rules r c) ≡ NoRefusal → Formed r → Formed (rack_entry r c).rack
+served_formed : (r : Rack) (c : RackCall) → are_bytes c.handed.frame ≡ true → judgement (rack_rules r c) ≡ Ok tt → Formed r → Formed (rack_entry r c).rack
 unfolding rack_acts
 served_formed r c b h f =
     let left = left_by (turns_of entry c 0 (devices r)) in
@@ -111,8 +110,8 @@ pub next_formed : (r : Rack) (c : RackCall) → are_bytes c.handed.frame ≡ tru
 next_formed r c b f = by (judgement (rack_rules r c)) refl
   where
     by : (j : Judgement) → judgement (rack_rules r c) ≡ j → Formed (rack_entry r c).rack
-    by NoRefusal h = served_formed r c b h f
-    by (RefusedBy x) h = subst (λ (e : RackResult). Formed e.rack) (sym (call_refused r c x h)) f
+    by (Ok tt) h = served_formed r c b h f
+    by (Err x) h = subst (λ (e : RackResult). Formed e.rack) (sym (call_refused r c x h)) f
 
 stays : (cs : List RackCall) (r : Rack) → Formed r → rack_frames_fit cs ≡ true → StaysWellFormed rack_entry r cs
 unfolding rack_run judged_calls rack_frames_fit any_holds

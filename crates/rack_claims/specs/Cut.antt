@@ -2,9 +2,8 @@
 use Rattle.std.specs.Prelude.{Bool, true, List, [], ◌∷◌, ℕ, suc, get_or, drop}
 use Rattle.parts.specs.Pick.{pick}
 use Rattle.refusals.specs.declared.Refusal.{Refusal}
-use Rattle.refusals.specs.declared.Judgement.{Judgement}
 use Rattle.refusals.specs.Call.{Call, handed_in}
-use Rattle.refusals.specs.Refusals.{judgement, unless_refused}
+use Rattle.refusals.specs.Refusals.{judgement, unless_refused, Judgement}
 use Rattle.demand3.specs.Passed.{Nothing}
 use Rattle.rack.specs.Passed.{CallAnswer, call_answer, Device}
 use Rattle.rack.specs.Rack.{Rack, RackCall, goes_to}

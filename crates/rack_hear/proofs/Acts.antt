@@ -6,6 +6,7 @@ use Prim.Native.Nat.{ℕ}
 use lib.Dec.{leb, eqb}
 use lib.ListN.{length}
 use borrow.Author.Tests.{eqb-true}
+use Rattle.std.specs.Prelude.{Ok}
 use Rattle.parts.specs.Pick.{pick}
 use Rattle.parts.proofs.Bools.{and_left}
 use Rattle.rule_list.specs.RuleList.{any_holds}
@@ -25,7 +26,6 @@ use Rattle.reply.specs.Reply.{ReplyBody, nothing, body, buffer_of, answer_of}
 use Rattle.reply.specs.Outcome.{radio_side}
 use Rattle.inventory_reply.proofs.Laws.{end_leaves}
 use Rattle.model.proofs.Passed.{frame_behaves}
-use Rattle.refusals.specs.declared.Judgement.TheVariants.{NoRefusal}
 use Rattle.refusals.specs.Call.{Call}
 use Rattle.refusals.specs.Refusals.{argument_rules, judgement}
 use Rattle.model.specs.declared.Answer.TheVariants.{Nothing, Silence}
@@ -122,6 +122,6 @@ act_size EndOfFrame t m o f fit =
     ap length (end_leaves (radio_side t) t.uid (dynamic_now (radio_side t) transfer) (busy_now transfer t.host.programming) m).1 ∙ fit.size
 
 -- ---- a call that is not refused
-pub entry_acts : (d : Device) (c : Call) → Fits d → judgement (argument_rules c) ≡ NoRefusal → entry d c ≡ acted d c
+pub entry_acts : (d : Device) (c : Call) → Fits d → judgement (argument_rules c) ≡ Ok tt → entry d c ≡ acted d c
 unfolding entry
 entry_acts d c f h = ap device_result_of (fit_acts d.tag d.memory c f h)

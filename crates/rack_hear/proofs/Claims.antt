@@ -3,6 +3,7 @@ use mathlib.Core.Path.{◌≡◌, refl, sym, ap, subst, ◌∙◌}
 use mathlib.Core.Bool.{Bool, true, false, not, ◌||◌, false≢true}
 use mathlib.Core.List.{List, [], ◌∷◌, ◌++◌, append_assoc, append-nil}
 use Prim.Native.Nat.{ℕ, zero, suc, ◌+◌, ◌-◌, ◌*◌, ◌≤◌, ◌<◌}
+use Rattle.std.specs.Prelude.{Ok}
 use native.Mathlib.Omega.{arith}
 use native.Mathlib.Nat.{zero-add}
 use lib.Dec.{leb, ltb, eqb}
@@ -17,7 +18,6 @@ use Rattle.tag.specs.Layout.{reply_bytes}
 use Rattle.signal_table.specs.declared.Signal.{Signal}
 use Rattle.signal_table.specs.Table.{signal_in_range, signal_by}
 use Rattle.refusals.specs.declared.Refusal.TheVariants.{ReplyShort, SignalUnknown}
-use Rattle.refusals.specs.declared.Judgement.TheVariants.{NoRefusal}
 use Rattle.refusals.specs.Call.{handed_in}
 use Rattle.refusals.specs.Refusals.{number, argument_rules, judgement}
 use Rattle.refusals.proofs.Laws.{applies_of, NoneApplies, not_refused, no_refusal}
@@ -68,7 +68,7 @@ fit_take (suc i) (d ∷ ds) f = (f.0, fit_take i ds f.1)
 same_or : (a b : Bool) → a ≡ false → (a || b) ≡ true → b ≡ true
 same_or a b p h = ap (λ (x : Bool). x || b) (sym p) ∙ h
 
-module _ (ts : List Tag) (m o f : List ℕ) (n code value to : ℕ) (h : judgement (rack_rules (rack_of (take n ts) m) (rack_call (handed_in o code value f) to)) ≡ NoRefusal) where
+module _ (ts : List Tag) (m o f : List ℕ) (n code value to : ℕ) (h : judgement (rack_rules (rack_of (take n ts) m) (rack_call (handed_in o code value f) to)) ≡ Ok tt) where
   abbrev r : Rack
   r = rack_of (take n ts) m
 
@@ -86,7 +86,7 @@ module _ (ts : List Tag) (m o f : List ℕ) (n code value to : ℕ) (h : judgeme
   unfolding applies_of first_says number pick
   known = not-false _ (not_refused SignalUnknown (rack_rules r c) h)
 
-  arguments : judgement (argument_rules c.handed) ≡ NoRefusal
+  arguments : judgement (argument_rules c.handed) ≡ Ok tt
   unfolding NoneApplies applies_of first_says number pick
   arguments = no_refusal (argument_rules c.handed) (not_refused ReplyShort (rack_rules r c) h, (not_refused SignalUnknown (rack_rules r c) h, tt))
 

@@ -1,8 +1,7 @@
 -- What the tags of a slice do of a call that they hear one after the other: the first n of them are a rack.
-use Rattle.std.specs.Prelude.{◌≡◌, List, ℕ, length, take, drop}
+use Rattle.std.specs.Prelude.{◌≡◌, List, ℕ, length, take, drop, Ok}
 use Rattle.tag.specs.declared.Tag.{Tag}
 use Rattle.refusals.specs.declared.Refusal.{Refusal}
-use Rattle.refusals.specs.declared.Judgement.TheVariants.{NoRefusal}
 use Rattle.refusals.specs.Call.{handed_in}
 use Rattle.refusals.specs.Refusals.{judgement}
 use Rattle.rack_judge.specs.Passed.{call_answer, entry, rack_of, rack_call, rack_rules, rack_answer, numbers_from, RackResult, rack_result, rack_acts}
@@ -21,7 +20,7 @@ abbrev pub HearsRacks : Type 0
 HearsRacks = (tags : List Tag) (m o f : List ℕ) (n code value to : ℕ)
     → let rack = rack_of (take n tags) m in
     let call = rack_call (handed_in o code value f) to in
-    judgement (rack_rules rack call) ≡ NoRefusal
+    judgement (rack_rules rack call) ≡ Ok tt
     → HeardAsRack n tags m (hear_all_of (length tags) tags m o f (hear_start (length (take n tags)) code value to)) (rack_acts entry rack call)
 
 -- no tag hears one that is refused

@@ -5,11 +5,10 @@ use Rattle.tag.specs.declared.Tag.{Tag}
 use Rattle.tag.specs.Layout.{memory_bytes, reply_bytes}
 use Rattle.signal_table.specs.Table.{signal_by}
 use Rattle.refusals.specs.declared.Refusal.{Refusal}
-use Rattle.refusals.specs.declared.Judgement.{Judgement}
 use Rattle.model.specs.declared.Answer.{Answer}
 use Rattle.model.specs.declared.Answer.TheVariants.{Refused, Nothing, Silence}
 use Rattle.model.specs.Step.{StepResult, is_reply, act_of}
-use Rattle.refusals.specs.Refusals.{unless_refused}
+use Rattle.refusals.specs.Refusals.{unless_refused, Judgement}
 use Rattle.rack_judge.specs.Passed.{no_tag, to_all}
 use Rattle.rack_hear.specs.declared.Heard.{Heard}
 use Rattle.rack_hear.specs.declared.HeardTag.{HeardTag}

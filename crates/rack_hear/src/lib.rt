@@ -8,7 +8,7 @@ ghost use Rattle.tag.specs.Layout.{memory_bytes};
 ghost use Rattle.rack_hear.specs.Hear.{no_reply_answer, hear_start, hear_refused, hearing_of, passed_by, noted_by, heard_tag, act_at, hear_of};
 
 use model::Answer;
-use refusals::{Judgement, Refusal};
+use refusals::Refusal;
 use tag::Tag;
 
 // The call, and the rack's answer so far.
@@ -94,12 +94,12 @@ fn hear_refused(why: Refusal, code: u32, value: u32, to: usize) -> Heard
 }
 
 // What the tags of a rack hear of a call that was judged.
-pub fn hearing(judged: Judgement, number: usize, code: u32, value: u32, to: usize) -> Heard
+pub fn hearing(judged: Result<(), Refusal>, number: usize, code: u32, value: u32, to: usize) -> Heard
     ensures { result ≡ hearing_of judged number code value to }
 {
     match judged {
-        Judgement::RefusedBy(why) => hear_refused(why, code, value, to),
-        Judgement::NoRefusal => hear_start(number, code, value, to),
+        Err(why) => hear_refused(why, code, value, to),
+        Ok(()) => hear_start(number, code, value, to),
     }
 }
 

@@ -10,7 +10,7 @@ ghost use Rattle.rack.specs.Rules.{most_tags, all_in_range, equal_uids, rack_rul
 ghost use Rattle.rack_judge.specs.Judge.{uid_among};
 
 use keys::Uid;
-use refusals::{Judgement, Refusal};
+use refusals::Refusal;
 use tag::Tag;
 
 // How many tags the rack has: as many as it is to have, and no more than sixteen.
@@ -95,30 +95,30 @@ pub fn rack_refusal(
     code: u32,
     value: u32,
     to: usize,
-) -> Judgement
+) -> Result<(), Refusal>
     ensures { result ≡ judgement (rack_rules (rack_of (take number tags) memory.now) (rack_call (handed_in out.now code value []) to)) }
 {
     let n = tag_count(number);
     if memory.len() != n * tag::MEMORY_BYTES {
-        return Judgement::RefusedBy(Refusal::MemoryLength);
+        return Err(Refusal::MemoryLength);
     }
     if out.len() < tag::REPLY_BYTES {
-        return Judgement::RefusedBy(Refusal::ReplyShort);
+        return Err(Refusal::ReplyShort);
     }
     if !signal_table::signal_in_range(code, value) {
-        return Judgement::RefusedBy(Refusal::SignalUnknown);
+        return Err(Refusal::SignalUnknown);
     }
     if !all_in_range(tags, n, memory) {
-        return Judgement::RefusedBy(Refusal::OutOfRange);
+        return Err(Refusal::OutOfRange);
     }
     if n == 0 {
-        return Judgement::RefusedBy(Refusal::RackSize);
+        return Err(Refusal::RackSize);
     }
     if !to_all(code) & (n <= to) {
-        return Judgement::RefusedBy(Refusal::NoSuchTag);
+        return Err(Refusal::NoSuchTag);
     }
     if equal_uids(tags, n) {
-        return Judgement::RefusedBy(Refusal::EqualUids);
+        return Err(Refusal::EqualUids);
     }
-    Judgement::NoRefusal
+    Ok(())
 }

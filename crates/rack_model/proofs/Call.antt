@@ -3,12 +3,11 @@ use mathlib.Core.Path.{◌≡◌, refl, sym, ap, subst, ◌∙◌}
 use mathlib.Core.List.{List}
 use Prim.Native.Nat.{ℕ, min}
 use lib.ListN.{length, take, drop}
+use Rattle.std.specs.Prelude.{Ok, Err}
 use Rattle.tag.specs.declared.Tag.{Tag}
 use Rattle.refusals.specs.declared.Refusal.{Refusal}
-use Rattle.refusals.specs.declared.Judgement.{Judgement}
-use Rattle.refusals.specs.declared.Judgement.TheVariants.{NoRefusal, RefusedBy}
 use Rattle.refusals.specs.Call.{handed_in}
-use Rattle.refusals.specs.Refusals.{judgement, unless_refused}
+use Rattle.refusals.specs.Refusals.{judgement, unless_refused, Judgement}
 use Rattle.calls.specs.Calls.{call_answer, entry}
 use Rattle.parts.specs.Pick.{pick}
 use Rattle.rack.specs.Rack.{Rack, RackCall, rack_of, rack_call}
@@ -46,8 +45,8 @@ module _ (tags : List Tag) (m o f : List ℕ) (n code value to : ℕ) where
 
   by_judgement : (j : Judgement) → judged ≡ j → Called n tags (left j) (given j)
   unfolding hearing_of unless_refused numbers_from pick
-  by_judgement NoRefusal h = let law = hears_racks tags m o f n code value to h in record { result = law.result; others = law.others }
-  by_judgement (RefusedBy refusal) h = subst (λ (all : HeardAll). Called n tags all (given (RefusedBy refusal))) (sym (refused_unheard (length tags) tags m o f refusal code value to)) (record { result = refl; others = refl })
+  by_judgement (Ok tt) h = let law = hears_racks tags m o f n code value to h in record { result = law.result; others = law.others }
+  by_judgement (Err refusal) h = subst (λ (all : HeardAll). Called n tags all (given (Err refusal))) (sym (refused_unheard (length tags) tags m o f refusal code value to)) (record { result = refl; others = refl })
 
   called : Called n tags (left judged) (rack_entry rack call)
   unfolding rack_step

@@ -3,6 +3,7 @@ use mathlib.Core.Path.{◌≡◌, refl, sym, ap, ◌∙◌}
 use mathlib.Core.Bool.{Bool, true, false}
 use mathlib.Core.List.{List, [], ◌∷◌, ◌++◌}
 use Prim.Native.Nat.{ℕ, zero, suc, ◌+◌, ◌≤◌, ◌<◌}
+use Rattle.std.specs.Prelude.{Ok, Err, Some, None}
 use native.Mathlib.Omega.{arith}
 use native.Mathlib.Numerals.{add-one}
 use lib.ListN.{length, drop, get_or, length-append}
@@ -21,9 +22,8 @@ use Rattle.model.specs.contracts.Answer.{the_type}
 use Rattle.printing.specs.Text.{answer_text, line_text}
 use Rattle.printing.proofs.TextLaws.{length_line, answer_most}
 use Rattle.rack.specs.Step.{numbers_from}
-use Rattle.rack_search.specs.declared.SearchAnswer.{SearchAnswer}
-use Rattle.rack_search.specs.declared.SearchAnswer.TheVariants.{Refused as SearchRefused, NoCollision, Collision}
 use Rattle.rack_printing.specs.Text.{refused_text, said_text, numbers_text, report_text, search_text}
+use Rattle.rack_search.specs.Search.{SearchAnswer}
 
 -- ---- the answers but for a refusal, by their numbers in the enum, print as in `bench`
 abbrev others : List ℕ
@@ -73,9 +73,9 @@ said_most (Reply n) o h = answer_most (Reply n) o h
 
 pub search_most : (answer : SearchAnswer) → length (search_text answer) ≤ 21
 unfolding search_text refused_text
-search_most (SearchRefused refusal) = refused_most (number refusal)
-search_most NoCollision = omega arith
-search_most (Collision k) = omega (arith, digits_most 20 k)
+search_most (Err refusal) = refused_most (number refusal)
+search_most (Ok None) = omega arith
+search_most (Ok (Some k)) = omega (arith, digits_most 20 k)
 
 -- the marks and digits of k numbers from i on
 unfoldable widths : ℕ → ℕ → ℕ

@@ -1,5 +1,5 @@
 -- What `rack_bench` prints for an answer: a line is number, tab, answer, line feed, as in `bench` (`line_text`), and `?` for a bad one (`bad_text`).
-use Rattle.std.specs.Prelude.{List, [], ◌∷◌, ◌++◌, ℕ}
+use Rattle.std.specs.Prelude.{List, [], ◌∷◌, ◌++◌, ℕ, Ok, Err, Some, None}
 use Rattle.text.specs.Decimal.{decimal}
 use Rattle.refusals.specs.declared.Refusal.{Refusal}
 use Rattle.refusals.specs.Refusals.{number}
@@ -7,8 +7,7 @@ use Rattle.model.specs.declared.Answer.{Answer}
 use Rattle.model.specs.declared.Answer.TheVariants.{Refused, Nothing, Ack, NoAck, Byte, Silence, Reply}
 use Rattle.printing.specs.Text.{answer_text}
 use Rattle.rack.specs.Step.{RackAnswer}
-use Rattle.rack_search.specs.declared.SearchAnswer.{SearchAnswer}
-use Rattle.rack_search.specs.declared.SearchAnswer.TheVariants.{Refused as SearchRefused, NoCollision, Collision}
+use Rattle.rack_search.specs.Search.{SearchAnswer}
 
 -- "A refused call prints `!` and its number."
 unfoldable pub refused_text : Refusal → List ℕ
@@ -39,6 +38,6 @@ rack_text answer = said_text answer.says.answer answer.says.buffer ++ report_tex
 
 -- the search is "answered by the slot in decimal or `-`"
 unfoldable pub search_text : SearchAnswer → List ℕ
-search_text (SearchRefused refusal) = refused_text refusal
-search_text NoCollision = 0x2D ∷ []
-search_text (Collision k) = decimal k
+search_text (Err refusal) = refused_text refusal
+search_text (Ok None) = 0x2D ∷ []
+search_text (Ok (Some k)) = decimal k

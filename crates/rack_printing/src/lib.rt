@@ -12,7 +12,6 @@ ghost use Rattle.rack.specs.Step.{numbers_from, rack_answer};
 ghost use Rattle.rack_printing.specs.Text.{refused_text, said_text, report_text, rack_text, search_text};
 
 use model::Answer;
-use rack_search::SearchAnswer;
 use refusals::Refusal;
 
 // Stores the mark of a refusal and its number at a place.
@@ -72,13 +71,13 @@ fn put_report(text: &mut [u8], at: usize, answered: [bool; 16]) -> usize
 }
 
 // Stores what a search is answered with at a place.
-fn put_found(text: &mut [u8], at: usize, answer: SearchAnswer) -> usize
+fn put_found(text: &mut [u8], at: usize, answer: Result<Option<u8>, Refusal>) -> usize
     ensures { stored result text.new ≡ text_at text.old at (search_text answer) }
 {
     match answer {
-        SearchAnswer::Refused(refusal) => put_refused(text, at, refusal),
-        SearchAnswer::NoCollision => text::put_mark(text, at, b'-'),
-        SearchAnswer::Collision(k) => text::put_decimal(text, at, k as u64),
+        Err(refusal) => put_refused(text, at, refusal),
+        Ok(None) => text::put_mark(text, at, b'-'),
+        Ok(Some(k)) => text::put_decimal(text, at, k as u64),
     }
 }
 
@@ -108,7 +107,7 @@ pub fn put_rack_line(
 }
 
 // Stores the line of a search's answer, and gives its length.
-pub fn put_search_line(text: &mut [u8], number: u64, said: SearchAnswer) -> usize
+pub fn put_search_line(text: &mut [u8], number: u64, said: Result<Option<u8>, Refusal>) -> usize
     ensures value { result ≡ length (line_text number (search_text said)) }
     ensures text_after { text.new ≡ sets text.old 0 (line_text number (search_text said)) }
 {

@@ -3,6 +3,7 @@ use mathlib.Core.Path.{◌≡◌, refl, sym, ◌∙◌, ap}
 use mathlib.Core.Bool.{Bool, true, false, not, ◌&&◌, ◌||◌}
 use mathlib.Core.List.{List, []}
 use Prim.Native.Nat.{ℕ, zero, suc, ◌+◌, ◌-◌, ◌<◌, ◌≤◌}
+use Rattle.std.specs.Prelude.{Ok}
 use native.Mathlib.Omega.{arith}
 use lib.Dec.{leb, ltb, eqb}
 use lib.ListN.{length}
@@ -29,10 +30,8 @@ use Rattle.signal_table.specs.declared.Signal.TheVariants.{Frame, EndOfFrame}
 use Rattle.signal_table.specs.Table.{signal_table, signal_found, is_found, signal_in_range, signal_in, signal_by}
 use Rattle.signal_table.proofs.Laws.{frame_known, frame_code}
 use Rattle.refusals.specs.declared.Refusal.{Refusal}
-use Rattle.refusals.specs.declared.Judgement.{Judgement}
-use Rattle.refusals.specs.declared.Judgement.TheVariants.{NoRefusal}
 use Rattle.refusals.specs.Call.{Call, handed_in}
-use Rattle.refusals.specs.Refusals.{argument_rules, unless_refused}
+use Rattle.refusals.specs.Refusals.{argument_rules, unless_refused, Judgement}
 use Rattle.refusals.proofs.Laws.{NoneApplies, no_refusal}
 use Rattle.rack_claims.proofs.Passed.{step_room, Fits, acted_by, acted, refusal, found, call_is}
 use Rattle.rack_search.specs.Search.{opens_sixteen}
@@ -43,7 +42,7 @@ served : (d : Device) (c : Call) (x : Signal) → Fits d → reply_bytes ≤ len
     → entry d c ≡ acted_by x d c
 unfolding NoneApplies unless_refused
 served d c x f b s e =
-    let none : found c ≡ NoRefusal = no_refusal (argument_rules c) (le-ltb (length c.buffer) reply_bytes b, (ap not s, tt)) in
+    let none : found c ≡ Ok tt = no_refusal (argument_rules c) (le-ltb (length c.buffer) reply_bytes b, (ap not s, tt)) in
     call_is d c f
     ∙ ap (λ (j : Judgement). unless_refused j (λ (r : Refusal). refusal r d c) (acted d c)) none
     ∙ ap (λ (y : Signal). acted_by y d c) e

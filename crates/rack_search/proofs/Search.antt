@@ -3,6 +3,7 @@ use mathlib.Core.Path.{◌≡◌, refl, sym, ◌∙◌, ap, subst}
 use mathlib.Core.Bool.{Bool, true, false}
 use mathlib.Core.List.{List, [], ◌∷◌}
 use Prim.Native.Nat.{ℕ, zero, suc, ◌+◌, ◌<◌, ◌≤◌}
+use Rattle.std.specs.Prelude.{Ok, Err, Some, None}
 use native.Mathlib.Omega.{arith}
 use native.Mathlib.Nat.{zero-add}
 use lib.Dec.{ltb}
@@ -14,15 +15,11 @@ use Rattle.parts.proofs.Picks.{pick_map, pick_true, pick_false}
 use Rattle.tag.specs.Layout.{reply_bytes}
 use Rattle.signal_table.proofs.Laws.{frame_known}
 use Rattle.refusals.specs.declared.Refusal.{Refusal}
-use Rattle.refusals.specs.declared.Judgement.{Judgement}
-use Rattle.refusals.specs.declared.Judgement.TheVariants.{NoRefusal, RefusedBy}
-use Rattle.refusals.specs.Refusals.{number, judgement, unless_refused}
+use Rattle.refusals.specs.Refusals.{number, judgement, unless_refused, Judgement}
 use Rattle.refusals.proofs.Laws.{NoneApplies, none_applies}
 use Rattle.rack_claims.specs.Passed.{Device, Rack, RackCall, devices, to_all, rack_rules, rack_entry, rack_run, refusal_numbers}
 use Rattle.rack_claims.proofs.WellFormed.{Formed, next_formed}
-use Rattle.rack_search.specs.declared.SearchAnswer.{SearchAnswer}
-use Rattle.rack_search.specs.declared.SearchAnswer.TheVariants.{Refused, NoCollision, Collision}
-use Rattle.rack_search.specs.Search.{sends_frame, sends_end, sends_next, opens_sixteen, slot_count, SearchResult, search_result, collides, look, search_rules, search_of, search_entry}
+use Rattle.rack_search.specs.Search.{sends_frame, sends_end, sends_next, opens_sixteen, slot_count, SearchResult, search_result, collides, look, search_rules, search_of, search_entry, SearchAnswer}
 use Rattle.rack_search.specs.Claims.{answers_in, how_many, tags_in, sent_calls, slots_opened, buffer_after, Searches, SearchRefusalsInOrder}
 use Rattle.rack_search.proofs.Sent.{opened, From, look_left}
 use Rattle.rack_search.proofs.Count.{first_from, first_alike, Tells, first_tells, tells_slot, slot_told, tells_none, none_told}
@@ -36,8 +33,8 @@ look_next : (n k : ℕ) (r : Rack) (c : RackCall) (count : ℕ → ℕ) → coll
 unfolding look first_from
 look_next n k r c count e q =
     pick_map (λ (l : SearchResult). l.answer) (collides (rack_entry r c)) _ _
-    ∙ ap (λ (b : Bool). pick b (Collision k) (look rack_entry n (suc k) (rack_entry r c).rack (sends_next (rack_entry r c))).answer) e
-    ∙ ap (λ (x : SearchAnswer). pick (ltb 1 (count k)) (Collision k) x) q
+    ∙ ap (λ (b : Bool). pick b (Ok (Some k)) (look rack_entry n (suc k) (rack_entry r c).rack (sends_next (rack_entry r c))).answer) e
+    ∙ ap (λ (x : SearchAnswer). pick (ltb 1 (count k)) (Ok (Some k)) x) q
 
 look_none : (k : ℕ) (r : Rack) (c : RackCall) (count : ℕ → ℕ) → (look rack_entry 0 k r c).answer ≡ first_from 0 k count
 unfolding look first_from
@@ -73,7 +70,7 @@ module _ (r : Rack) (o f : List ℕ) (bytes : are_bytes f ≡ true) (formed : Fo
   abbrev count : ℕ → ℕ
   count j = tags_in f j r
 
-  unrefused_frame : judgement (rack_rules r c) ≡ NoRefusal
+  unrefused_frame : judgement (rack_rules r c) ≡ Ok tt
   unrefused_frame = unrefused c frame_to_all r formed b frame_known
 
   first_slot : collides (rack_entry r c) ≡ ltb 1 (count 0)
@@ -121,41 +118,41 @@ module _ (r : Rack) (o f : List ℕ) (bytes : are_bytes f ≡ true) (formed : Fo
 
 -- ---- what is refused
 searched_as : (r : Rack) (o f : List ℕ) (j : Judgement) → judgement (search_rules r o) ≡ j
-    → search_entry r o f ≡ unless_refused j (λ (x : Refusal). search_result (Refused x) r o) (look rack_entry (slot_count f) 0 r (sends_frame o f))
+    → search_entry r o f ≡ unless_refused j (λ (x : Refusal). search_result (Err x) r o) (look rack_entry (slot_count f) 0 r (sends_frame o f))
 unfolding search_of
-searched_as r o f j h = ap (λ (j : Judgement). unless_refused j (λ (x : Refusal). search_result (Refused x) r o) (look rack_entry (slot_count f) 0 r (sends_frame o f))) h
+searched_as r o f j h = ap (λ (j : Judgement). unless_refused j (λ (x : Refusal). search_result (Err x) r o) (look rack_entry (slot_count f) 0 r (sends_frame o f))) h
 
-pub search_refused : (r : Rack) (o f : List ℕ) (x : Refusal) → judgement (search_rules r o) ≡ RefusedBy x → search_entry r o f ≡ search_result (Refused x) r o
+pub search_refused : (r : Rack) (o f : List ℕ) (x : Refusal) → judgement (search_rules r o) ≡ Err x → search_entry r o f ≡ search_result (Err x) r o
 unfolding unless_refused
-search_refused r o f x h = searched_as r o f (RefusedBy x) h
+search_refused r o f x h = searched_as r o f (Err x) h
 
-pub search_looks : (r : Rack) (o f : List ℕ) → judgement (search_rules r o) ≡ NoRefusal → search_entry r o f ≡ look rack_entry (slot_count f) 0 r (sends_frame o f)
+pub search_looks : (r : Rack) (o f : List ℕ) → judgement (search_rules r o) ≡ Ok tt → search_entry r o f ≡ look rack_entry (slot_count f) 0 r (sends_frame o f)
 unfolding unless_refused
-search_looks r o f h = searched_as r o f NoRefusal h
+search_looks r o f h = searched_as r o f (Ok tt) h
 
 unfoldable judgement_in : SearchAnswer → Judgement
-judgement_in (Refused x) = RefusedBy x
-judgement_in NoCollision = NoRefusal
-judgement_in (Collision k) = NoRefusal
+judgement_in (Err x) = Err x
+judgement_in (Ok None) = (Ok tt)
+judgement_in (Ok (Some k)) = (Ok tt)
 
-from_served : (k : ℕ) (a : SearchAnswer) → From k a → judgement_in a ≡ NoRefusal
+from_served : (k : ℕ) (a : SearchAnswer) → From k a → judgement_in a ≡ Ok tt
 unfolding From judgement_in
-from_served k (Refused x) h = absurd h
-from_served k NoCollision h = refl
-from_served k (Collision j) h = refl
+from_served k (Err x) h = absurd h
+from_served k (Ok None) h = refl
+from_served k (Ok (Some j)) h = refl
 
 answer_judged : (r : Rack) (o f : List ℕ) → judgement_in (search_entry r o f).answer ≡ judgement (search_rules r o)
 unfolding judgement_in
 answer_judged r o f = by (judgement (search_rules r o)) refl
   where
     by : (j : Judgement) → judgement (search_rules r o) ≡ j → judgement_in (search_entry r o f).answer ≡ judgement (search_rules r o)
-    by NoRefusal h =
+    by (Ok tt) h =
         ap (λ (l : SearchResult). judgement_in l.answer) (search_looks r o f h)
         ∙ from_served 0 _ (look_left rack_entry (slot_count f) 0 r (sends_frame o f)).from ∙ sym h
-    by (RefusedBy x) h = ap (λ (l : SearchResult). judgement_in l.answer) (search_refused r o f x h) ∙ sym h
+    by (Err x) h = ap (λ (l : SearchResult). judgement_in l.answer) (search_refused r o f x h) ∙ sym h
 
 -- ---- what is found
-pub formed_of : (r : Rack) (o : List ℕ) → judgement (search_rules r o) ≡ NoRefusal → Formed r × (reply_bytes ≤ length o)
+pub formed_of : (r : Rack) (o : List ℕ) → judgement (search_rules r o) ≡ Ok tt → Formed r × (reply_bytes ≤ length o)
 unfolding NoneApplies
 formed_of r o h =
     let p = none_applies (search_rules r o) h in (
@@ -163,7 +160,7 @@ formed_of r o h =
       ltb-false _ _ p.1.0,
     )
 
-tells : (r : Rack) (o f : List ℕ) → are_bytes f ≡ true → judgement (search_rules r o) ≡ NoRefusal → Tells (λ j. tags_in f j r) (search_entry r o f).answer
+tells : (r : Rack) (o f : List ℕ) → are_bytes f ≡ true → judgement (search_rules r o) ≡ Ok tt → Tells (λ j. tags_in f j r) (search_entry r o f).answer
 tells r o f b h =
     let p = formed_of r o h in
     subst (λ (l : SearchResult). Tells (λ j. tags_in f j r) l.answer) (sym (search_looks r o f h)) (look_tells r o f b p.0 p.1)
@@ -171,15 +168,15 @@ tells r o f b h =
 -- ---- what is left
 opened_all : (f : List ℕ) (a : SearchAnswer) → opened (slot_count f) 0 a ≡ slots_opened f a
 unfolding opened slots_opened
-opened_all f (Refused x) = refl
-opened_all f NoCollision = refl
-opened_all f (Collision k) = omega arith
+opened_all f (Err x) = refl
+opened_all f (Ok None) = refl
+opened_all f (Ok (Some k)) = omega arith
 
 record LeftBy (r : Rack) (o f : List ℕ) (l : SearchResult) : Type 0 where
   leaves : l.rack ≡ (rack_run rack_entry r (sent_calls rack_entry (slots_opened f l.answer) r (sends_frame o f))).rack
   buffer : l.buffer ≡ buffer_after o (rack_run rack_entry r (sent_calls rack_entry (slots_opened f l.answer) r (sends_frame o f))).answers
 
-refused_left : (r : Rack) (o f : List ℕ) (x : Refusal) → LeftBy r o f (search_result (Refused x) r o)
+refused_left : (r : Rack) (o f : List ℕ) (x : Refusal) → LeftBy r o f (search_result (Err x) r o)
 unfolding slots_opened sent_calls rack_run buffer_after
 refused_left r o f x = record { leaves = refl; buffer = refl }
 
@@ -197,8 +194,8 @@ search_left : (r : Rack) (o f : List ℕ) → LeftBy r o f (search_entry r o f)
 search_left r o f = by (judgement (search_rules r o)) refl
   where
     by : (j : Judgement) → judgement (search_rules r o) ≡ j → LeftBy r o f (search_entry r o f)
-    by NoRefusal h = subst (LeftBy r o f) (sym (search_looks r o f h)) (looked_left r o f)
-    by (RefusedBy x) h = subst (LeftBy r o f) (sym (search_refused r o f x h)) (refused_left r o f x)
+    by (Ok tt) h = subst (LeftBy r o f) (sym (search_looks r o f h)) (looked_left r o f)
+    by (Err x) h = subst (LeftBy r o f) (sym (search_refused r o f x h)) (refused_left r o f x)
 
 -- ---- the theorem
 pub searches : Searches rack_entry search_entry

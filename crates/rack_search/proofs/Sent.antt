@@ -2,37 +2,36 @@
 use mathlib.Core.Path.{◌≡◌, refl, sym, ◌∙◌, ap}
 use mathlib.Core.List.{List}
 use Prim.Native.Nat.{ℕ, zero, suc, ◌-◌, ◌≤◌}
+use Rattle.std.specs.Prelude.{Ok, Err, Some, None}
 use native.Mathlib.Omega.{arith}
 use Rattle.parts.proofs.Picks.{pick_case}
 use Rattle.rack_claims.specs.Passed.{Rack, RackCall, RackStep, rack_run}
-use Rattle.rack_search.specs.declared.SearchAnswer.{SearchAnswer}
-use Rattle.rack_search.specs.declared.SearchAnswer.TheVariants.{Refused, NoCollision, Collision}
-use Rattle.rack_search.specs.Search.{sends_next, SearchResult, search_result, collides, look}
+use Rattle.rack_search.specs.Search.{sends_next, SearchResult, search_result, collides, look, SearchAnswer}
 use Rattle.rack_search.specs.Claims.{sent_calls, buffer_after}
 
 -- how many calls were sent that looked into n slots from k on
 unfoldable pub opened : ℕ → ℕ → SearchAnswer → ℕ
-opened n k (Refused x) = 0
-opened n k NoCollision = n
-opened n k (Collision j) = suc j - k
+opened n k (Err x) = 0
+opened n k (Ok None) = n
+opened n k (Ok (Some j)) = suc j - k
 
 -- what was found there: not a refusal, nor a slot before k
 unfoldable pub From : ℕ → SearchAnswer → Type 0
-From k (Refused x) = ⊥
-From k NoCollision = Unit {0}
-From k (Collision j) = k ≤ j
+From k (Err x) = ⊥
+From k (Ok None) = Unit {0}
+From k (Ok (Some j)) = k ≤ j
 
 more_opened : (n k : ℕ) (a : SearchAnswer) → From (suc k) a → opened (suc n) k a ≡ suc (opened n (suc k) a)
 unfolding opened From
-more_opened n k (Refused x) h = absurd h
-more_opened n k NoCollision h = refl
-more_opened n k (Collision j) h = omega arith
+more_opened n k (Err x) h = absurd h
+more_opened n k (Ok None) h = refl
+more_opened n k (Ok (Some j)) h = omega arith
 
 from_later : (k : ℕ) (a : SearchAnswer) → From (suc k) a → From k a
 unfolding From
-from_later k (Refused x) h = h
-from_later k NoCollision h = h
-from_later k (Collision j) h = omega arith
+from_later k (Err x) h = h
+from_later k (Ok None) h = h
+from_later k (Ok (Some j)) h = omega arith
 
 module _ (go : RackStep) where
   abbrev rack_after : ℕ → Rack → RackCall → Rack
@@ -46,11 +45,11 @@ module _ (go : RackStep) where
     pub buffer : l.buffer ≡ left (opened n k l.answer) r c
     pub from : From k l.answer
 
-  none_left : (k : ℕ) (r : Rack) (c : RackCall) → Left 0 k r c (search_result NoCollision r c.handed.buffer)
+  none_left : (k : ℕ) (r : Rack) (c : RackCall) → Left 0 k r c (search_result (Ok None) r c.handed.buffer)
   unfolding opened From sent_calls rack_run buffer_after
   none_left k r c = record { leaves = refl; buffer = refl; from = tt }
 
-  found_left : (n k : ℕ) (r : Rack) (c : RackCall) → Left (suc n) k r c (search_result (Collision k) (go r c).rack (go r c).says.says.buffer)
+  found_left : (n k : ℕ) (r : Rack) (c : RackCall) → Left (suc n) k r c (search_result (Ok (Some k)) (go r c).rack (go r c).says.says.buffer)
   unfolding opened From sent_calls rack_run buffer_after
   found_left n k r c =
       let e : 1 ≡ suc k - k = omega arith in
@@ -70,6 +69,6 @@ module _ (go : RackStep) where
   unfolding look
   look_left zero k r c = none_left k r c
   look_left (suc n) k r c =
-      pick_case (Left (suc n) k r c) (collides (go r c)) (search_result (Collision k) (go r c).rack (go r c).says.says.buffer) (look go n (suc k) (go r c).rack (sends_next (go r c)))
+      pick_case (Left (suc n) k r c) (collides (go r c)) (search_result (Ok (Some k)) (go r c).rack (go r c).says.says.buffer) (look go n (suc k) (go r c).rack (sends_next (go r c)))
       (λ _. found_left n k r c)
       (λ _. more_left n k r c (look go n (suc k) (go r c).rack (sends_next (go r c))) (look_left n (suc k) (go r c).rack (sends_next (go r c))))

@@ -3,6 +3,7 @@ use mathlib.Core.Path.{◌≡◌, refl, sym, ◌∙◌, ap}
 use mathlib.Core.Bool.{Bool, true, false, not, ◌&&◌, ◌||◌}
 use mathlib.Core.List.{List, [], ◌∷◌}
 use Prim.Native.Nat.{ℕ, suc, ◌+◌, ◌≤◌}
+use Rattle.std.specs.Prelude.{Ok}
 use native.Mathlib.Omega.{arith}
 use native.Mathlib.Nat.{zero-add}
 use lib.Dec.{leb, ltb, eqb}
@@ -13,7 +14,6 @@ use Rattle.parts.specs.Bytes.{are_bytes}
 use Rattle.parts.proofs.Picks.{pick_case, pick_true}
 use Rattle.tag.specs.Layout.{reply_bytes}
 use Rattle.signal_table.specs.Table.{signal_in_range}
-use Rattle.refusals.specs.declared.Judgement.TheVariants.{NoRefusal}
 use Rattle.refusals.specs.Refusals.{judgement}
 use Rattle.refusals.proofs.Laws.{NoneApplies, no_refusal}
 use Rattle.rack_claims.specs.Passed.{is_reply, CallAnswer, Device, DeviceResult, entry, Rack, RackCall, devices, to_all, goes_to, rack_rules, turn_of, turns_of, left_by, said_by, RackAnswer, who_replied, numbers_from, lowest_reply, no_reply, together, rack_entry}
@@ -61,7 +61,7 @@ module _ (c : RackCall) (all : to_all c.handed.code ≡ true) where
       (λ _. lowest_room q n h each (suc i) ds)
 
   -- ---- of a rack that does not refuse it
-  module _ (r : Rack) (h : judgement (rack_rules r c) ≡ NoRefusal) where
+  module _ (r : Rack) (h : judgement (rack_rules r c) ≡ Ok tt) where
     pub collides_is : (test : Device → Bool) → ((d : Device) → Fits d → is_reply (entry d c.handed).says.answer ≡ test d)
         → collides (rack_entry r c) ≡ ltb 1 (how_many test (devices r))
     unfolding together
@@ -82,7 +82,7 @@ module _ (c : RackCall) (all : to_all c.handed.code ≡ true) where
         ∙ lowest_room (no_reply c.handed) (length c.handed.buffer) refl (λ d. room_kept d c.handed) 0 (devices r)
 
   -- a well_formed rack does not refuse it
-  pub unrefused : (r : Rack) → Formed r → reply_bytes ≤ length c.handed.buffer → signal_in_range c.handed.code c.handed.value ≡ true → judgement (rack_rules r c) ≡ NoRefusal
+  pub unrefused : (r : Rack) → Formed r → reply_bytes ≤ length c.handed.buffer → signal_in_range c.handed.code c.handed.value ≡ true → judgement (rack_rules r c) ≡ Ok tt
   unfolding NoneApplies
   unrefused r f b s =
       formed_judged r c f

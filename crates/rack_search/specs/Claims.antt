@@ -1,5 +1,5 @@
 -- What is claimed of a search: what it finds, in terms of the tags' UIDs, states and the frame, and what it leaves.
-use Rattle.std.specs.Prelude.{◌≡◌, Bool, true, ◌&&◌, List, [], ◌∷◌, ◌↔◌, ℕ, zero, suc, ◌+◌, ◌<◌, ◌≤◌, eqb}
+use Rattle.std.specs.Prelude.{◌≡◌, Bool, true, ◌&&◌, List, [], ◌∷◌, ◌↔◌, ℕ, zero, suc, ◌+◌, ◌<◌, ◌≤◌, eqb, Ok, Err, Some, None}
 use Rattle.parts.specs.Pick.{pick}
 use Rattle.parts.specs.Bytes.{are_bytes}
 use Rattle.bus.specs.Bus.{transfer_at}
@@ -9,11 +9,8 @@ use Rattle.reply.specs.Reply.{answer_of}
 use Rattle.reply.specs.Outcome.{radio_side}
 use Rattle.rack_claims.specs.Passed.{dynamic_now, busy_now, radio_of, is_reply, from_radio, Device, Rack, RackCall, devices, RackAnswer, RackStep, rack_run, refusal_numbers}
 use Rattle.refusals.specs.declared.Refusal.{Refusal}
-use Rattle.refusals.specs.declared.Judgement.TheVariants.{NoRefusal, RefusedBy}
 use Rattle.refusals.specs.Refusals.{judgement}
-use Rattle.rack_search.specs.declared.SearchAnswer.{SearchAnswer}
-use Rattle.rack_search.specs.declared.SearchAnswer.TheVariants.{Refused, NoCollision, Collision}
-use Rattle.rack_search.specs.Search.{sends_frame, sends_next, opens_sixteen, slot_count, SearchResult, search_rules}
+use Rattle.rack_search.specs.Search.{sends_frame, sends_next, opens_sixteen, slot_count, SearchResult, search_rules, SearchAnswer}
 
 -- ---- the slot in which a tag answers
 -- it hears inventories now
@@ -61,9 +58,9 @@ sent_calls go (suc n) rack call = call ∷ sent_calls go n (go rack call).rack (
 
 -- how many: as many as slots were opened, up to the one that it found
 unfoldable pub slots_opened : List ℕ → SearchAnswer → ℕ
-slots_opened f (Refused refusal) = 0
-slots_opened f NoCollision = slot_count f
-slots_opened f (Collision k) = suc k
+slots_opened f (Err refusal) = 0
+slots_opened f (Ok None) = slot_count f
+slots_opened f (Ok (Some k)) = suc k
 
 -- the reply buffer as the last call left it, else o
 unfoldable pub buffer_after : List ℕ → List RackAnswer → List ℕ
@@ -79,10 +76,10 @@ sent_by go find rack o f = sent_calls go (slots_opened f (find rack o f).answer)
 
 pub record Searched (go : RackStep) (find : Search) (rack : Rack) (o f : List ℕ) : Type 0 where
   -- refusals 1, 2, 4, 5 and 7, in their order
-  pub refused : (refusal : Refusal) → ((find rack o f).answer ≡ Refused refusal) ↔ (judgement (search_rules rack o) ≡ RefusedBy refusal)
+  pub refused : (refusal : Refusal) → ((find rack o f).answer ≡ Err refusal) ↔ (judgement (search_rules rack o) ≡ Err refusal)
   -- where there is none: the first slot in which two tags answer, and "none exactly when no slot has two"
-  pub collision : judgement (search_rules rack o) ≡ NoRefusal → (k : ℕ) → ((find rack o f).answer ≡ Collision k) ↔ FirstCollision f rack k
-  pub none : judgement (search_rules rack o) ≡ NoRefusal → ((find rack o f).answer ≡ NoCollision) ↔ NoCollisions f rack
+  pub collision : judgement (search_rules rack o) ≡ Ok tt → (k : ℕ) → ((find rack o f).answer ≡ Ok (Some k)) ↔ FirstCollision f rack k
+  pub none : judgement (search_rules rack o) ≡ Ok tt → ((find rack o f).answer ≡ Ok None) ↔ NoCollisions f rack
   -- rack and buffer are as the calls leave them that it sent, one by one
   pub rack_left : (find rack o f).rack ≡ (rack_run go rack (sent_by go find rack o f)).rack
   pub buffer_left : (find rack o f).buffer ≡ buffer_after o (rack_run go rack (sent_by go find rack o f)).answers

@@ -1,5 +1,5 @@
 -- "An installer wants the first slot in which two tags answer, and looking stops there".
-use Rattle.std.specs.Prelude.{Bool, not, ◌&&◌, ◌||◌, List, [], ◌∷◌, ℕ, zero, suc, ltb, length}
+use Rattle.std.specs.Prelude.{Bool, not, ◌&&◌, ◌||◌, Option, Some, None, Result, Ok, Err, List, [], ◌∷◌, ℕ, zero, suc, ltb, length}
 use Rattle.parts.specs.Pick.{pick}
 use Rattle.crc.specs.Crc.{good_frame}
 use Rattle.frame.specs.Fields.{inventory_flag}
@@ -8,8 +8,6 @@ use Rattle.refusals.specs.declared.Refusal.{Refusal}
 use Rattle.refusals.specs.Call.{handed_in}
 use Rattle.refusals.specs.Refusals.{RefusalRule, reply_rule, judgement, unless_refused}
 use Rattle.rack_claims.specs.Passed.{Rack, RackCall, rack_call, rack_memory_rule, rack_range_rule, size_rule, uids_rule, RackResult, RackStep, rack_entry}
-use Rattle.rack_search.specs.declared.SearchAnswer.{SearchAnswer}
-use Rattle.rack_search.specs.declared.SearchAnswer.TheVariants.{Refused, NoCollision, Collision}
 
 -- ---- what it sends: the frame f or an end-of-frame, to all, with the reply buffer o
 abbrev pub sends_frame : List ℕ → List ℕ → RackCall
@@ -31,6 +29,10 @@ opens_sixteen f =
 abbrev pub slot_count : List ℕ → ℕ
 slot_count f = pick (opens_sixteen f) 16 1
 
+-- what it is answered with: a refusal; that in no slot two tags answered; or the first slot in which two did
+abbrev pub SearchAnswer : Type 0
+SearchAnswer = Result (Option ℕ) Refusal
+
 -- ---- what it leaves: its answer, the rack and the reply buffer
 pub record SearchResult : Type 0 where
   pub answer : SearchAnswer
@@ -47,10 +49,10 @@ collides result = ltb 1 (length result.says.report)
 
 -- n slots from number k on, the first of them opened by the call
 unfoldable pub look : RackStep → ℕ → ℕ → Rack → RackCall → SearchResult
-look go zero k rack call = search_result NoCollision rack call.handed.buffer
+look go zero k rack call = search_result (Ok None) rack call.handed.buffer
 look go (suc n) k rack call =
     let result = go rack call in
-    pick (collides result) (search_result (Collision k) result.rack result.says.says.buffer)
+    pick (collides result) (search_result (Ok (Some k)) result.rack result.says.says.buffer)
     (look go n (suc k) result.rack (sends_next result))
 
 -- its refusals: 1, 2, 4, 5 and 7
@@ -59,7 +61,7 @@ search_rules rack o = rack_memory_rule rack ∷ reply_rule (handed_in o 8 0 []) 
 
 unfoldable pub search_of : RackStep → Rack → List ℕ → List ℕ → SearchResult
 search_of go rack o f =
-    unless_refused (judgement (search_rules rack o)) (λ (refusal : Refusal). search_result (Refused refusal) rack o)
+    unless_refused (judgement (search_rules rack o)) (λ (refusal : Refusal). search_result (Err refusal) rack o)
     (look go (slot_count f) 0 rack (sends_frame o f))
 
 -- over the rack of the entry point

@@ -1,5 +1,5 @@
 -- 01's table of refusals, "given exactly when, in this order": the rules, the order in which a caller judges them, and the first that applies.
-use Rattle.std.specs.Prelude.{Bool, not, ◌&&◌, ◌||◌, List, [], ◌∷◌, ◌++◌, ℕ, ltb, eqb, length}
+use Rattle.std.specs.Prelude.{Bool, not, ◌&&◌, ◌||◌, Result, Ok, Err, List, [], ◌∷◌, ◌++◌, ℕ, ltb, eqb, length}
 use Rattle.tag.specs.declared.Tag.{Tag}
 use Rattle.tag.specs.Layout.{memory_bytes, reply_bytes}
 use Rattle.ranges.specs.Ranges.{in_range}
@@ -9,8 +9,6 @@ use Rattle.signal_table.specs.Table.{signal_in_range}
 use Rattle.refusals.specs.Call.{Call}
 use Rattle.refusals.specs.declared.Refusal.{Refusal}
 use Rattle.refusals.specs.declared.Refusal.TheVariants.{MemoryLength, ReplyShort, SignalUnknown, OutOfRange, RackSize, NoSuchTag, EqualUids, StateLength, UidLength}
-use Rattle.refusals.specs.declared.Judgement.{Judgement}
-use Rattle.refusals.specs.declared.Judgement.TheVariants.{NoRefusal, RefusedBy}
 
 -- ---- the numbers
 unfoldable pub number : Refusal → ℕ
@@ -77,10 +75,14 @@ abbrev pub fresh_rules : List ℕ → List RefusalRule
 fresh_rules m = memory_rule m ∷ []
 
 -- ---- the refusal of a call: that of the first rule that applies
+-- what judging finds
+abbrev pub Judgement : Type 0
+Judgement = Result (Unit {0}) Refusal
+
 unfoldable pub judgement : List RefusalRule → Judgement
-judgement rules = first_says (λ (rule : RefusalRule). rule.applies) (λ (rule : RefusalRule). RefusedBy rule.refusal) NoRefusal rules
+judgement rules = first_says (λ (rule : RefusalRule). rule.applies) (λ (rule : RefusalRule). Err rule.refusal) (Ok tt) rules
 
 -- what a refusal gives, and what a call gives that no rule refuses
 unfoldable pub unless_refused : {A : Type 0} → Judgement → (Refusal → A) → A → A
-unless_refused NoRefusal refuses serves = serves
-unless_refused (RefusedBy refusal) refuses serves = refuses refusal
+unless_refused (Ok tt) refuses serves = serves
+unless_refused (Err refusal) refuses serves = refuses refusal

@@ -45,13 +45,6 @@ impl Refusal {
     }
 }
 
-// What judging a call finds.
-#[derive(Clone, Copy)]
-pub enum Judgement {
-    NoRefusal,
-    RefusedBy(Refusal),
-}
-
 // ---- the tests
 // Whether a tag and its memory are within the ranges.
 pub fn in_range(t: Tag, m: &[u8]) -> bool
@@ -64,48 +57,65 @@ pub fn in_range(t: Tag, m: &[u8]) -> bool
 
 // ---- the order
 // Of a fresh tag: 1.
-pub fn fresh_refusal(m: &[u8]) -> Judgement
+pub fn fresh_refusal(m: &[u8]) -> Result<(), Refusal>
     ensures { result ≡ judgement (fresh_rules m.now) }
 {
     if m.len() != tag::MEMORY_BYTES {
-        return Judgement::RefusedBy(Refusal::MemoryLength);
+        return Err(Refusal::MemoryLength);
     }
-    Judgement::NoRefusal
+    Ok(())
 }
 
 // Of a call, without its state: 1, 2, 3.
-pub fn call_refusal(m: &[u8], out: &[u8], code: u32, value: u32, frame: &[u8]) -> Judgement
+pub fn call_refusal(
+    m: &[u8],
+    out: &[u8],
+    code: u32,
+    value: u32,
+    frame: &[u8],
+) -> Result<(), Refusal>
     ensures { result ≡ judgement (call_rules m.now (handed_in out.now code value frame.now)) }
 {
     if m.len() != tag::MEMORY_BYTES {
-        return Judgement::RefusedBy(Refusal::MemoryLength);
+        return Err(Refusal::MemoryLength);
     }
     if out.len() < tag::REPLY_BYTES {
-        return Judgement::RefusedBy(Refusal::ReplyShort);
+        return Err(Refusal::ReplyShort);
     }
     if !signal_table::signal_in_range(code, value) {
-        return Judgement::RefusedBy(Refusal::SignalUnknown);
+        return Err(Refusal::SignalUnknown);
     }
-    Judgement::NoRefusal
+    Ok(())
 }
 
 // The rest: 4.
-fn later_refusal(t: Tag, m: &[u8], out: &[u8], code: u32, value: u32, frame: &[u8]) -> Judgement
+fn later_refusal(
+    t: Tag,
+    m: &[u8],
+    out: &[u8],
+    code: u32,
+    value: u32,
+    frame: &[u8],
+) -> Result<(), Refusal>
     ensures { result ≡ judgement (later_rules t m.now (handed_in out.now code value frame.now)) }
 {
     if !in_range(t, m) {
-        return Judgement::RefusedBy(Refusal::OutOfRange);
+        return Err(Refusal::OutOfRange);
     }
-    Judgement::NoRefusal
+    Ok(())
 }
 
 // Of a call: all of them.
-pub fn entry_refusal(t: Tag, m: &[u8], out: &[u8], code: u32, value: u32, frame: &[u8]) -> Judgement
+pub fn entry_refusal(
+    t: Tag,
+    m: &[u8],
+    out: &[u8],
+    code: u32,
+    value: u32,
+    frame: &[u8],
+) -> Result<(), Refusal>
     ensures { result ≡ judgement (entry_rules t m.now (handed_in out.now code value frame.now)) }
 {
-    let first = call_refusal(m, out, code, value, frame);
-    match first {
-        Judgement::RefusedBy(why) => Judgement::RefusedBy(why),
-        Judgement::NoRefusal => later_refusal(t, m, out, code, value, frame),
-    }
+    call_refusal(m, out, code, value, frame)?;
+    later_refusal(t, m, out, code, value, frame)
 }

@@ -4,6 +4,7 @@ use mathlib.Core.Bool.{Bool, true, not, ◌&&◌, ◌||◌}
 use mathlib.Core.Logic.{⊎_elim}
 use mathlib.Core.List.{List, [], ◌∷◌, ◌++◌}
 use Prim.Native.Nat.{ℕ, ◌+◌, ◌-◌, ◌/◌, ◌%◌, ◌<◌}
+use Rattle.std.specs.Prelude.{Ok}
 use native.Mathlib.Omega.{arith}
 use lib.Dec.{T, leb, ltb, eqb}
 use lib.Pow.{are_bytes as areAll}
@@ -20,7 +21,6 @@ use Rattle.tag.specs.Supply.{fresh_tag}
 use Rattle.model.specs.declared.Answer.TheVariants.{Nothing}
 use Rattle.signal_table.specs.Table.{signal_table, signal_found, is_found, signal_in_range}
 use Rattle.signal_table.proofs.Laws.{byte_known, frame_known}
-use Rattle.refusals.specs.declared.Judgement.TheVariants.{NoRefusal}
 use Rattle.refusals.specs.Call.{handed_in}
 use Rattle.model.specs.Step.{StepResult, FreshResult, fresh_result, step_of, fresh_of, is_refused}
 use Rattle.refusals.specs.Refusals.{argument_rules, judgement, unless_refused}
@@ -133,7 +133,7 @@ closed_bytes s h = bytes_append s (crc_bytes s) h (crc_bytes_lem s (crc_below s 
 
 -- ---- a call from a bench that fits
 module _ (named : Bool) (c : BenchState) (f : BenchFit c) where
-  none_refuses : (code value : ℕ) (s : List ℕ) → signal_in_range code value ≡ true → judgement (argument_rules (handed_in c.reply code value s)) ≡ NoRefusal
+  none_refuses : (code value : ℕ) (s : List ℕ) → signal_in_range code value ≡ true → judgement (argument_rules (handed_in c.reply code value s)) ≡ Ok tt
   unfolding NoneApplies
   none_refuses code value s h = no_refusal (argument_rules (handed_in c.reply code value s)) (le-ltb (length c.reply) reply_bytes f.room, (ap not h, tt))
 

@@ -3,6 +3,7 @@ use mathlib.Core.Path.{◌≡◌, refl, sym, ap, subst, ◌∙◌}
 use mathlib.Core.Bool.{Bool, true, false, not, false≢true}
 use mathlib.Core.List.{List, [], ◌∷◌, ◌++◌, append_assoc}
 use Prim.Native.Nat.{ℕ}
+use Rattle.std.specs.Prelude.{Ok, Err}
 use native.Mathlib.Omega.{arith}
 use lib.ListN.{length, length-append}
 use Rattle.parts.proofs.Picks.{pick_case}
@@ -27,9 +28,7 @@ use Rattle.transfer.specs.Whole.{TransferResult, transfer_result, transfer_of}
 use Rattle.transfer.specs.Claim.{run_of, Ready}
 use Rattle.transfer.proofs.Transfer.{transfer_by_signals}
 use Rattle.refusals.specs.declared.Refusal.{Refusal}
-use Rattle.refusals.specs.declared.Judgement.{Judgement}
-use Rattle.refusals.specs.declared.Judgement.TheVariants.{NoRefusal, RefusedBy}
-use Rattle.refusals.specs.Refusals.{unless_refused}
+use Rattle.refusals.specs.Refusals.{unless_refused, Judgement}
 use Rattle.signal_table.specs.declared.Signal.{Signal}
 use Rattle.signal_table.specs.declared.Signal.TheVariants.{Wire, Field, Frame, EndOfFrame}
 use Rattle.signal_table.specs.Table.{signal_by}
@@ -309,8 +308,8 @@ at_refusal_lem (inside out k n sl) a g = given_at_once out k n sl g k.tag.air a
 both : (w : Waiting) (j : Judgement) (x : Refusal → Waiting) (y : Waiting) (d : Refusal → DeviceResult) (e : DeviceResult)
     → ((r : Refusal) → Stepped w (x r) (d r)) → Stepped w y e → Stepped w (unless_refused j x y) (unless_refused j d e)
 unfolding unless_refused
-both w NoRefusal x y d e p q = q
-both w (RefusedBy r) x y d e p q = p r
+both w (Ok tt) x y d e p q = q
+both w (Err r) x y d e p q = p r
 
 pub stepped : (w : Waiting) (c : Call) → Good w → Fits (now w) → Stepped w (wait_step w c) (entry (now w) c)
 unfolding wait_step

@@ -4,5 +4,4 @@ unfoldable pub use Rattle.rack_search.specs.Passed.{answers_made, judged_calls, 
 pub use Rattle.rack_search.specs.Claims.{FirstCollision, NoCollisions, sent_by}
 unfoldable pub use Rattle.rack_search.specs.Claims.{buffer_after, sent_calls, slots_opened}
 pub use Rattle.rack_search.specs.Search.{search_entry, search_rules, sends_frame, sends_next}
-pub use Rattle.rack_search.specs.declared.SearchAnswer.{SearchAnswer}
-pub use Rattle.rack_search.specs.declared.SearchAnswer.TheVariants.{Collision, NoCollision, Refused}
+pub use Rattle.rack_search.specs.Search.{SearchAnswer}

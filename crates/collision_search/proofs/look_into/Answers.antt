@@ -7,8 +7,7 @@ use lib.ListN.{length, take}
 use Rattle.parts.specs.Bytes.{are_bytes}
 use Rattle.parts.proofs.Below.{are_below}
 use Rattle.rack.specs.Rack.{rack_of}
-use Rattle.rack_search.specs.declared.SearchAnswer.{SearchAnswer}
-use Rattle.rack_search.specs.Search.{search_result}
+use Rattle.rack_search.specs.Search.{search_result, SearchAnswer}
 use Rattle.rack_search.proofs.Search.{formed_of}
 use Rattle.collision_search.proofs.Slots.{Counted, none_counted, on_silence, on_first, on_second, at_end, Looking, looking_first, none_left, collided, looking_next}
 use borrow.Author.Rules.{rules}

@@ -25,19 +25,19 @@ look_into-requires c =
       omega (arith, e),
       ap (λ (ts : List Tag). judgement (search_rules (rack_of ts a.memory.now) a.out.now)) (take_count a.number c.tag_count-n.result e a.tags sixteen_here)
           ∙ refusal_here
-          ∙ c.in-NoRefusal.is,
+          ∙ c.in-Ok.is,
     )
 
-pub returns-in-RefusedBy : goal.returns-in-RefusedBy
-returns-in-RefusedBy c =
+pub returns-in-Err : goal.returns-in-Err
+returns-in-Err c =
     let refusal_here : let a = c.args in
     judgement (search_rules (rack_of (take a.number a.tags) a.memory.now) a.out.now) ≡ c.rack_refusal-judged.result = let a = c.args in
     sym (c.rack_refusal-judged.ensures ∙ frame_judged (rack_of (take a.number a.tags) a.memory.now) a.out.now []) in
     let a = c.args in
-    record { out_after = sym (search_refused (rack_of (take a.number a.tags) a.memory.now) a.out.now a.frame.now c.in-RefusedBy.why (refusal_here ∙ c.in-RefusedBy.is)); tags_value = refl }
+    record { out_after = sym (search_refused (rack_of (take a.number a.tags) a.memory.now) a.out.now a.frame.now c.in-Err.why (refusal_here ∙ c.in-Err.is)); tags_value = refl }
 
-pub returns-in-NoRefusal : goal.returns-in-NoRefusal
-returns-in-NoRefusal c =
+pub returns-in-Ok : goal.returns-in-Ok
+returns-in-Ok c =
     let refusal_here : let a = c.args in
     judgement (search_rules (rack_of (take a.number a.tags) a.memory.now) a.out.now) ≡ c.rack_refusal-judged.result = let a = c.args in
     sym (c.rack_refusal-judged.ensures ∙ frame_judged (rack_of (take a.number a.tags) a.memory.now) a.out.now []) in
@@ -55,6 +55,6 @@ returns-in-NoRefusal c =
           ∙ c.look_into.ensures.out_after
           ∙ ap (λ (k : ℕ). look rack_entry k 0 (rack_of (take n a.tags) a.memory.now) call) c.slot_count.ensures
           ∙ ap (λ (ts : List Tag). look rack_entry (slot_count a.frame.now) 0 (rack_of ts a.memory.now) call) (take_count a.number n e a.tags sixteen_here)
-          ∙ sym (search_looks (rack_of (take a.number a.tags) a.memory.now) a.out.now a.frame.now (refusal_here ∙ c.in-NoRefusal.is));
+          ∙ sym (search_looks (rack_of (take a.number a.tags) a.memory.now) a.out.now a.frame.now (refusal_here ∙ c.in-Ok.is));
       tags_value = sym (drop_count a.number n e r.tags left_sixteen_here) ∙ c.look_into.ensures.tags_value ∙ drop_count a.number n e a.tags sixteen_here;
     }

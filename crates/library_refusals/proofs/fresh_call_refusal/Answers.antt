@@ -3,7 +3,7 @@ use mathlib.Core.List.{[], ◌∷◌}
 use Rattle.parts.proofs.Picks.{picks}
 use Rattle.rule_list.specs.RuleList.{first_says}
 use Rattle.refusals.specs.Refusals.{fresh_rules, judgement}
-use Rattle.refusals.proofs.Laws.{append_none, append_refused}
+use Rattle.refusals.proofs.Laws.{append_none, refused_first}
 use Rattle.library_refusals.specs.Rules.{state_rule, uid_rule}
 use Rattle.library_refusals.proofs.fresh_call_refusal.Goals as goal
 
@@ -13,7 +13,7 @@ returns-then-s-ne-STATE_BYTES c =
     let a = c.args in
     let first = fresh_rules a.m.now in
     let rest = state_rule a.s.now ∷ uid_rule a.uid.now ∷ [] in
-    rw (append_none first rest (sym c.fresh_refusal-first.ensures ∙ c.in-NoRefusal.is)) (search picks depth 20)
+    rw (append_none first rest (sym c.fresh_refusal.ensures ∙ c.in_ok-fresh_refusal.was)) (search picks depth 20)
 
 pub returns-then-uid-ne8 : goal.returns-then-uid-ne8
 unfolding judgement first_says
@@ -21,19 +21,19 @@ returns-then-uid-ne8 c =
     let a = c.args in
     let first = fresh_rules a.m.now in
     let rest = state_rule a.s.now ∷ uid_rule a.uid.now ∷ [] in
-    rw (append_none first rest (sym c.fresh_refusal-first.ensures ∙ c.in-NoRefusal.is)) (search picks depth 20)
+    rw (append_none first rest (sym c.fresh_refusal.ensures ∙ c.in_ok-fresh_refusal.was)) (search picks depth 20)
 
-pub returns-in-RefusedBy : goal.returns-in-RefusedBy
-returns-in-RefusedBy c =
+pub returns-in_err-fresh_refusal : goal.returns-in_err-fresh_refusal
+returns-in_err-fresh_refusal c =
     let a = c.args in
     let first = fresh_rules a.m.now in
     let rest = state_rule a.s.now ∷ uid_rule a.uid.now ∷ [] in
-    sym (append_refused first rest _ (sym c.fresh_refusal-first.ensures ∙ c.in-RefusedBy.is))
+    refused_first first rest _ _ c.from_residual.ensures.1 (sym c.fresh_refusal.ensures ∙ c.in_err-fresh_refusal.was)
 
-pub returns-else-uid-ne8 : goal.returns-else-uid-ne8
+pub returns : goal.returns
 unfolding judgement first_says
-returns-else-uid-ne8 c =
+returns c =
     let a = c.args in
     let first = fresh_rules a.m.now in
     let rest = state_rule a.s.now ∷ uid_rule a.uid.now ∷ [] in
-    rw (append_none first rest (sym c.fresh_refusal-first.ensures ∙ c.in-NoRefusal.is)) (search picks depth 20)
+    rw (append_none first rest (sym c.fresh_refusal.ensures ∙ c.in_ok-fresh_refusal.was)) (search picks depth 20)

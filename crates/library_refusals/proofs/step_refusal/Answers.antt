@@ -4,7 +4,7 @@ use Rattle.parts.proofs.Picks.{picks}
 use Rattle.rule_list.specs.RuleList.{first_says}
 use Rattle.refusals.specs.Call.{handed_in}
 use Rattle.refusals.specs.Refusals.{call_rules, judgement}
-use Rattle.refusals.proofs.Laws.{append_none, append_refused}
+use Rattle.refusals.proofs.Laws.{append_none, refused_first}
 use Rattle.library_refusals.specs.Rules.{state_rule, decodes_rule}
 use Rattle.library_refusals.proofs.step_refusal.Goals as goal
 
@@ -14,7 +14,7 @@ returns-then-s-ne-STATE_BYTES c =
     let a = c.args in
     let first = call_rules a.m.now (handed_in a.out.now a.code a.value a.frame.now) in
     let rest = state_rule a.s.now ∷ decodes_rule a.s.now ∷ [] in
-    rw (append_none first rest (sym c.call_refusal-first.ensures ∙ c.in-NoRefusal.is)) (search picks depth 20)
+    rw (append_none first rest (sym c.call_refusal.ensures ∙ c.in_ok-call_refusal.was)) (search picks depth 20)
 
 pub returns-then-not-decodes : goal.returns-then-not-decodes
 unfolding judgement first_says
@@ -22,19 +22,19 @@ returns-then-not-decodes c =
     let a = c.args in
     let first = call_rules a.m.now (handed_in a.out.now a.code a.value a.frame.now) in
     let rest = state_rule a.s.now ∷ decodes_rule a.s.now ∷ [] in
-    rw (append_none first rest (sym c.call_refusal-first.ensures ∙ c.in-NoRefusal.is), ← c.decodes.ensures) (search picks depth 20)
+    rw (append_none first rest (sym c.call_refusal.ensures ∙ c.in_ok-call_refusal.was), ← c.decodes.ensures) (search picks depth 20)
 
-pub returns-in-RefusedBy : goal.returns-in-RefusedBy
-returns-in-RefusedBy c =
+pub returns-in_err-call_refusal : goal.returns-in_err-call_refusal
+returns-in_err-call_refusal c =
     let a = c.args in
     let first = call_rules a.m.now (handed_in a.out.now a.code a.value a.frame.now) in
     let rest = state_rule a.s.now ∷ decodes_rule a.s.now ∷ [] in
-    sym (append_refused first rest _ (sym c.call_refusal-first.ensures ∙ c.in-RefusedBy.is))
+    refused_first first rest _ _ c.from_residual.ensures.1 (sym c.call_refusal.ensures ∙ c.in_err-call_refusal.was)
 
-pub returns-else-not-decodes : goal.returns-else-not-decodes
+pub returns : goal.returns
 unfolding judgement first_says
-returns-else-not-decodes c =
+returns c =
     let a = c.args in
     let first = call_rules a.m.now (handed_in a.out.now a.code a.value a.frame.now) in
     let rest = state_rule a.s.now ∷ decodes_rule a.s.now ∷ [] in
-    rw (append_none first rest (sym c.call_refusal-first.ensures ∙ c.in-NoRefusal.is), ← c.decodes.ensures) (search picks depth 20)
+    rw (append_none first rest (sym c.call_refusal.ensures ∙ c.in_ok-call_refusal.was), ← c.decodes.ensures) (search picks depth 20)

@@ -2,17 +2,16 @@ use mathlib.Core.Path.{sym, ◌∙◌}
 use Rattle.refusals.specs.Refusals.{unless_refused}
 use Rattle.model.specs.Step.{fresh_of}
 use Rattle.model.proofs.Acts.{fresh_size}
-use Rattle.model.proofs.Clear.{cleared}
 use Rattle.model.proofs.fresh.Goals as goal
 
-pub returns-in-RefusedBy : goal.returns-in-RefusedBy
+pub returns-in-Err : goal.returns-in-Err
 unfolding fresh_of unless_refused
-returns-in-RefusedBy c =
-    rw (c.refused.ensures, c.fresh-t.ensures, sym c.fresh_refusal-judged.ensures ∙ c.in-RefusedBy.is)
+returns-in-Err c =
+    rw (c.refused.ensures, c.fresh-t.ensures, sym c.fresh_refusal.ensures ∙ c.in-Err.is)
 
-pub returns-in-NoRefusal : goal.returns-in-NoRefusal
+pub returns-in-Ok : goal.returns-in-Ok
 unfolding fresh_of unless_refused
-returns-in-NoRefusal c =
+returns-in-Ok c =
     let m = c.args.m.now in
-    let none = sym c.fresh_refusal-judged.ensures ∙ c.in-NoRefusal.is in
-    rw (c.put_bytes.ensures, c.fresh-t.ensures, cleared m (fresh_size m none), none)
+    let none = sym c.fresh_refusal.ensures ∙ c.in-Ok.is in
+    rw (none, c.fill.ensures.after (λ y same. same), fresh_size m none, c.fresh-t.ensures)

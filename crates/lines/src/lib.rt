@@ -10,14 +10,8 @@ ghost use Rattle.lines.specs.Line.{line_length, is_level, has_bytes};
 pub fn line_end(s: &[u8], from: usize) -> usize
     ensures { result ≡ from + line_length (drop from s.now) }
 {
-    let mut i = from;
-    while i < s.len() {
-        if s[i] == b'\n' {
-            return i;
-        }
-        i += 1;
-    }
-    i
+    let rest = &s[from.min(s.len())..];
+    from + rest.iter().position(|x| *x == b'\n').unwrap_or(rest.len())
 }
 
 // Whether a line has 0 or 1 behind its tab.
@@ -25,7 +19,7 @@ pub fn is_level(s: &[u8]) -> bool
     ensures { result ≡ is_level s.now }
 {
     let b = parts::byte_at(s, 2);
-    (s.len() == 3) & (parts::byte_at(s, 1) == b'\t') & ((b == b'0') | (b == b'1'))
+    (s.len() == 3) & (parts::byte_at(s, 1) == b'\t') & matches!(b, b'0' | b'1')
 }
 
 // Whether a line has bytes in hex behind its tab, one at least.

@@ -5,20 +5,11 @@ ghost use Rattle.std.specs.Prelude.{◌≡◌, ◌++◌, ◌≤◌, min, eqb, le
 ghost use Rattle.parts.specs.Pick.{pick};
 ghost use Rattle.unfinished.specs.Kept.{kept_most, keep, kept_count, kept_buffer};
 
-fn least(n: usize, k: usize) -> usize
-    ensures { result ≡ min n k }
-{
-    if n < k {
-        return n;
-    }
-    k
-}
-
 // How many bytes are kept: a number past the end is the end.
 pub fn kept_count(kept: &[u8], have: usize) -> usize
     ensures { result ≡ min have (length kept.now) }
 {
-    least(have, kept.len())
+    have.min(kept.len())
 }
 
 // Adds bytes to the unfinished line. Of a line that is too long 1,201 bytes are kept: it stays too long.
@@ -28,7 +19,7 @@ pub fn hold(kept: &mut [u8; 1201], have: usize, s: &[u8]) -> usize
     ensures kept_after_2 { kept.new ≡ kept_buffer kept.old have s.now }
 {
     let at = kept_count(kept, have);
-    let n = least(1201 - at, s.len());
+    let n = (1201 - at).min(s.len());
     parts::put_bytes(kept, at, s, 0, n);
     at + n
 }

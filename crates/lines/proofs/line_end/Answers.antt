@@ -1,23 +1,20 @@
-use mathlib.Core.Path.{refl}
-use Prim.Native.Nat.{◌-◌}
-use native.Mathlib.Omega.{arith}
-use Rattle.lines.proofs.Scan.{line_here, line_on, line_past}
+use mathlib.Core.Path.{refl, ap, ◌∙◌}
+use Prim.Native.Nat.{ℕ, ◌+◌, ◌-◌}
+use lib.ListN.{length, take, drop}
+use borrow.Author.Rules.{rules}
+use Rattle.std.proofs.Common.{tests}
+use Rattle.std.proofs.lemmas.Iterator.{YieldsList-from_slice}
+use Rattle.std.proofs.lemmas.Iterator.Search.{position_from_yields_List}
+use Rattle.lines.proofs.Scan.{is_lf, line_found}
 use Rattle.lines.proofs.line_end.Goals as goal
-
-pub loop-i-init : goal.loop-i-init
-loop-i-init c = refl
-
-pub returns-then-s-i-eq10 : goal.returns-then-s-i-eq10
-returns-then-s-i-eq10 c =
-    let s = c.args.s.now in
-    omega (arith, c.loop-i.invariant, line_here s c.loop-i.i (omega arith) c.if-s-i-eq10.true)
-
-pub loop-i-preserved : goal.loop-i-preserved
-loop-i-preserved c =
-    let s = c.args.s.now in
-    omega (arith, c.loop-i.invariant, line_on s c.loop-i.i (omega arith) c.if-s-i-eq10.false)
 
 pub returns : goal.returns
 returns c =
-    let s = c.args.s.now in
-    omega (arith, c.loop-i.invariant, line_past s c.loop-i.i (omega arith))
+    let a = c.args in
+    let s = a.s.now in
+    let k = c.min.result in
+    let rest = take (length s - k) (drop k s) in
+    ap (λ (n : ℕ). a.from + n)
+    (c.unwrap_or.ensures
+    ∙ line_found s rest a.from k c.position.result c.min.ensures refl
+    (position_from_yields_List is_lf _ _ c.position.result c.position.ensures.ran (YieldsList-from_slice rest cc) (λ x b q k. search (rules, tests))))

@@ -17,7 +17,7 @@ overflow_sub-at c =
 pub overflow_add-result : goal.overflow_add-result
 overflow_add-result c =
     let k = c.kept_count-at in
-    let n = c.least-n in
+    let n = c.min-n in
     let l : length c.args.kept.now ≡ 1201 = search rules in
     omega (arith, l, k.ensures, n.ensures)
 
@@ -25,7 +25,7 @@ pub returns : goal.returns
 returns c =
     let a = c.args in
     let k = c.kept_count-at in
-    let n = c.least-n in
+    let n = c.min-n in
     let l : length a.kept.now ≡ 1201 = search rules in
     let m : k.result ≤ 1201 = omega (arith, l, k.ensures) in
     record {

@@ -83,6 +83,7 @@ impl RegisterRow {
 }
 
 // The row of a system address: the one list of addresses.
+#[tactic(auto, using(register_types::proofs::Passed::picks), unfolding(crate::specs::Table::row_of, crate::specs::Table::row_in))]
 pub fn row_of(at: u32) -> RegisterRow
     ensures { result ≡ row_of at }
 {

@@ -13,10 +13,8 @@ pub fn is_defined(r: Registers) -> bool
     let s = r.to_bytes();
     let masks = register_table::MASKS;
     let mut defined = true;
-    let mut i = 0;
-    while i < register_table::REGISTER_BYTES {
-        defined = defined & (s[i] & masks[i] == s[i]);
-        i += 1;
+    for (byte, mask) in s.iter().zip(&masks) {
+        defined = defined & (byte & mask == *byte);
     }
     defined
 }

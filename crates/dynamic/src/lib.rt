@@ -24,5 +24,5 @@ pub const MB_CTRL_POINTER: u8 = 0x0D;
 pub fn host_writes(address: u16) -> bool
     ensures { result ≡ host_writes address }
 {
-    (address == RF_MNGT_DYN) | (address == MB_CTRL_DYN)
+    matches!(address, RF_MNGT_DYN | MB_CTRL_DYN)
 }

@@ -6,7 +6,9 @@ ghost use Rattle.std.specs.Prelude.{◌≡◌, get_or};
 ghost use Rattle.parts.specs.Bits.{keep_bits};
 ghost use Rattle.register_table.specs.Table.{place_bits, row_of};
 
-use register_types::{Afi, DefinedBits, Dsfid, EndA, I2cSs, LockCcFile, LockCfg, MbMode, RfMngt, RfaSs};
+use register_types::{
+    Afi, DefinedBits, Dsfid, EndA, I2cSs, LockCcFile, LockCfg, MbMode, RfMngt, RfaSs,
+};
 
 // How many bytes the registers are, RF_MNGT_Dyn among them.
 pub const REGISTER_BYTES: usize = 15;
@@ -44,8 +46,7 @@ pub const MASKS: [u8; REGISTER_BYTES] = [
 pub fn keep_defined(place: u8, byte: u8) -> u8
     ensures { result ≡ keep_bits (get_or place_bits place 0) byte }
 {
-    let masks = MASKS;
-    byte & parts::byte_at(&masks, place as usize)
+    byte & parts::byte_at(&MASKS, place as usize)
 }
 
 // What a write of a register asks or does beside storing the byte.
@@ -83,6 +84,7 @@ impl RegisterRow {
 }
 
 // The row of a system address: the one list of addresses.
+#[tactic(auto, using(register_types::proofs::Passed::picks), unfolding(crate::specs::Table::row_of, crate::specs::Table::row_in))]
 pub fn row_of(at: u32) -> RegisterRow
     ensures { result ≡ row_of at }
 {

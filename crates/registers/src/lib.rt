@@ -47,6 +47,7 @@ pub struct Registers {
 }
 
 // Puts a byte at a place of the registers' bytes, its defined bits kept.
+#[tactic(auto, unfolding(crate::specs::Map::put_defined))]
 fn put_defined(s: &mut [u8], place: u8, byte: u8)
     ensures { s.new ≡ put_defined place byte s.old }
 {
@@ -56,6 +57,7 @@ fn put_defined(s: &mut [u8], place: u8, byte: u8)
 
 impl Registers {
     // The byte at each place.
+    #[tactic(auto, unfolding(crate::specs::Map::register_bytes))]
     pub fn to_bytes(self) -> [u8; REGISTER_BYTES]
         ensures { result ≡ register_bytes self }
     {
@@ -122,6 +124,7 @@ impl Registers {
         }
     }
 
+    #[tactic(auto, unfolding(crate::specs::Fresh::fresh_registers))]
     pub fn fresh() -> Registers
         ensures { result ≡ fresh_registers }
     {
@@ -171,17 +174,18 @@ impl Registers {
     }
 
     // The byte of the register at a place.
+    #[tactic(auto, using(parts::proofs::Picks::picks), unfolding(crate::specs::Map::byte_of))]
     pub fn byte_of(self, place: u8) -> u8
         ensures { result ≡ byte_of place self }
     {
-        if place == register_table::NO_PLACE {
-            return 0xFF;
+        match place {
+            register_table::NO_PLACE => 0xFF,
+            _ => parts::byte_at(&self.to_bytes(), place as usize),
         }
-        let s = self.to_bytes();
-        parts::byte_at(&s, place as usize)
     }
 
     // The byte of the register at a system address.
+    #[tactic(auto, unfolding(crate::specs::Map::register_at))]
     pub fn read(self, at: u16) -> u8
         ensures { result ≡ register_at self at }
     {
@@ -202,6 +206,7 @@ impl Registers {
     }
 
     // The registers after a byte was written to a system address.
+    #[tactic(auto, unfolding(crate::specs::Map::written))]
     pub fn write(self, at: u16, byte: u8) -> Registers
         ensures { result ≡ written self at byte }
     {

@@ -9,6 +9,7 @@ ghost use Rattle.written_registers.specs.Written.{written_all};
 use registers::Registers;
 
 // A byte written at an address that may lie past the last one.
+#[tactic(auto, unfolding(registers::specs::Map::written))]
 fn write_at(r: Registers, first: u16, i: u16, x: u8) -> Registers
     ensures { result ≡ written r (first + i) x }
 {
@@ -21,11 +22,9 @@ pub fn written_all(r: Registers, m: &[u8], first: u16, k: u16) -> Registers
     ensures { result ≡ written_all r first (page k m.now) }
 {
     let mut n = r;
-    let mut i: u16 = 0;
-    while i < k {
+    for i in 0..k {
         let x = parts::byte_in(m, tag::PAGE_AT, i as usize);
         n = write_at(n, first, i, x);
-        i += 1;
     }
     n
 }

@@ -1,11 +1,8 @@
 use mathlib.Core.Path.{◌≡◌}
-use Prim.Native.Nat.{◌-◌, ◌≤◌}
-use Rattle.register_table.specs.Table.{register_count}
+use lib.ListN.{length}
+use Rattle.registers.specs.Map.{register_bytes}
 use Rattle.defined_bits.specs.Defined.{defined_to}
 use Rattle.defined_bits.proofs.is_defined.Given as goal
 
-abbrev pub invariant-loop-i : goal.invariant-loop-i
-invariant-loop-i l = (l.defined ≡ defined_to l.i l.s) × (l.i ≤ register_count)
-
-abbrev pub decreases-loop-i : goal.decreases-loop-i
-decreases-loop-i l = register_count - l.i
+abbrev pub invariant-loop-byte : goal.invariant-loop-byte
+invariant-loop-byte l = l.defined ≡ defined_to (length l.yielded) (register_bytes l.fn.r)

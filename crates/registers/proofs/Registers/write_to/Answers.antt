@@ -7,8 +7,8 @@ pub returns : goal.returns
 unfolding written_to
 returns c =
     elim c.if-place-eq-MNGT_PLACE.branch [
-      then-place-eq-MNGT_PLACE w ↦
-        rw (c.from_bytes.ensures, w.s-is, w.put_defined-then-place-eq-MNGT_PLACE.ensures, c.put_defined.ensures, c.to_bytes-s.ensures, w.if-place-eq-MNGT_PLACE.true) (search picks depth 20)
-    | else-place-eq-MNGT_PLACE w ↦
-        rw (c.from_bytes.ensures, w.s-is, c.put_defined.ensures, c.to_bytes-s.ensures) (search picks depth 20)
+      | then-place-eq-MNGT_PLACE w ↦
+          rw (c.from_bytes.ensures, w.s-is, w.put_defined-then-place-eq-MNGT_PLACE.ensures, c.put_defined.ensures, c.to_bytes-s.ensures, w.if-place-eq-MNGT_PLACE.true) (search picks depth 20)
+      | else-place-eq-MNGT_PLACE w ↦
+          rw (c.from_bytes.ensures, w.s-is, c.put_defined.ensures, c.to_bytes-s.ensures) (search picks depth 20)
     ]

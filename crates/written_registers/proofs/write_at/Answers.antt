@@ -1,6 +1,0 @@
-use Rattle.registers.specs.Map.{written}
-use Rattle.written_registers.proofs.write_at.Goals as goal
-
-pub returns : goal.returns
-unfolding written
-returns c = rw (c.write_to.ensures, c.row_of-row.ensures)

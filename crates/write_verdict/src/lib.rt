@@ -21,6 +21,7 @@ const PASSWORD_FIRST: u16 = 0x0900;
 // Radio passwords are 0 to 3.
 const LAST_PASSWORD: u8 = 3;
 
+#[tactic(auto, unfolding(write_rules::specs::Situation::is_dynamic))]
 fn is_dynamic(at: u32) -> bool
     ensures { result ≡ is_dynamic at }
 {
@@ -30,6 +31,7 @@ fn is_dynamic(at: u32) -> bool
         | (at == dynamic::MB_LEN_DYN as u32)
 }
 
+#[tactic(auto, using(parts::proofs::Picks::picks), unfolding(write_rules::specs::Situation::user_place))]
 fn user_place(at: u32) -> WritePlace
     ensures { result ≡ user_place at }
 {
@@ -45,6 +47,7 @@ fn user_place(at: u32) -> WritePlace
     WritePlace::Unmapped
 }
 
+#[tactic(auto, unfolding(write_rules::specs::Situation::is_system))]
 fn is_system(at: u32) -> bool
     ensures { result ≡ is_system at }
 {
@@ -52,6 +55,7 @@ fn is_system(at: u32) -> bool
     (row.place != register_table::NO_PLACE) | ((0x0018 <= at) & (at <= 0x001F))
 }
 
+#[tactic(auto, using(parts::proofs::Picks::picks), unfolding(write_rules::specs::Situation::system_place))]
 fn system_place(first: u16, at: u32) -> WritePlace
     ensures { result ≡ system_place first at }
 {
@@ -65,6 +69,7 @@ fn system_place(first: u16, at: u32) -> WritePlace
 }
 
 // What stands where data byte k of a leg goes.
+#[tactic(auto, unfolding(write_rules::specs::Situation::byte_place))]
 fn byte_place(space: Space, first: u16, k: u16) -> WritePlace
     ensures { result ≡ byte_place space first k }
 {
@@ -76,19 +81,14 @@ fn byte_place(space: Space, first: u16, k: u16) -> WritePlace
 }
 
 // A byte of user memory, in a leg that is not spoiled.
+#[tactic(auto, using(parts::proofs::Picks::picks, areas::proofs::Kept::byte_in_blocks_area), unfolding(write_rules::proofs::Chain::chain_of, write_rules::specs::Verdict::write_verdict))]
 fn memory(c: Core, byte: DataByteAsked) -> Result<(), WriteReason>
     ensures { (earlier : List ℕ) (x : ℕ) → result ≡ write_verdict (byte_at UserMemory c byte.session false byte.first byte.k earlier x) }
 {
-    let DataByteAsked {
-        session,
-        first,
-        k,
-        ..
-    } = byte;
     let r = c.registers;
-    let block = ((first as u32 + k as u32) / 4) as u16;
+    let block = ((byte.first as u32 + byte.k as u32) / 4) as u16;
     let area = areas::area_of_block(r.ends, block);
-    let own = areas::area_of_byte(r.ends, first);
+    let own = areas::area_of_byte(r.ends, byte.first);
     let locked = rights::is_locked(r.ccfile, block);
     let guarded = rights::wire_guards(r.i2css, area);
     if c.mailbox.enabled {
@@ -100,16 +100,17 @@ fn memory(c: Core, byte: DataByteAsked) -> Result<(), WriteReason>
     if locked {
         return Err(WriteReason::LockedBlock);
     }
-    if guarded & !session {
+    if guarded & !byte.session {
         return Err(WriteReason::SessionNeeded(None));
     }
-    if 256 <= k {
+    if 256 <= byte.k {
         return Err(WriteReason::PageFull);
     }
     Ok(())
 }
 
 // A dynamic register.
+#[tactic(auto, using(parts::proofs::Picks::picks), unfolding(write_rules::proofs::Chain::chain_of, write_rules::specs::Verdict::write_verdict))]
 fn dynamic_byte(first: u16, k: u16) -> Result<(), WriteReason>
     ensures { (c : Core) (session : Bool) (earlier : List ℕ) (x : ℕ) → result ≡ write_verdict (byte_at DynamicByte c session false first k earlier x) }
 {
@@ -125,6 +126,7 @@ fn dynamic_byte(first: u16, k: u16) -> Result<(), WriteReason>
 }
 
 // A byte of the mailbox.
+#[tactic(auto, using(parts::proofs::Picks::picks), unfolding(write_rules::proofs::Chain::chain_of, write_rules::specs::Verdict::write_verdict))]
 fn mailbox_byte(c: Core, first: u16, k: u16) -> Result<(), WriteReason>
     ensures { (session : Bool) (earlier : List ℕ) (x : ℕ) → result ≡ write_verdict (byte_at MailboxByte c session false first k earlier x) }
 {
@@ -145,25 +147,18 @@ fn mailbox_byte(c: Core, first: u16, k: u16) -> Result<(), WriteReason>
 }
 
 // A system register, after the leg's earlier bytes, which are the page's.
+#[tactic(auto, using(parts::proofs::Picks::picks), unfolding(write_rules::proofs::Chain::chain_of, write_rules::specs::Verdict::write_verdict))]
 fn register(c: Core, m: &[u8], byte: DataByteAsked) -> Result<(), WriteReason>
     ensures { result ≡ write_verdict (byte_at SystemRegister c byte.session false byte.first byte.k (page byte.k m.now) byte.x) }
 {
-    let DataByteAsked {
-        session,
-        first,
-        k,
-        x,
-        ..
-    } = byte;
-    let at = first as u32 + k as u32;
-    let row = register_table::row_of(at);
-    let writable = row.host;
-    let after = written_registers::written_all(c.registers, m, first, k);
-    let end_allowed = areas::end_allows(after.ends, at, x);
+    let at = byte.first as u32 + byte.k as u32;
+    let writable = register_table::row_of(at).host;
+    let after = written_registers::written_all(c.registers, m, byte.first, byte.k);
+    let end_allowed = areas::end_allows(after.ends, at, byte.x);
     if c.mailbox.enabled {
         return Err(WriteReason::MailboxModeOn);
     }
-    if !session {
+    if !byte.session {
         return Err(WriteReason::SessionNeeded(None));
     }
     if !writable {
@@ -172,65 +167,59 @@ fn register(c: Core, m: &[u8], byte: DataByteAsked) -> Result<(), WriteReason>
     if !end_allowed {
         return Err(WriteReason::EndaRule);
     }
-    if 256 <= k {
+    if 256 <= byte.k {
         return Err(WriteReason::PageFull);
     }
     Ok(())
 }
 
 // A byte of a password leg; its code stands at place 8.
+#[tactic(auto, using(parts::proofs::Picks::picks), unfolding(write_rules::proofs::Chain::chain_of, write_rules::specs::Verdict::write_verdict))]
 fn password_byte(c: Core, byte: DataByteAsked) -> Result<(), WriteReason>
     ensures { (earlier : List ℕ) → result ≡ write_verdict (byte_at PasswordByte c byte.session false byte.first byte.k earlier byte.x) }
 {
-    let DataByteAsked { session, k, x, .. } = byte;
-    let writes = (k == 8) & (x == 0x07);
+    let writes = (byte.k == 8) & (byte.x == 0x07);
     if writes & c.mailbox.enabled {
         return Err(WriteReason::MailboxModeOn);
     }
-    if writes & !session {
+    if writes & !byte.session {
         return Err(WriteReason::SessionNeeded(None));
     }
-    if (k == 8) & (x != 0x07) & (x != 0x09) {
+    if (byte.k == 8) & (byte.x != 0x07) & (byte.x != 0x09) {
         return Err(WriteReason::PasswordCode);
     }
-    if 17 <= k {
+    if 17 <= byte.k {
         return Err(WriteReason::PageFull);
     }
     Ok(())
 }
 
 // A data byte of a write leg, by what stands at its address.
+#[tactic(auto, unfolding(write_rules::specs::Verdict::write_verdict, write_rules::proofs::Chain::chain_of))]
 fn data_byte(c: Core, m: &[u8], byte: DataByteAsked) -> Result<(), WriteReason>
     ensures { result ≡ write_verdict (situation_of c m.now (DataByte byte)) }
 {
-    let DataByteAsked {
-        spoiled,
-        space,
-        first,
-        k,
-        ..
-    } = byte;
-    if spoiled {
+    if byte.spoiled {
         return Err(WriteReason::LegSpoiled);
     }
-    let place = byte_place(space, first, k);
-    match place {
+    match byte_place(byte.space, byte.first, byte.k) {
         WritePlace::Unmapped => Err(WriteReason::OutsideMap),
         WritePlace::UserMemory => memory(c, byte),
-        WritePlace::DynamicByte => dynamic_byte(first, k),
-        WritePlace::MailboxByte => mailbox_byte(c, first, k),
+        WritePlace::DynamicByte => dynamic_byte(byte.first, byte.k),
+        WritePlace::MailboxByte => mailbox_byte(c, byte.first, byte.k),
         WritePlace::SystemRegister => register(c, m, byte),
         WritePlace::PasswordByte => password_byte(c, byte),
     }
 }
 
+#[tactic(auto, unfolding(write_rules::specs::Conditions::needs_session))]
 fn needs_session(security: RfaSs) -> bool
     ensures { result ≡ needs_session security }
 {
-    let setting = security.bits / 4 % 4;
-    (setting == 1) | (setting == 2)
+    matches!(security.bits / 4 % 4, 1 | 2)
 }
 
+#[tactic(auto, using(parts::proofs::Picks::picks), unfolding(write_rules::specs::Verdict::area_key))]
 fn area_key(security: RfaSs) -> Option<u8>
     ensures { result ≡ area_key security }
 {
@@ -242,6 +231,7 @@ fn area_key(security: RfaSs) -> Option<u8>
 }
 
 // A block, by radio.
+#[tactic(auto, using(parts::proofs::Picks::picks), unfolding(write_rules::proofs::Chain::chain_of, write_rules::specs::Verdict::write_verdict, write_rules::specs::Situation::block_place))]
 fn block_write(c: Core, session: u8, block: u16) -> Result<(), WriteReason>
     ensures { result ≡ write_verdict (block_situation c session block) }
 {
@@ -269,12 +259,12 @@ fn block_write(c: Core, session: u8, block: u16) -> Result<(), WriteReason>
 }
 
 // A register, by radio.
+#[tactic(auto, using(parts::proofs::Picks::picks, write_rules::proofs::Rows::pointer_writable), unfolding(write_rules::proofs::Chain::chain_of, write_rules::specs::Verdict::write_verdict, write_rules::specs::Situation::pointer_place))]
 fn pointer_write(c: Core, session: u8, pointer: u8, x: u8) -> Result<(), WriteReason>
     ensures { result ≡ write_verdict (pointer_situation c session pointer x) }
 {
-    let row = register_table::row_of(pointer as u32);
-    let mapped = row.radio;
-    let locked = c.registers.config.bits / 1 % 2 == 1;
+    let mapped = register_table::row_of(pointer as u32).radio;
+    let locked = c.registers.config.bits % 2 == 1;
     let end_allowed = areas::end_allows(c.registers.ends, pointer as u32, x);
     if !mapped {
         return Err(WriteReason::OutsideMap);
@@ -292,6 +282,7 @@ fn pointer_write(c: Core, session: u8, pointer: u8, x: u8) -> Result<(), WriteRe
 }
 
 // A password, by radio.
+#[tactic(auto, using(parts::proofs::Picks::picks), unfolding(write_rules::proofs::Chain::chain_of, write_rules::specs::Verdict::write_verdict, write_rules::specs::Situation::password_place))]
 fn password_write(session: u8, n: u8) -> Result<(), WriteReason>
     ensures { (c : Core) → result ≡ write_verdict (password_situation c session n) }
 {

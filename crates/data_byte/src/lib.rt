@@ -19,11 +19,11 @@ pub fn asked_of(w: WireSide, space: Space, k: u16, spoiled: bool, x: u8) -> Writ
 {
     WriteAsked::DataByte {
         session: w.host.session,
-        spoiled: spoiled,
-        space: space,
+        spoiled,
+        space,
         first: select::first_of(w.host.counter, k),
-        k: k,
-        x: x,
+        k,
+        x,
     }
 }
 
@@ -45,9 +45,9 @@ pub fn send_data(
         let next = bus::next_address(w.host.counter);
         let count = k + 1;
         let leg = Bus::DataLeg {
-            kept: kept,
-            space: space,
-            count: count,
+            kept,
+            space,
+            count,
             spoiled: false,
         };
         return WireOutcome {
@@ -59,8 +59,8 @@ pub fn send_data(
         return no_ack(w);
     }
     let leg = Bus::DataLeg {
-        kept: kept,
-        space: space,
+        kept,
+        space,
         count: k,
         spoiled: true,
     };

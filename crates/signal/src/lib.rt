@@ -68,6 +68,7 @@ fn started(w: WireSide, b: Bus) -> WireSide
 }
 
 // The Start after a write leg past its address; the bus is started already.
+#[tactic(auto, using(parts::proofs::Picks::picks), unfolding(leg::specs::Leg::settle))]
 fn start_write(w: WireSide, m: &mut [u8], space: Space, count: u16, spoiled: bool) -> WireSide
     ensures { leg_result result m.new ≡ settle started (write_due space count spoiled w.host.counter m.old) w m.old }
 {
@@ -110,6 +111,7 @@ pub fn start(w: WireSide, m: &mut [u8]) -> WireSide
 }
 
 // The Stop of a write leg past its address; the bus is idle already.
+#[tactic(auto, using(parts::proofs::Picks::picks), unfolding(leg::specs::Leg::settle))]
 fn stop_write(w: WireSide, m: &mut [u8], space: Space, count: u16, spoiled: bool) -> WireSide
     ensures { leg_result result m.new ≡ settle stopped (write_due space count spoiled w.host.counter m.old) w m.old }
 {

@@ -45,9 +45,9 @@ pub fn send_data(
         let next = bus::next_address(w.host.counter);
         let count = k + 1;
         let leg = Bus::DataLeg {
-            kept: kept,
-            space: space,
-            count: count,
+            kept,
+            space,
+            count,
             spoiled: false,
         };
         return WireOutcome {
@@ -59,8 +59,8 @@ pub fn send_data(
         return no_ack(w);
     }
     let leg = Bus::DataLeg {
-        kept: kept,
-        space: space,
+        kept,
+        space,
         count: k,
         spoiled: true,
     };

@@ -10,6 +10,7 @@ use bus::Space;
 use tag::{Core, WireSide};
 
 // A write leg's effect: the page's k bytes, all Acked, in a space from the first address on.
+#[tactic(auto, unfolding(crate::specs::Leg::leg_written))]
 pub fn leg_written(space: Space, w: WireSide, m: &mut [u8], first: u16, k: u16) -> WireSide
     ensures { leg_result result m.new ≡ leg_written space w m.old first (page k m.old) }
 {
@@ -20,6 +21,7 @@ pub fn leg_written(space: Space, w: WireSide, m: &mut [u8], first: u16, k: u16) 
 }
 
 // Whether a leg's bytes take effect at a Start as well as at a Stop.
+#[tactic(auto, unfolding(crate::specs::Leg::acts_at_start))]
 pub fn acts_at_start(space: Space, first: u16) -> bool
     ensures { result ≡ acts_at_start space first }
 {

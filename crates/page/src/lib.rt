@@ -30,29 +30,29 @@ fn allowed(c: Core, session: bool, m: &[u8], space: Space, first: u16, k: u16, x
 
 // How many places decide for a page of user space: the last alone where none of its blocks can be locked, since the bytes
 // between two of one area lie in it; else the first too, and place 4 in the block after it.
+#[tactic(auto, using(parts::proofs::Picks::picks))]
 fn places(first: u16, last: u16) -> u16
     ensures { result ≡ pick (leb 8 first) 1 (pick (ltb last 4) 2 3) }
 {
     if 8 <= first {
-        return 1;
+        1
+    } else if last < 4 {
+        2
+    } else {
+        3
     }
-    if last < 4 {
-        return 2;
-    }
-    3
 }
 
 // Which places they are.
+#[tactic(auto, using(parts::proofs::Picks::picks))]
 fn place(i: u16, last: u16) -> u16
     ensures { result ≡ pick (eqb i 0) last (pick (eqb i 1) 0 4) }
 {
-    if i == 0 {
-        return last;
+    match i {
+        0 => last,
+        1 => 0,
+        _ => 4,
     }
-    if i == 1 {
-        return 0;
-    }
-    4
 }
 
 // A page of user space, whatever its bytes. It stops at the first place that would not be Acked.
@@ -64,12 +64,10 @@ fn user_page(c: Core, session: bool, m: &[u8], first: u16, k: u16) -> bool
     }
     let last = k - 1;
     let n = places(first, last);
-    let mut i: u16 = 0;
-    while i < n {
+    for i in 0..n {
         if !allowed(c, session, m, Space::User, first, place(i, last), 0) {
             return false;
         }
-        i += 1;
     }
     true
 }
@@ -78,13 +76,11 @@ fn user_page(c: Core, session: bool, m: &[u8], first: u16, k: u16) -> bool
 fn system_page(c: Core, session: bool, m: &[u8], first: u16, k: u16) -> bool
     ensures { result ≡ page_acked System c session first m.now k }
 {
-    let mut i: u16 = 0;
-    while i < k {
+    for i in 0..k {
         let x = parts::byte_in(m, tag::PAGE_AT, i as usize);
         if !allowed(c, session, m, Space::System, first, i, x) {
             return false;
         }
-        i += 1;
     }
     true
 }
@@ -100,26 +96,17 @@ fn page_acked(space: Space, c: Core, session: bool, m: &[u8], first: u16, k: u16
 }
 
 // Whether the page bytes of a bus are in range.
+#[tactic(auto, unfolding(crate::specs::PageRange::bus_in_range))]
 pub fn bus_in_range(b: Bus, counter: u16, c: Core, session: bool, m: &[u8]) -> bool
     ensures { result ≡ bus_in_range b counter c session m.now }
 {
     match b {
-        Bus::Idle => true,
-        Bus::Started(transfer) => true,
-        Bus::ReadLeg {
-            kept,
-            space,
-            over,
-            last,
-        } => true,
-        Bus::WriteLeg { kept, space } => true,
-        Bus::LowAddress { kept, space, high } => true,
-        Bus::DataLeg {
-            kept,
-            space,
-            count,
-            spoiled,
-        } => page_acked(
+        Bus::Idle
+        | Bus::Started(_)
+        | Bus::ReadLeg { .. }
+        | Bus::WriteLeg { .. }
+        | Bus::LowAddress { .. } => true,
+        Bus::DataLeg { space, count, .. } => page_acked(
             space,
             c,
             session,

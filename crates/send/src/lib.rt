@@ -13,6 +13,7 @@ use signal::{WireAnswer, WireOutcome};
 use tag::WireSide;
 
 // The first byte sent after a Start.
+#[tactic(auto, unfolding(crate::specs::Send::select_by))]
 fn select(kept: OpenTransfer, w: WireSide, m: &[u8], x: u8) -> WireOutcome
     ensures { wire_result result.answer result.side m.now ≡ select_by (choose w.host.vcc w.host.programming x) kept w m.now }
 {
@@ -26,8 +27,8 @@ fn select(kept: OpenTransfer, w: WireSide, m: &[u8], x: u8) -> WireOutcome
             side: signal::with_bus(
                 w,
                 Bus::ReadLeg {
-                    kept: kept,
-                    space: space,
+                    kept,
+                    space,
                     over: false,
                     last: false,
                 },
@@ -35,13 +36,7 @@ fn select(kept: OpenTransfer, w: WireSide, m: &[u8], x: u8) -> WireOutcome
         },
         Choice::Writing(space) => WireOutcome {
             answer: WireAnswer::Ack,
-            side: signal::with_bus(
-                w,
-                Bus::WriteLeg {
-                    kept: kept,
-                    space: space,
-                },
-            ),
+            side: signal::with_bus(w, Bus::WriteLeg { kept, space }),
         },
     }
 }
@@ -51,8 +46,8 @@ fn low_address(kept: OpenTransfer, space: Space, high: u8, w: WireSide, x: u8) -
     ensures { result ≡ side_line (address high x) (DataLeg kept space 0 false) w }
 {
     let leg = Bus::DataLeg {
-        kept: kept,
-        space: space,
+        kept,
+        space,
         count: 0,
         spoiled: false,
     };
@@ -60,25 +55,20 @@ fn low_address(kept: OpenTransfer, space: Space, high: u8, w: WireSide, x: u8) -
 }
 
 // A byte sent.
+#[tactic(auto, unfolding(crate::specs::Send::send_at))]
 pub fn send_at(b: Bus, w: WireSide, m: &mut [u8], x: u8) -> WireOutcome
     ensures { wire_result result.answer result.side m.new ≡ send_at b w m.old x }
 {
     match b {
-        Bus::Idle => data_byte::no_ack(w),
+        Bus::Idle | Bus::ReadLeg { .. } => data_byte::no_ack(w),
         Bus::Started(transfer) => select(bus::kept_of(transfer, w.core.registers.dynamic), w, m, x),
-        Bus::ReadLeg {
-            kept,
-            space,
-            over,
-            last,
-        } => data_byte::no_ack(w),
         Bus::WriteLeg { kept, space } => WireOutcome {
             answer: WireAnswer::Ack,
             side: signal::with_bus(
                 w,
                 Bus::LowAddress {
-                    kept: kept,
-                    space: space,
+                    kept,
+                    space,
                     high: x,
                 },
             ),

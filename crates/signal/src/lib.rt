@@ -11,7 +11,7 @@ ghost use Rattle.signal.specs.declared.WireAnswer.TheVariants.{Nothing};
 ghost use Rattle.signal.specs.Signal.{wire_result, side_bus, side_line, write_due, start_at, start_of, stop_at};
 
 use bus::{Bus, Space};
-use tag::WireSide;
+use tag::{Host, WireSide};
 
 #[derive(Clone, Copy)]
 pub enum WireAnswer {
@@ -31,23 +31,26 @@ pub struct WireOutcome {
 pub fn with_bus(w: WireSide, b: Bus) -> WireSide
     ensures { result ≡ side_bus b w }
 {
-    let host = w.host.with_bus(b);
-    let mut n = w;
-    n.host = host;
-    n
+    WireSide {
+        host: w.host.with_bus(b),
+        ..w
+    }
 }
 
 pub fn with_line(w: WireSide, counter: u16, b: Bus) -> WireSide
     ensures { result ≡ side_line counter b w }
 {
-    let mut host = w.host.with_bus(b);
-    host.counter = counter;
-    let mut n = w;
-    n.host = host;
-    n
+    WireSide {
+        host: Host {
+            counter,
+            ..w.host.with_bus(b)
+        },
+        ..w
+    }
 }
 
 // The end of a read leg.
+#[tactic(auto, using(parts::proofs::Picks::picks))]
 fn end_read(w: WireSide, last: bool) -> WireSide
     ensures { result ≡ pick last (last_fetched w) w }
 {
@@ -65,6 +68,7 @@ fn started(w: WireSide, b: Bus) -> WireSide
 }
 
 // The Start after a write leg past its address; the bus is started already.
+#[tactic(auto, using(parts::proofs::Picks::picks), unfolding(leg::specs::Leg::settle))]
 fn start_write(w: WireSide, m: &mut [u8], space: Space, count: u16, spoiled: bool) -> WireSide
     ensures { leg_result result m.new ≡ settle started (write_due space count spoiled w.host.counter m.old) w m.old }
 {
@@ -79,42 +83,35 @@ fn start_write(w: WireSide, m: &mut [u8], space: Space, count: u16, spoiled: boo
 }
 
 // A Start on a powered bus: the leg ends; of its writes only those to a dynamic register are done.
+#[tactic(auto, using(crate::proofs::Settle::read_started), unfolding(crate::specs::Signal::start_at, crate::specs::Signal::due_of, leg::specs::Leg::settle))]
 fn start_at(b: Bus, w: WireSide, m: &mut [u8]) -> WireSide
     ensures { wire_result Nothing result m.new ≡ start_at b w m.old }
 {
     let next = started(w, b);
     match b {
-        Bus::Idle => next,
-        Bus::Started(transfer) => next,
-        Bus::ReadLeg {
-            kept,
-            space,
-            over,
-            last,
-        } => end_read(next, last),
-        Bus::WriteLeg { kept, space } => next,
-        Bus::LowAddress { kept, space, high } => next,
+        Bus::Idle | Bus::Started(_) | Bus::WriteLeg { .. } | Bus::LowAddress { .. } => next,
+        Bus::ReadLeg { last, .. } => end_read(next, last),
         Bus::DataLeg {
-            kept,
             space,
             count,
             spoiled,
+            ..
         } => start_write(next, m, space, count, spoiled),
     }
 }
 
+#[tactic(auto, using(parts::proofs::Picks::picks), unfolding(crate::specs::Signal::start_of))]
 pub fn start(w: WireSide, m: &mut [u8]) -> WireSide
     ensures { wire_result Nothing result m.new ≡ start_of w m.old }
 {
-    let host = w.host;
-    let bus = host.bus;
     if !w.host.vcc {
         return w;
     }
-    start_at(bus, w, m)
+    start_at(w.host.bus, w, m)
 }
 
 // The Stop of a write leg past its address; the bus is idle already.
+#[tactic(auto, using(parts::proofs::Picks::picks), unfolding(leg::specs::Leg::settle))]
 fn stop_write(w: WireSide, m: &mut [u8], space: Space, count: u16, spoiled: bool) -> WireSide
     ensures { leg_result result m.new ≡ settle stopped (write_due space count spoiled w.host.counter m.old) w m.old }
 {
@@ -126,26 +123,19 @@ fn stop_write(w: WireSide, m: &mut [u8], space: Space, count: u16, spoiled: bool
 }
 
 // A Stop: the leg ends, its writes done.
+#[tactic(auto, using(crate::proofs::Settle::read_stopped), unfolding(crate::specs::Signal::stop_at, crate::specs::Signal::due_of, leg::specs::Leg::settle))]
 pub fn stop_at(b: Bus, w: WireSide, m: &mut [u8]) -> WireSide
     ensures { wire_result Nothing result m.new ≡ stop_at b w m.old }
 {
     let next = with_bus(w, Bus::Idle);
     match b {
-        Bus::Idle => next,
-        Bus::Started(transfer) => next,
-        Bus::ReadLeg {
-            kept,
-            space,
-            over,
-            last,
-        } => end_read(next, last),
-        Bus::WriteLeg { kept, space } => next,
-        Bus::LowAddress { kept, space, high } => next,
+        Bus::Idle | Bus::Started(_) | Bus::WriteLeg { .. } | Bus::LowAddress { .. } => next,
+        Bus::ReadLeg { last, .. } => end_read(next, last),
         Bus::DataLeg {
-            kept,
             space,
             count,
             spoiled,
+            ..
         } => stop_write(next, m, space, count, spoiled),
     }
 }

@@ -43,6 +43,7 @@ fn password_written(w: WireSide, m: &[u8], k: u16) -> WireSide
 }
 
 // A leg in system space written.
+#[tactic(auto, using(parts::proofs::Picks::picks), unfolding(crate::specs::SystemLeg::system_written))]
 pub fn system_written(w: WireSide, m: &[u8], first: u16, k: u16) -> WireSide
     ensures { leg_result result m.now ≡ system_written w m.now first (page k m.now) }
 {

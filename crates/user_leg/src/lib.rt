@@ -9,6 +9,7 @@ ghost use Rattle.user_leg.specs.UserLeg.{user_written};
 use tag::{Core, WireSide};
 
 // Byte i of a page of k bytes, 0 past them.
+#[tactic(auto, using(parts::proofs::Lists::bytes_at_get_d, parts::proofs::Lists::bytes_at_past))]
 fn page_byte(m: &[u8], k: u16, i: u16) -> u8
     ensures { result ≡ get_or (page k m.now) i 0 }
 {

@@ -11,7 +11,7 @@ use bus::{Bus, OpenTransfer, Space};
 use keys::Uid;
 use signal::{WireAnswer, WireOutcome};
 use signal_table::WireSignal;
-use tag::WireSide;
+use tag::{Host, WireSide};
 
 fn no_byte(w: WireSide) -> WireOutcome
     ensures { result ≡ record { answer = Byte 0xFF; side = w } }
@@ -23,6 +23,7 @@ fn no_byte(w: WireSide) -> WireOutcome
 }
 
 // A byte fetched in a read leg.
+#[tactic(auto, using(parts::proofs::Picks::picks), unfolding(crate::specs::Wire::fetch_at))]
 fn fetch_read(
     kept: OpenTransfer,
     space: Space,
@@ -43,8 +44,8 @@ fn fetch_read(
     let reached = fetch::is_last(space, w.core.mailbox, counter);
     let after = bus::next_address(counter);
     let leg = Bus::ReadLeg {
-        kept: kept,
-        space: space,
+        kept,
+        space,
         over: !ack,
         last: last | reached,
     };
@@ -55,26 +56,22 @@ fn fetch_read(
 }
 
 // A byte fetched.
+#[tactic(auto, unfolding(crate::specs::Wire::fetch_at))]
 fn fetch_at(b: Bus, w: WireSide, u: Uid, m: &[u8], ack: bool) -> WireOutcome
     ensures { wire_result result.answer result.side m.now ≡ fetch_at b w u m.now ack }
 {
     match b {
-        Bus::Idle => no_byte(w),
-        Bus::Started(transfer) => no_byte(w),
         Bus::ReadLeg {
             kept,
             space,
             over,
             last,
         } => fetch_read(kept, space, over, last, w, u, m, ack),
-        Bus::WriteLeg { kept, space } => no_byte(w),
-        Bus::LowAddress { kept, space, high } => no_byte(w),
-        Bus::DataLeg {
-            kept,
-            space,
-            count,
-            spoiled,
-        } => no_byte(w),
+        Bus::Idle
+        | Bus::Started(_)
+        | Bus::WriteLeg { .. }
+        | Bus::LowAddress { .. }
+        | Bus::DataLeg { .. } => no_byte(w),
     }
 }
 
@@ -82,9 +79,13 @@ fn fetch_at(b: Bus, w: WireSide, u: Uid, m: &[u8], ack: bool) -> WireOutcome
 fn end_programming(w: WireSide) -> WireSide
     ensures { result ≡ programmed w }
 {
-    let mut n = w;
-    n.host.programming = false;
-    n
+    WireSide {
+        host: Host {
+            programming: false,
+            ..w.host
+        },
+        ..w
+    }
 }
 
 fn nothing(w: WireSide) -> WireOutcome
@@ -97,16 +98,15 @@ fn nothing(w: WireSide) -> WireOutcome
 }
 
 // One signal.
+#[tactic(auto, unfolding(crate::specs::Wire::signal_of))]
 pub fn step(w: WireSide, u: Uid, m: &mut [u8], signal: WireSignal) -> WireOutcome
     ensures { wire_result result.answer result.side m.new ≡ signal_of w u m.old signal }
 {
-    let host = w.host;
-    let bus = host.bus;
     match signal {
         WireSignal::Start => nothing(signal::start(w, m)),
-        WireSignal::Send(x) => send::send_at(bus, w, m, x),
-        WireSignal::Fetch(ack) => fetch_at(bus, w, u, m, ack),
-        WireSignal::Stop => nothing(signal::stop_at(bus, w, m)),
+        WireSignal::Send(x) => send::send_at(w.host.bus, w, m, x),
+        WireSignal::Fetch(ack) => fetch_at(w.host.bus, w, u, m, ack),
+        WireSignal::Stop => nothing(signal::stop_at(w.host.bus, w, m)),
         WireSignal::Vcc(on) => nothing(w.vcc_at(on)),
         WireSignal::ProgrammingEnd => nothing(end_programming(w)),
     }

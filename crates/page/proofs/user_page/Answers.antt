@@ -1,6 +1,4 @@
 use mathlib.Core.Path.{◌≡◌, refl, sym, ap, ◌∙◌}
-use mathlib.Core.Bool.{true, false}
-use Prim.Native.Nat.{◌-◌}
 use native.Mathlib.Omega.{arith}
 use native.Mathlib.Numerals.{add-one}
 use Rattle.parts.proofs.Bools.{and_both}
@@ -12,7 +10,7 @@ returns-then-k-eq0 c = no_byte _ _ _ _ _ c.if-k-eq0.true
 
 pub loop-i-init : goal.loop-i-init
 unfolding asked_to
-loop-i-init c = (refl, omega arith)
+loop-i-init c = refl
 
 pub returns-then-not-allowed : goal.returns-then-not-allowed
 returns-then-not-allowed c =
@@ -25,11 +23,11 @@ unfolding asked_to
 loop-i-preserved c =
     let a = c.args in
     let here = rw c.place.ensures at (sym c.allowed.ensures ∙ c.if-not-allowed.false) in
-    (rw (add-one c.loop-i.i) (and_both (asked_to a.c a.session a.first a.m.now a.k c.loop-i.i) (acked_at a.c a.session a.first a.m.now a.k c.loop-i.i) c.loop-i.invariant.0 here), omega arith)
+    rw (add-one c.loop-i.i) (and_both (asked_to a.c a.session a.first a.m.now a.k c.loop-i.i) (acked_at a.c a.session a.first a.m.now a.k c.loop-i.i) c.loop-i.invariant here)
 
 pub returns : goal.returns
 returns c =
     let a = c.args in
     let e : c.loop-i.i ≡ c.places-n.result = omega arith in
     accepted a.c a.session a.first a.m.now a.k c.if-k-eq0.false
-    (ap (asked_to a.c a.session a.first a.m.now a.k) (sym (e ∙ c.places-n.ensures)) ∙ c.loop-i.invariant.0)
+    (ap (asked_to a.c a.session a.first a.m.now a.k) (sym (e ∙ c.places-n.ensures)) ∙ c.loop-i.invariant)

@@ -56,8 +56,7 @@ pub fn st25dv_step(
             let t = state_decode::decode(s);
             let o = model::step(t, m, out, code, value, frame);
             next_state::keep(o, s);
-            let answer = o.answer;
-            answer_number(answer)
+            answer_number(o.answer)
         }
     }
 }
@@ -71,8 +70,7 @@ pub fn st25dv_fresh(uid: &[u8], m: &mut [u8], s: &mut [u8]) -> u32
         Ok(()) => {
             let o = model::fresh(Uid::at(uid, 0), m);
             next_state::keep(o, s);
-            let answer = o.answer;
-            answer_number(answer)
+            answer_number(o.answer)
         }
     }
 }

@@ -107,8 +107,7 @@ pub fn st25dv_rack_search(
             let o = collision_search::search(tags, number as usize, m, out, frame);
             let left = o.tags;
             rack_states::encode_tags(left, s);
-            let answer = o.answer;
-            search_number(answer)
+            search_number(o.answer)
         }
     }
 }

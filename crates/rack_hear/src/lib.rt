@@ -40,15 +40,7 @@ pub struct HeardTag {
 fn is_reply(answer: Answer) -> bool
     ensures { result ≡ is_reply answer }
 {
-    match answer {
-        Answer::Refused(why) => false,
-        Answer::Nothing => false,
-        Answer::Ack => false,
-        Answer::NoAck => false,
-        Answer::Byte(x) => false,
-        Answer::Silence => false,
-        Answer::Reply(n) => true,
-    }
+    matches!(answer, Answer::Reply(_))
 }
 
 // The answer of a rack of which no tag replied.
@@ -107,9 +99,7 @@ pub fn hearing(judged: Result<(), Refusal>, number: usize, code: u32, value: u32
 fn passed(heard: Heard, end: usize) -> Heard
     ensures { result ≡ passed_by heard end }
 {
-    let mut b = heard;
-    b.at = end;
-    b
+    Heard { at: end, ..heard }
 }
 
 // The first reply stands.
@@ -131,14 +121,11 @@ fn noted(heard: Heard, i: usize, end: usize, answer: Answer) -> Heard
     let mut answered = heard.answered;
     answered[i] = replied;
     Heard {
-        number: heard.number,
         at: end,
-        code: heard.code,
-        value: heard.value,
-        to: heard.to,
         replied: heard.replied | replied,
         answered,
         answer: first_reply(heard, answer),
+        ..heard
     }
 }
 
@@ -161,16 +148,16 @@ fn act_at(
     if heard.replied {
         let mut aside = [0; 643];
         let o = model::act(signal, t, &mut memory[at..end], &mut aside, frame);
-        let answer = o.answer;
-        let next = noted(heard, i, end, answer);
-        let tag = o.tag;
-        return HeardTag { heard: next, tag };
+        return HeardTag {
+            heard: noted(heard, i, end, o.answer),
+            tag: o.tag,
+        };
     }
     let o = model::act(signal, t, &mut memory[at..end], out, frame);
-    let answer = o.answer;
-    let next = noted(heard, i, end, answer);
-    let tag = o.tag;
-    HeardTag { heard: next, tag }
+    HeardTag {
+        heard: noted(heard, i, end, o.answer),
+        tag: o.tag,
+    }
 }
 
 // Tag i. One that is not of the rack, or whose memory does not lie within what is lent, hears nothing.
@@ -185,35 +172,22 @@ pub fn hear_tag(
     ensures { heard_tag result memory.new out.new ≡ hear_of t memory.old out.old frame.now i heard }
 {
     if heard.number <= i {
-        return HeardTag {
-            heard: heard,
-            tag: t,
-        };
+        return HeardTag { heard, tag: t };
     }
     if 15 < i {
-        return HeardTag {
-            heard: heard,
-            tag: t,
-        };
+        return HeardTag { heard, tag: t };
     }
     if memory.len() < heard.at {
-        return HeardTag {
-            heard: heard,
-            tag: t,
-        };
+        return HeardTag { heard, tag: t };
     }
     if memory.len() - heard.at < tag::MEMORY_BYTES {
-        return HeardTag {
-            heard: heard,
-            tag: t,
-        };
+        return HeardTag { heard, tag: t };
     }
     if rack_judge::to_all(heard.code) | (i == heard.to) {
         return act_at(t, memory, out, frame, i, heard);
     }
-    let next = passed(heard, heard.at + tag::MEMORY_BYTES);
     HeardTag {
-        heard: next,
+        heard: passed(heard, heard.at + tag::MEMORY_BYTES),
         tag: t,
     }
 }

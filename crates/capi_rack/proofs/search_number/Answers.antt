@@ -1,14 +1,14 @@
 use Rattle.capi_rack.specs.RackInterface.{search_number}
 use Rattle.capi_rack.proofs.search_number.Goals as goal
 
-pub returns-in-Refused : goal.returns-in-Refused
+pub returns-in-Err : goal.returns-in-Err
 unfolding search_number
-returns-in-Refused c = rw (c.number.ensures, c.in-Refused.is)
+returns-in-Err c = rw (c.number.ensures, c.in-Err.is)
 
-pub returns-in-NoCollision : goal.returns-in-NoCollision
+pub returns-in-Ok-None : goal.returns-in-Ok-None
 unfolding search_number
-returns-in-NoCollision c = rw c.in-NoCollision.is
+returns-in-Ok-None c = rw c.in-Ok-None.is
 
-pub returns-in-Collision : goal.returns-in-Collision
+pub returns-in-Ok-Some : goal.returns-in-Ok-Some
 unfolding search_number
-returns-in-Collision c = rw c.in-Collision.is
+returns-in-Ok-Some c = rw c.in-Ok-Some.is

@@ -1,3 +1,8 @@
+use mathlib.Core.Path.{◌≡◌, refl}
+use mathlib.Core.Bool.{false}
+use Rattle.model.specs.Passed.{Refusal}
+use Rattle.model.specs.declared.Answer.{Answer}
+use Rattle.model.specs.declared.Answer.TheVariants.{Refused, Nothing, Ack, NoAck, Byte, Silence, Reply}
 use Rattle.model.specs.Step.{is_refused}
 use Rattle.next_state.proofs.is_refused.Goals as goal
 
@@ -5,26 +10,15 @@ pub returns-in-Refused : goal.returns-in-Refused
 unfolding is_refused
 returns-in-Refused c = rw c.in-Refused.is
 
-pub returns-in-Nothing : goal.returns-in-Nothing
+other : (a : Answer) → ((why : Refusal) → a ≡ Refused why → ⊥) → false ≡ is_refused a
 unfolding is_refused
-returns-in-Nothing c = rw c.in-Nothing.is
+other (Refused why) isnt = absurd (isnt why refl)
+other Nothing isnt = refl
+other Ack isnt = refl
+other NoAck isnt = refl
+other (Byte x) isnt = refl
+other Silence isnt = refl
+other (Reply n) isnt = refl
 
-pub returns-in-Ack : goal.returns-in-Ack
-unfolding is_refused
-returns-in-Ack c = rw c.in-Ack.is
-
-pub returns-in-NoAck : goal.returns-in-NoAck
-unfolding is_refused
-returns-in-NoAck c = rw c.in-NoAck.is
-
-pub returns-in-Byte : goal.returns-in-Byte
-unfolding is_refused
-returns-in-Byte c = rw c.in-Byte.is
-
-pub returns-in-Silence : goal.returns-in-Silence
-unfolding is_refused
-returns-in-Silence c = rw c.in-Silence.is
-
-pub returns-in-Reply : goal.returns-in-Reply
-unfolding is_refused
-returns-in-Reply c = rw c.in-Reply.is
+pub returns-in_default : goal.returns-in_default
+returns-in_default c = other c.args.answer c.in_default.not-Refused

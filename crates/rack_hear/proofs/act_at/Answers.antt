@@ -16,7 +16,7 @@ returns-then-heard c =
     let o = c.args.out.now in
     let n : a.at + 1024 - a.at ≡ 1024 = omega arith in
     pick_true _ _ _ a.replied c.if-heard.true
-    (rw (c.noted-next.ensures, n) (ap (acted_at a i m o) (rw (n, c.signal_by-signal.ensures) at c.act-o.ensures)))
+    (rw (c.noted.ensures, n) (ap (acted_at a i m o) (rw (n, c.signal_by-signal.ensures) at c.act-o.ensures)))
 
 -- src/lib.rt:134:1
 pub returns : goal.returns
@@ -27,4 +27,4 @@ returns c =
     let m = c.args.memory.now in
     let n : a.at + 1024 - a.at ≡ 1024 = omega arith in
     pick_false _ _ _ a.replied c.if-heard.false
-    (rw (c.noted-next-2.ensures, n) (ap (λ (e : StepResult). acted_at a i m e.reply e) (rw (n, c.signal_by-signal.ensures) at c.act-o-2.ensures)))
+    (rw (c.noted-2.ensures, n) (ap (λ (e : StepResult). acted_at a i m e.reply e) (rw (n, c.signal_by-signal.ensures) at c.act-o-2.ensures)))

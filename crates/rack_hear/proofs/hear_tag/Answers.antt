@@ -42,4 +42,4 @@ returns-then-to_all-i c =
 pub returns : goal.returns
 unfolding hear_of
 returns c =
-    rw (c.passed-next.ensures, ← c.to_all.ensures) (search picks depth 20)
+    rw (c.passed.ensures, ← c.to_all.ensures) (search picks depth 20)

@@ -1,37 +1,24 @@
+use mathlib.Core.Path.{◌≡◌, refl}
+use mathlib.Core.Bool.{false}
+use Prim.Native.Nat.{ℕ}
+use Rattle.model.specs.declared.Answer.{Answer}
+use Rattle.model.specs.declared.Answer.TheVariants.{Refused, Nothing, Ack, NoAck, Byte, Silence, Reply}
 use Rattle.model.specs.Step.{is_reply}
 use Rattle.rack_hear.proofs.is_reply.Goals as goal
 
--- src/lib.rt:35:1
-pub returns-in-Refused : goal.returns-in-Refused
-unfolding is_reply
-returns-in-Refused c = rw c.in-Refused.is
-
--- src/lib.rt:35:1
-pub returns-in-Nothing : goal.returns-in-Nothing
-unfolding is_reply
-returns-in-Nothing c = rw c.in-Nothing.is
-
--- src/lib.rt:35:1
-pub returns-in-Ack : goal.returns-in-Ack
-unfolding is_reply
-returns-in-Ack c = rw c.in-Ack.is
-
--- src/lib.rt:35:1
-pub returns-in-NoAck : goal.returns-in-NoAck
-unfolding is_reply
-returns-in-NoAck c = rw c.in-NoAck.is
-
--- src/lib.rt:35:1
-pub returns-in-Byte : goal.returns-in-Byte
-unfolding is_reply
-returns-in-Byte c = rw c.in-Byte.is
-
--- src/lib.rt:35:1
-pub returns-in-Silence : goal.returns-in-Silence
-unfolding is_reply
-returns-in-Silence c = rw c.in-Silence.is
-
--- src/lib.rt:35:1
 pub returns-in-Reply : goal.returns-in-Reply
 unfolding is_reply
 returns-in-Reply c = rw c.in-Reply.is
+
+other : (a : Answer) → ((n : ℕ) → a ≡ Reply n → ⊥) → false ≡ is_reply a
+unfolding is_reply
+other (Refused why) isnt = refl
+other Nothing isnt = refl
+other Ack isnt = refl
+other NoAck isnt = refl
+other (Byte x) isnt = refl
+other Silence isnt = refl
+other (Reply n) isnt = absurd (isnt n refl)
+
+pub returns-in_default : goal.returns-in_default
+returns-in_default c = other c.args.answer c.in_default.not-Reply

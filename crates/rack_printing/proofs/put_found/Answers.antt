@@ -1,17 +1,17 @@
 use Rattle.rack_printing.specs.Text.{search_text}
 use Rattle.rack_printing.proofs.put_found.Goals as goal
 
-pub returns-in-Refused : goal.returns-in-Refused
+pub returns-in-Err : goal.returns-in-Err
 unfolding search_text
-returns-in-Refused c =
-    rw c.in-Refused.is c.put_refused.ensures
+returns-in-Err c =
+    rw c.in-Err.is c.put_refused.ensures
 
-pub returns-in-NoCollision : goal.returns-in-NoCollision
+pub returns-in-Ok-None : goal.returns-in-Ok-None
 unfolding search_text
-returns-in-NoCollision c =
-    rw c.in-NoCollision.is c.put_mark.ensures
+returns-in-Ok-None c =
+    rw c.in-Ok-None.is c.put_mark.ensures
 
-pub returns-in-Collision : goal.returns-in-Collision
+pub returns-in-Ok-Some : goal.returns-in-Ok-Some
 unfolding search_text
-returns-in-Collision c =
-    rw c.in-Collision.is c.put_decimal.ensures
+returns-in-Ok-Some c =
+    rw c.in-Ok-Some.is c.put_decimal.ensures

@@ -71,6 +71,7 @@ pub struct RegisterRow {
 }
 
 impl RegisterRow {
+    // In the columns of the definition's table: fields by name would take a row six lines.
     fn new(place: u8, rule: WriteRule, host: bool, radio: bool) -> RegisterRow
         ensures { result ≡ record { place = place; rule = rule; host = host; radio = radio } }
     {

@@ -7,7 +7,7 @@ ghost use Rattle.rights.specs.Rights.{security_of, session_opens, radio_reads, w
 use register_types::{I2cSs, LockCcFile, RfaSs};
 use registers::{Registers, Security};
 
-// RFAiSS of an area.
+// RFAiSS of an area. Areas stay numbers, 1 to 4: an enum would promise less to a caller with any byte.
 #[tactic(auto, using(parts::proofs::Picks::picks), unfolding(crate::specs::Rights::security_of))]
 pub fn security_of(security: Security, area: u8) -> RfaSs
     ensures { result ≡ security_of security area }
@@ -48,7 +48,7 @@ fn wire_bits(security: I2cSs, area: u8) -> u8
     }
 }
 
-// Whether a write by the wire needs the I2C session in an area.
+// Whether a write by the wire needs the I2C session in an area. A bit is read by its weight, 1 too, as is_set reads it.
 #[tactic(auto, unfolding(crate::specs::Rights::wire_guards))]
 pub fn wire_guards(security: I2cSs, area: u8) -> bool
     ensures { result ≡ wire_guards security area }

@@ -7,7 +7,6 @@ use native.Mathlib.Omega.{arith}
 use native.Mathlib.Numerals.{add-one}
 use lib.Dec.{leb}
 use borrow.Author.Tests.{leb-true, leb-false, le-leb, lt-leb}
-use Rattle.std.proofs.lemmas.Bool.Decides.{nat_tests}
 use Rattle.parts.specs.Pick.{pick}
 use lib.ListN.{length, take, drop, get_or, set, length-take, drop_of_length-le}
 use lib.Seq.{sets, drop-cons, take-suc, take_all}
@@ -30,28 +29,6 @@ all_hex_end true s i h = ap all_hex (drop_of_length-le s h)
 all_hex_end false s i h = refl
 
 -- characters told apart by their ranges
-pub digit_is : (x : ℕ) → 48 ≤ x → x ≤ 57 → true ≡ is_hex x
-unfolding is_hex
-digit_is x h k = grind (arith, nat_tests)
-
-pub letter_is : (x : ℕ) → 65 ≤ x → x ≤ 70 → true ≡ is_hex x
-unfolding is_hex
-letter_is x h k = grind (arith, nat_tests)
-
-pub below_not : (x : ℕ) → x < 48 → false ≡ is_hex x
-unfolding is_hex
-below_not x h = grind (arith, nat_tests)
-
-pub between_not : (x : ℕ) → 57 < x → x < 65 → false ≡ is_hex x
-unfolding is_hex
-between_not x h k = grind (arith, nat_tests)
-
-pub above_not : (x : ℕ) → 70 < x → false ≡ is_hex x
-unfolding is_hex
-above_not x h = grind (arith, nat_tests)
-
-pub ruleset hex_tests = (digit_is, letter_is, below_not, between_not, above_not)
-
 pub digit_value : (x : ℕ) → 48 ≤ x → x ≤ 57 → x - 48 ≡ hex_value x
 unfolding hex_value pick
 digit_value x h k = rw (le-leb 48 x h, le-leb x 57 k)

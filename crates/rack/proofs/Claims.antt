@@ -16,6 +16,7 @@ use Rattle.parts.proofs.Bools.{and_left, or_second}
 use Rattle.rule_list.specs.RuleList.{any_holds, first_says}
 use Rattle.rule_list.proofs.Laws.{says_passes}
 use Rattle.std.specs.Prelude.{Option, Some, None}
+use Rattle.signal_table.specs.declared.Signal.{Signal}
 use Rattle.signal_table.specs.Table.{SignalRow, signal_table, signal_found, is_found, signal_in_range, signal_in, signal_by}
 use Rattle.tag.specs.declared.Tag.{Tag}
 use Rattle.calls.specs.Passed.{Refusal, NoSuchTag, Judgement, number, judgement, unless_refused}

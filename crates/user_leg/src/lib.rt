@@ -20,25 +20,30 @@ fn page_byte(m: &[u8], k: u16, i: u16) -> u8
 }
 
 // A leg in user space written: the page's k bytes from the first address on.
+#[tactic(auto, using(parts::proofs::Picks::picks, parts::proofs::Lists::copied_down, parts::proofs::Lists::length_bytes_at), unfolding(crate::specs::UserLeg::user_written))]
 pub fn user_written(w: WireSide, m: &mut [u8], first: u16, k: u16) -> WireSide
     ensures { leg_result result m.new ≡ user_written w m.old first (page k m.old) }
 {
     let c = w.core;
-    if first < 512 {
-        parts::copy_bytes(m, first as usize, tag::PAGE_AT, k as usize);
-        return effect::start_programming(w);
+    match first {
+        0..=511 => {
+            parts::copy_bytes(m, first as usize, tag::PAGE_AT, k as usize);
+            effect::start_programming(w)
+        }
+        dynamic::RF_MNGT_DYN => {
+            let registers = c.registers.with_dynamic(page_byte(m, k, 0));
+            effect::with_core(w, Core { registers, ..c })
+        }
+        dynamic::MB_CTRL_DYN => {
+            let mailbox = c
+                .mailbox
+                .control(page_byte(m, k, 0), c.registers.mode, w.host.vcc);
+            effect::with_core(w, Core { mailbox, ..c })
+        }
+        _ => {
+            parts::copy_bytes(m, tag::MAILBOX_AT, tag::PAGE_AT, k as usize);
+            let mailbox = c.mailbox.host_put(k);
+            effect::with_core(w, Core { mailbox, ..c })
+        }
     }
-    if first == dynamic::RF_MNGT_DYN {
-        let registers = c.registers.with_dynamic(page_byte(m, k, 0));
-        return effect::with_core(w, Core { registers, ..c });
-    }
-    if first == dynamic::MB_CTRL_DYN {
-        let mailbox = c
-            .mailbox
-            .control(page_byte(m, k, 0), c.registers.mode, w.host.vcc);
-        return effect::with_core(w, Core { mailbox, ..c });
-    }
-    parts::copy_bytes(m, tag::MAILBOX_AT, tag::PAGE_AT, k as usize);
-    let mailbox = c.mailbox.host_put(k);
-    effect::with_core(w, Core { mailbox, ..c })
 }

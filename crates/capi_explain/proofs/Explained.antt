@@ -41,7 +41,7 @@ alike : (j k : Judgement) (x y n : ℕ) → 0x100 ≤ x → 0x100 ≤ y → n �
 unfolding unless_refused
 alike (Err r) k x y n h g e = (λ _. sym e, λ l. subst (λ (z : ℕ). 0x100 ≤ z) e l)
 alike (Ok tt) (Err r) x y n h g e = (λ _. sym e, λ l. subst (λ (z : ℕ). 0x100 ≤ z) e l)
-alike (Ok tt) (Ok tt) x y n h g e = (λ l. absurd (omega arith), λ _. g)
+alike (Ok tt) (Ok _) x y n h g e = (λ l. absurd (omega arith), λ _. g)
 
 pub explain_refuses_alike : ExplainRefusesAlike
 unfolding step_call step_of explain_call explain_of answer_number

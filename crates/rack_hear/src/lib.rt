@@ -86,7 +86,13 @@ fn hear_refused(why: Refusal, code: u32, value: u32, to: usize) -> Heard
 }
 
 // What the tags of a rack hear of a call that was judged.
-pub fn hearing(judged: Result<(), Refusal>, number: usize, code: u32, value: u32, to: usize) -> Heard
+pub fn hearing(
+    judged: Result<(), Refusal>,
+    number: usize,
+    code: u32,
+    value: u32,
+    to: usize,
+) -> Heard
     ensures { result ≡ hearing_of judged number code value to }
 {
     match judged {

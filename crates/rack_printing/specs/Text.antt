@@ -1,5 +1,5 @@
 -- What `rack_bench` prints for an answer: a line is number, tab, answer, line feed, as in `bench` (`line_text`), and `?` for a bad one (`bad_text`).
-use Rattle.std.specs.Prelude.{List, [], ◌∷◌, ◌++◌, ℕ, Ok, Err, Some, None}
+use Rattle.std.specs.Prelude.{Some, None, Ok, Err, List, [], ◌∷◌, ◌++◌, ℕ}
 use Rattle.text.specs.Decimal.{decimal}
 use Rattle.refusals.specs.declared.Refusal.{Refusal}
 use Rattle.refusals.specs.Refusals.{number}

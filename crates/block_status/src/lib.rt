@@ -21,7 +21,7 @@ pub fn status_of(c: Core, m: &[u8], session: u8, block: u16) -> u8
         block: block,
     };
     let verdict = write_verdict::verdict(c, m, asked);
-    if verdict.is_allowed() {
+    if verdict.is_ok() {
         return 0;
     }
     1

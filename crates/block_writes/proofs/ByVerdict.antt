@@ -1,4 +1,5 @@
 -- The codes of 21 and 24 are the verdict's. Assumes nothing.
+use Prim.{tt}
 use mathlib.Core.Path.{◌≡◌, refl, sym, ap₂, ◌∙◌}
 use mathlib.Core.Bool.{Bool, true, false, not, ◌&&◌}
 use mathlib.Core.List.{List, []}
@@ -7,6 +8,7 @@ use native.Mathlib.Omega.{arith}
 use lib.Dec.{leb}
 use lib.Seq.{sets}
 use borrow.Author.Tests.{leb-false, lt-leb}
+use Rattle.std.specs.Prelude.{Option, Ok, Err, is_ok}
 use Rattle.parts.specs.Pick.{pick}
 use Rattle.parts.specs.Bytes.{bytes_at}
 use Rattle.errors.specs.declared.RadioError.TheVariants.{NoSuchBlock, WriteForbidden}
@@ -14,10 +16,7 @@ use Rattle.reply.specs.declared.RadioSide.{RadioSide}
 use Rattle.reply.specs.Reply.{good}
 use Rattle.reply.specs.Outcome.{CommandResult, command_result, fails}
 use Rattle.write_reasons.specs.declared.WritePlace.TheVariants.{UserMemory}
-use Rattle.write_reasons.specs.declared.SessionKey.{SessionKey}
 use Rattle.write_reasons.specs.declared.WriteReason.TheVariants.{LockedBlock, AreaNeverWritable, SessionNeeded}
-use Rattle.write_reasons.specs.declared.WriteVerdict.TheVariants.{Allowed, Forbidden}
-use Rattle.write_reasons.specs.Reasons.{is_allowed}
 use Rattle.write_verdict.specs.Passed.{block_place, block_situation, write_verdict}
 use Rattle.write_verdict.proofs.Passed.{radio_unmapped, block_chain}
 use Rattle.block_writes.specs.Writes.{may_write_all, write_of}
@@ -36,10 +35,10 @@ module _ (v : RadioSide) (m : List ℕ) (block : ℕ) (frame : List ℕ) (at : �
   forbidden = fails WriteForbidden v m
 
   -- each reason that a block of the memory can be given has the same code
-  chain : (a b c : Bool) (key : SessionKey)
-      → pick (is_allowed (pick a (Forbidden LockedBlock) (pick b (Forbidden AreaNeverWritable) (pick c (Forbidden (SessionNeeded key)) Allowed)))) done forbidden
-      ≡ block_by (pick a (Forbidden LockedBlock) (pick b (Forbidden AreaNeverWritable) (pick c (Forbidden (SessionNeeded key)) Allowed))) v m block frame at
-  unfolding done forbidden block_by block_error is_allowed pick
+  chain : (a b c : Bool) (key : Option ℕ)
+      → pick (is_ok (pick a (Err LockedBlock) (pick b (Err AreaNeverWritable) (pick c (Err (SessionNeeded key)) (Ok (tt {0})))))) done forbidden
+      ≡ block_by (pick a (Err LockedBlock) (pick b (Err AreaNeverWritable) (pick c (Err (SessionNeeded key)) (Ok (tt {0}))))) v m block frame at
+  unfolding done forbidden block_by block_error pick
   chain true b c key = refl
   chain false true c key = refl
   chain false false true key = refl
@@ -50,7 +49,7 @@ module _ (v : RadioSide) (m : List ℕ) (block : ℕ) (frame : List ℕ) (at : �
   turned true x y = refl
   turned false x y = refl
 
-  inner : block < 128 → pick (is_allowed (write_verdict (block_situation v.core v.air.session block))) done forbidden
+  inner : block < 128 → pick (is_ok (write_verdict (block_situation v.core v.air.session block))) done forbidden
       ≡ block_by (write_verdict (block_situation v.core v.air.session block)) v m block frame at
   inner l = rw (in_memory block l, block_chain v.core v.air.session (4 * block) block 0 _ refl) (chain _ _ _ _)
 
@@ -58,8 +57,8 @@ module _ (v : RadioSide) (m : List ℕ) (block : ℕ) (frame : List ℕ) (at : �
   unfolding block_place block_by block_error pick
   past h = rw (h, radio_unmapped)
 
-  opened : pick (is_allowed (write_verdict (block_situation v.core v.air.session block))) (command_result (good []) v (sets m (4 * block) (bytes_at frame at (4 * (0 + 1))))) (fails WriteForbidden v m)
-      ≡ pick (is_allowed (write_verdict (block_situation v.core v.air.session block))) done forbidden
+  opened : pick (is_ok (write_verdict (block_situation v.core v.air.session block))) (command_result (good []) v (sets m (4 * block) (bytes_at frame at (4 * (0 + 1))))) (fails WriteForbidden v m)
+      ≡ pick (is_ok (write_verdict (block_situation v.core v.air.session block))) done forbidden
   unfolding done forbidden
   opened = refl
 
@@ -69,7 +68,7 @@ module _ (v : RadioSide) (m : List ℕ) (block : ℕ) (frame : List ℕ) (at : �
   row false h =
       let l = leb-false 128 block h in
       rw (h, stays v.core.registers.ends block (block + 0) (omega arith) (omega arith), write_right_lem v.core.registers v.air.session block, ← one_block v.core v.air.session block l)
-      (turned (is_allowed (write_verdict (block_situation v.core v.air.session block))) (fails WriteForbidden v m) (command_result (good []) v (sets m (4 * block) (bytes_at frame at (4 * (0 + 1)))))
+      (turned (is_ok (write_verdict (block_situation v.core v.air.session block))) (fails WriteForbidden v m) (command_result (good []) v (sets m (4 * block) (bytes_at frame at (4 * (0 + 1)))))
       ∙ opened ∙ inner l)
 
 pub write_by_verdict : WriteByVerdict

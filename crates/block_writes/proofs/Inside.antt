@@ -5,13 +5,13 @@ use Prim.Native.Nat.{ℕ, ◌+◌, ◌<◌}
 use native.Mathlib.Omega.{arith}
 use lib.Dec.{leb, eqb}
 use borrow.Author.Tests.{leb-false, lt-leb, lt-ltb, eq-eqb}
+use Rattle.std.specs.Prelude.{is_ok}
 use Rattle.registers.specs.declared.Ends.{Ends}
 use Rattle.registers.specs.declared.Registers.{Registers}
 use Rattle.areas.specs.Ends.{area_of_block}
 use Rattle.rights.specs.declared.Side.TheVariants.{Radio}
 use Rattle.rights.specs.Rights.{may_write}
 use Rattle.tag.specs.declared.Core.{Core}
-use Rattle.write_reasons.specs.Reasons.{is_allowed}
 use Rattle.write_verdict.specs.Passed.{block_situation, write_verdict}
 use Rattle.write_verdict.proofs.Passed.{block_allowed}
 use Rattle.blocks.specs.Blocks.{leaves_area}
@@ -26,7 +26,7 @@ unfolding leaves_area
 inside e first last h = leb-false 128 last (neither (leb 128 last) (not (eqb (area_of_block e first) (area_of_block e last))) h)
 
 -- the verdict on a block of the memory
-pub one_block : (c : Core) (session block : ℕ) → block < 128 → is_allowed (write_verdict (block_situation c session block)) ≡ may_write c.registers (Radio session) block
+pub one_block : (c : Core) (session block : ℕ) → block < 128 → is_ok (write_verdict (block_situation c session block)) ≡ may_write c.registers (Radio session) block
 one_block c session block l = block_allowed c session block ∙ ap (λ (b : Bool). b && may_write c.registers (Radio session) block) (lt-ltb block 128 l)
 
 -- one block stays in its area

@@ -26,7 +26,7 @@ pub fn all_allowed(c: Core, m: &[u8], session: u8, first: u8, more: u8) -> bool
             block: block,
         };
         let verdict = write_verdict::verdict(c, m, asked);
-        let one = verdict.is_allowed();
+        let one = verdict.is_ok();
         all = all & one;
         k += 1;
     }

@@ -11,7 +11,7 @@ use mailbox::Mailbox;
 use register_table::WriteRule;
 use reply::{RadioOutcome, RadioSide};
 use tag::Core;
-use write_reasons::{WriteAsked, WriteReason, WriteVerdict};
+use write_reasons::{WriteAsked, WriteReason};
 
 // A0.
 pub fn read(v: RadioSide, m: &[u8], out: &mut [u8], pointer: u8) -> RadioOutcome
@@ -81,7 +81,7 @@ pub fn write(v: RadioSide, m: &[u8], out: &mut [u8], pointer: u8, x: u8) -> Radi
     };
     let verdict = write_verdict::verdict(v.core, m, asked);
     match verdict {
-        WriteVerdict::Allowed => {
+        Ok(()) => {
             let core = written_core(v.core, pointer, x);
             let mut next = v;
             next.core = core;
@@ -90,7 +90,7 @@ pub fn write(v: RadioSide, m: &[u8], out: &mut [u8], pointer: u8, x: u8) -> Radi
                 side: next,
             }
         }
-        WriteVerdict::Forbidden(reason) => RadioOutcome {
+        Err(reason) => RadioOutcome {
             answer: reply::error(out, config_error(reason)),
             side: v,
         },

@@ -5,6 +5,7 @@ use mathlib.Core.List.{List}
 use Prim.Native.Nat.{ℕ, suc, ◌+◌, ◌<◌}
 use lib.ListN.{set}
 use borrow.Author.Tests.{not-true}
+use Rattle.std.specs.Prelude.{⊤, Result, is_ok}
 use Rattle.parts.specs.Pick.{pick}
 use Rattle.parts.proofs.Bools.{and_left, and_right}
 use Rattle.bus.specs.declared.Space.{Space}
@@ -15,9 +16,8 @@ use Rattle.tag.specs.declared.WireSide.{WireSide}
 use Rattle.tag.specs.Layout.{page_place, page}
 use Rattle.select.specs.Select.{first_of}
 use Rattle.write_reasons.specs.declared.WriteAsked.{WriteAsked}
-use Rattle.write_reasons.specs.declared.WriteAsked.TheVariants.{DataByte}
-use Rattle.write_reasons.specs.declared.WriteVerdict.{WriteVerdict}
-use Rattle.write_reasons.specs.Reasons.{is_allowed}
+use Rattle.write_reasons.specs.Asked.{asked_byte}
+use Rattle.write_reasons.specs.declared.WriteReason.{WriteReason}
 use Rattle.write_verdict.specs.Passed.{situation_of, write_verdict}
 use Rattle.rule.specs.Rule.{acked}
 use Rattle.rule.proofs.AckedByte.{acked_room}
@@ -49,8 +49,8 @@ module _ (kept : OpenTransfer) (space : Space) (k : ℕ) (spoiled : Bool) (w : W
   unfolding data_of pick
   spoils h g = rw (g, rw g at h)
 
-  pub judged : (asked : WriteAsked) (v : WriteVerdict) (b : Bool) → asked ≡ DataByte w.host.session spoiled space (first_of w.host.counter k) k x
-      → v ≡ write_verdict (situation_of w.core m asked) → b ≡ is_allowed v → Judged b
+  pub judged : (asked : WriteAsked) (v : Result ⊤ WriteReason) (b : Bool) → asked ≡ asked_byte w.host.session spoiled space (first_of w.host.counter k) k x
+      → v ≡ write_verdict (situation_of w.core m asked) → b ≡ is_ok v → Judged b
   judged asked v b e f g =
-      sym (g ∙ ap is_allowed f ∙ ap (λ (a : WriteAsked). is_allowed (write_verdict (situation_of w.core m a))) e
+      sym (g ∙ ap is_ok f ∙ ap (λ (a : WriteAsked). is_ok (write_verdict (situation_of w.core m a))) e
       ∙ byte_agrees space w.core w.host.session spoiled (first_of w.host.counter k) k (page k m) x)

@@ -3,7 +3,7 @@
 
 ghost use Rattle.std.specs.Prelude.{◌≡◌};
 ghost use Rattle.select.specs.Select.{first_of};
-ghost use Rattle.write_reasons.specs.declared.WriteAsked.TheVariants.{DataByte};
+ghost use Rattle.write_reasons.specs.Asked.{asked_byte};
 ghost use Rattle.signal.specs.declared.WireAnswer.TheVariants.{NoAck};
 ghost use Rattle.signal.specs.Signal.{wire_result};
 ghost use Rattle.data_byte.specs.DataByte.{data_byte};
@@ -11,20 +11,20 @@ ghost use Rattle.data_byte.specs.DataByte.{data_byte};
 use bus::{Bus, OpenTransfer, Space};
 use signal::{WireAnswer, WireOutcome};
 use tag::WireSide;
-use write_reasons::WriteAsked;
+use write_reasons::{DataByteAsked, WriteAsked};
 
 // What is asked about a data byte.
 pub fn asked_of(w: WireSide, space: Space, k: u16, spoiled: bool, x: u8) -> WriteAsked
-    ensures { result ≡ DataByte w.host.session spoiled space (first_of w.host.counter k) k x }
+    ensures { result ≡ asked_byte w.host.session spoiled space (first_of w.host.counter k) k x }
 {
-    WriteAsked::DataByte {
+    WriteAsked::DataByte(DataByteAsked {
         session: w.host.session,
-        spoiled: spoiled,
-        space: space,
+        spoiled,
+        space,
         first: select::first_of(w.host.counter, k),
-        k: k,
-        x: x,
-    }
+        k,
+        x,
+    })
 }
 
 // A data byte: where the verdict allows it, it is Acked and taken into the page. A NoAck spoils the leg.
@@ -40,7 +40,7 @@ pub fn send_data(
     ensures { wire_result result.answer result.side m.new ≡ data_byte kept space k spoiled w m.old x }
 {
     let verdict = write_verdict::verdict(w.core, m, asked_of(w, space, k, spoiled, x));
-    if verdict.is_allowed() {
+    if verdict.is_ok() {
         parts::put_in(m, tag::PAGE_AT, k as usize, x);
         let next = bus::next_address(w.host.counter);
         let count = k + 1;

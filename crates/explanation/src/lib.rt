@@ -17,15 +17,15 @@ use register_types::RfMngt;
 use reply::RadioSide;
 use signal_table::{Signal, WireSignal};
 use tag::{Tag, WireSide};
-use write_reasons::WriteVerdict;
+use write_reasons::WriteReason;
 
 // ---- a byte sent
-fn write_number(verdict: WriteVerdict) -> u8
+fn write_number(verdict: Result<(), WriteReason>) -> u8
     ensures { result ≡ write_number verdict }
 {
     match verdict {
-        WriteVerdict::Allowed => 0,
-        WriteVerdict::Forbidden(reason) => reason.number(),
+        Ok(()) => 0,
+        Err(reason) => reason.number(),
     }
 }
 

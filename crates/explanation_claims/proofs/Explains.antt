@@ -7,6 +7,7 @@ use native.Mathlib.Omega.{arith}
 use lib.Dec.{eqb}
 use lib.ListN.{length, take, get_or, set}
 use lib.Seq.{get_or-set_same, length-sets}
+use Rattle.std.specs.Prelude.{None}
 use Rattle.parts.specs.Pick.{pick}
 use Rattle.parts.proofs.Picks.{pick_case, pick_same}
 use Rattle.parts.proofs.Lists.{get_d_sets_before}
@@ -43,7 +44,6 @@ use Rattle.radio_claims.proofs.Entry.{first_byte}
 use Rattle.radio_claims.proofs.Errors.{frame_leaves}
 use Rattle.model.specs.Step.{StepResult, from_wire, from_radio, act_of}
 use Rattle.model.proofs.Acts.{room_of, range_of, acts}
-use Rattle.write_reasons.specs.declared.SessionKey.TheVariants.{Unnumbered}
 use Rattle.write_rules.specs.Verdict.{write_reasons}
 use Rattle.rule_names.specs.Rules.{Rule, byte_forbidden, noVcc, noStart, inReadLeg, otherSelectByte, programmingNow, silent, inventory_silence, own_silence, failed}
 use Rattle.explanation_rules.specs.Conditions.{rule_holds}
@@ -219,9 +219,9 @@ module _ (holds : Rule → Bool) where
   data_code : first_says holds rule_code 0 data_byte_rules ≡ 0
   unfolding data_byte_rules rule_code
   data_code =
-      says_map byte_forbidden holds rule_code 0 (write_reasons Unnumbered)
-      ∙ same_says (λ reason. holds (byte_forbidden reason)) 0 0 (write_reasons Unnumbered)
-      ∙ pick_same (any_holds (λ reason. holds (byte_forbidden reason)) (write_reasons Unnumbered)) 0
+      says_map byte_forbidden holds rule_code 0 (write_reasons None)
+      ∙ same_says (λ reason. holds (byte_forbidden reason)) 0 0 (write_reasons None)
+      ∙ pick_same (any_holds (λ reason. holds (byte_forbidden reason)) (write_reasons None)) 0
 
   byte_code : (b : Bus) → first_says holds rule_code 0 (byte_rules b) ≡ 0
   unfolding byte_rules

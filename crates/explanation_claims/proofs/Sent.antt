@@ -1,9 +1,11 @@
 -- A byte sent is NoAcked exactly where a rule of its list holds. Assumes nothing.
+use Prim.{tt}
 use mathlib.Core.Path.{◌≡◌, refl, sym, ap, ◌∙◌}
 use mathlib.Core.Bool.{Bool, true, false, not, ◌&&◌, ◌||◌}
 use mathlib.Core.List.{List}
 use Prim.Native.Nat.{ℕ}
 use lib.Dec.{leb, eqb}
+use Rattle.std.specs.Prelude.{⊤, None, Result, Ok, Err, is_ok}
 use Rattle.parts.specs.Pick.{pick}
 use Rattle.parts.proofs.Bools.{and_left, and_right}
 use Rattle.rule_list.specs.RuleList.{any_holds, first_says}
@@ -31,10 +33,7 @@ use Rattle.signal_table.specs.declared.Signal.TheVariants.{Wire}
 use Rattle.signal_table.specs.Table.{sent_byte}
 use Rattle.data_byte.specs.DataByte.{data_of}
 use Rattle.send.specs.Send.{select_by, send_at}
-use Rattle.write_reasons.specs.declared.SessionKey.TheVariants.{Unnumbered}
-use Rattle.write_reasons.specs.declared.WriteVerdict.{WriteVerdict}
-use Rattle.write_reasons.specs.declared.WriteVerdict.TheVariants.{Allowed, Forbidden}
-use Rattle.write_reasons.specs.Reasons.{is_allowed}
+use Rattle.write_reasons.specs.declared.WriteReason.{WriteReason}
 use Rattle.write_rules.specs.Situation.{Situation, situation_of}
 use Rattle.write_rules.specs.Verdict.{forbids, write_reasons, session_key, write_verdict}
 use Rattle.rule_names.specs.Rules.{Rule, byte_forbidden}
@@ -82,10 +81,9 @@ choose_any false true c s h = refl
 choose_any false false c s h = refl
 
 -- ---- a data byte
-forbidden_any : (z : Situation) → any_holds (forbids z) (write_reasons Unnumbered) ≡ not (is_allowed (first_says (forbids z) Forbidden Allowed (write_reasons Unnumbered)))
-unfolding is_allowed
+forbidden_any : (z : Situation) → any_holds (forbids z) (write_reasons None) ≡ not (is_ok (first_says (forbids z) Err (Ok tt) (write_reasons None)))
 forbidden_any z =
-    any_says (forbids z) (write_reasons Unnumbered) ∙ sym (says_through (λ (verdict : WriteVerdict). not (is_allowed verdict)) (forbids z) Forbidden Allowed (write_reasons Unnumbered))
+    any_says (forbids z) (write_reasons None) ∙ sym (says_through (λ (verdict : Result ⊤ WriteReason). not (is_ok verdict)) (forbids z) Err (Ok tt) (write_reasons None))
 
 taken : (spoiled ack : Bool) (x y z : WireResult) → is_no_ack x.answer ≡ true → is_no_ack y.answer ≡ false → is_no_ack z.answer ≡ true
     → is_no_ack (pick spoiled x (pick ack y z)).answer ≡ not (not spoiled && ack)
@@ -123,13 +121,13 @@ module _ (t : Tag) (m : List ℕ) (x : ℕ) (f : List ℕ) where
       let c = t.core in
       let first = first_of t.host.counter count in
       let at : Bus → Situation = λ b. situation_of c m (data_byte_in b t.host x) in
-      let own : (b : Bus) → Bool = λ b. any_holds (forbids (at b)) (write_reasons Unnumbered) in
+      let own : (b : Bus) → Bool = λ b. any_holds (forbids (at b)) (write_reasons None) in
       taken spoiled (acked space c t.host.session first count _ x) _ _ _ refl refl refl
       ∙ ap not (sym (byte_agrees space c t.host.session spoiled first count _ x))
       ∙ sym (forbidden_any (at (DataLeg kept space count spoiled)))
       ∙ ap own (sym e)
-      ∙ any_says (forbids (at t.host.bus)) (write_reasons Unnumbered)
-      ∙ sym (says_map byte_forbidden holds (λ rule. true) false (write_reasons Unnumbered))
+      ∙ any_says (forbids (at t.host.bus)) (write_reasons None)
+      ∙ sym (says_map byte_forbidden holds (λ rule. true) false (write_reasons None))
       ∙ sym (any_says holds data_byte_rules)
 
   pub byte_says : (b : Bus) → t.host.bus ≡ b → (is_active b ≡ true → t.host.vcc ≡ true) → (is_open b ≡ true → t.host.programming ≡ false) → Says b

@@ -12,7 +12,7 @@ use Rattle.signal_table.specs.declared.Signal.{Signal}
 use Rattle.signal_table.specs.declared.Signal.TheVariants.{Wire, Field, Frame, EndOfFrame}
 use Rattle.signal_table.specs.Table.{sent_byte}
 use Rattle.write_reasons.specs.declared.WriteAsked.{WriteAsked}
-use Rattle.write_reasons.specs.declared.WriteAsked.TheVariants.{DataByte}
+use Rattle.write_reasons.specs.Asked.{asked_byte}
 use Rattle.write_rules.specs.Situation.{Situation, situation_of}
 use Rattle.write_rules.specs.Verdict.{forbids}
 use Rattle.frame.specs.Fields.{inventory_flag}
@@ -64,12 +64,12 @@ signal_byte EndOfFrame = 0
 
 -- the byte as data byte of the leg under way; where that takes none, no rule on data bytes is asked
 unfoldable pub data_byte_in : Bus → Host → ℕ → WriteAsked
-data_byte_in Idle h x = DataByte h.session false User h.counter 0 x
-data_byte_in (Started transfer) h x = DataByte h.session false User h.counter 0 x
-data_byte_in (ReadLeg kept space over last) h x = DataByte h.session false space h.counter 0 x
-data_byte_in (WriteLeg kept space) h x = DataByte h.session false space h.counter 0 x
-data_byte_in (LowAddress kept space high) h x = DataByte h.session false space h.counter 0 x
-data_byte_in (DataLeg kept space count spoiled) h x = DataByte h.session spoiled space (first_of h.counter count) count x
+data_byte_in Idle h x = asked_byte h.session false User h.counter 0 x
+data_byte_in (Started transfer) h x = asked_byte h.session false User h.counter 0 x
+data_byte_in (ReadLeg kept space over last) h x = asked_byte h.session false space h.counter 0 x
+data_byte_in (WriteLeg kept space) h x = asked_byte h.session false space h.counter 0 x
+data_byte_in (LowAddress kept space high) h x = asked_byte h.session false space h.counter 0 x
+data_byte_in (DataLeg kept space count spoiled) h x = asked_byte h.session spoiled space (first_of h.counter count) count x
 
 abbrev pub sent_situation : Tag → List ℕ → ℕ → Situation
 sent_situation t m x = situation_of t.core m (data_byte_in t.host.bus t.host x)

@@ -1,5 +1,5 @@
 -- The rule that explains a signal's answer: the first of its list whose condition holds (02, Ask 3).
-use Rattle.std.specs.Prelude.{List, [], ◌∷◌, ◌++◌, map, ℕ}
+use Rattle.std.specs.Prelude.{List, [], ◌∷◌, ◌++◌, map, ℕ, None}
 use Rattle.parts.specs.Pick.{pick}
 use Rattle.rule_list.specs.RuleList.{first_says}
 use Rattle.bus.specs.declared.Bus.{Bus}
@@ -10,7 +10,6 @@ use Rattle.signal_table.specs.declared.WireSignal.TheVariants.{Start, Send, Fetc
 use Rattle.signal_table.specs.declared.Signal.{Signal}
 use Rattle.signal_table.specs.declared.Signal.TheVariants.{Wire, Field, Frame, EndOfFrame}
 use Rattle.signal_table.specs.Table.{signal_by}
-use Rattle.write_reasons.specs.declared.SessionKey.TheVariants.{Unnumbered}
 use Rattle.write_rules.specs.Verdict.{write_reasons}
 use Rattle.errors.specs.declared.RadioError.{RadioError}
 use Rattle.commands.specs.Table.{command_of}
@@ -24,7 +23,7 @@ use Rattle.explanation_rules.specs.Conditions.{rule_holds}
 -- ---- the order
 -- "Ask 2's for an N on a data byte"; the wire's session has no number
 unfoldable pub data_byte_rules : List Rule
-data_byte_rules = map byte_forbidden (write_reasons Unnumbered)
+data_byte_rules = map byte_forbidden (write_reasons None)
 
 -- "any other N takes the first of no VCC, no Start, read leg, other select byte, programming"
 unfoldable pub other_byte_rules : List Rule

@@ -10,22 +10,22 @@ ghost use Rattle.page.specs.PageRange.{page_acked, bus_in_range};
 
 use bus::{Bus, Space};
 use tag::Core;
-use write_reasons::WriteAsked;
+use write_reasons::{DataByteAsked, WriteAsked};
 
 // Whether byte k of a leg that is not spoiled would be Acked.
 fn allowed(c: Core, session: bool, m: &[u8], space: Space, first: u16, k: u16, x: u8) -> bool
     ensures { result ≡ acked space c session first k (page k m.now) x }
 {
-    let asked = WriteAsked::DataByte {
-        session: session,
+    let asked = WriteAsked::DataByte(DataByteAsked {
+        session,
         spoiled: false,
-        space: space,
-        first: first,
-        k: k,
-        x: x,
-    };
+        space,
+        first,
+        k,
+        x,
+    });
     let verdict = write_verdict::verdict(c, m, asked);
-    verdict.is_allowed()
+    verdict.is_ok()
 }
 
 // How many places decide for a page of user space: the last alone where none of its blocks can be locked, since the bytes

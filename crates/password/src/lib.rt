@@ -9,7 +9,7 @@ ghost use Rattle.password.specs.Claims.{password_error};
 use errors::RadioError;
 use keys::Password;
 use reply::{RadioOutcome, RadioSide};
-use write_reasons::{WriteAsked, WriteReason, WriteVerdict};
+use write_reasons::{WriteAsked, WriteReason};
 
 // Radio passwords are 0 to 3.
 const LAST: u8 = 3;
@@ -66,8 +66,8 @@ pub fn write(v: RadioSide, m: &[u8], out: &mut [u8], n: u8, frame: &[u8], at: us
     };
     let verdict = write_verdict::verdict(v.core, m, asked);
     match verdict {
-        WriteVerdict::Allowed => {}
-        WriteVerdict::Forbidden(reason) => {
+        Ok(()) => {}
+        Err(reason) => {
             return RadioOutcome {
                 answer: reply::error(out, password_error(reason)),
                 side: v,

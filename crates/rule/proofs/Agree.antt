@@ -6,6 +6,7 @@ use Prim.Native.Nat.{ℕ, ◌+◌, ◌/◌, ◌≤◌, ◌<◌}
 use native.Mathlib.Omega.{arith}
 use lib.Dec.{leb, ltb, eqb}
 use borrow.Author.Tests.{lt-ltb, lt-leb, le-leb, ltb-true, ltb-false, leb-true, eqb-true, eqb-false, ne_eqb}
+use Rattle.std.specs.Prelude.{is_ok}
 use Rattle.parts.specs.Pick.{pick}
 use Rattle.parts.proofs.Bools.{and_left, and_both}
 use Rattle.parts.proofs.Picks.{pick_same}
@@ -15,8 +16,7 @@ use Rattle.bus.specs.declared.Space.{Space}
 use Rattle.bus.specs.declared.Space.TheVariants.{User, System}
 use Rattle.write_reasons.specs.declared.WritePlace.{WritePlace}
 use Rattle.write_reasons.specs.declared.WritePlace.TheVariants.{Unmapped, UserMemory, DynamicByte, MailboxByte, SystemRegister, PasswordByte}
-use Rattle.write_reasons.specs.Reasons.{is_allowed}
-use Rattle.write_reasons.proofs.Laws.{allowed_pick, allowed}
+use Rattle.write_reasons.proofs.Laws.{allowed_pick}
 use Rattle.write_rules.specs.Situation.{is_dynamic, is_system, user_place, system_place, byte_place, byte_at, byte_situation}
 use Rattle.write_rules.specs.Verdict.{write_verdict}
 use Rattle.write_rules.proofs.Rows.{unmapped_writable}
@@ -95,15 +95,15 @@ unfolding pick
 both_ways true = refl
 both_ways false = refl
 
-ruleset bools = (allowed_pick, allowed, not_and_not, not_and, not_or, not-not, and-true, and_assoc)
+ruleset bools = (allowed_pick, not_and_not, not_and, not_or, not-not, and-true, and_assoc)
 
 module _ (c : Core) (session : Bool) (first k : ℕ) (earlier : List ℕ) (x : ℕ) where
   yes : WritePlace → Bool
-  yes place = is_allowed (write_verdict (byte_at place c session false first k earlier x))
+  yes place = is_ok (write_verdict (byte_at place c session false first k earlier x))
 
   -- ---- place by place
   unmapped_yes : yes Unmapped ≡ false
-  unfolding yes is_allowed
+  unfolding yes
   unmapped_yes = rw unmapped_chain
 
   memory_yes : yes UserMemory ≡ (ltb k 256 && (not c.mailbox.enabled && eqb (area_of_byte c.registers.ends first) (area_of_byte c.registers.ends (first + k))
@@ -113,7 +113,7 @@ module _ (c : Core) (session : Bool) (first k : ℕ) (earlier : List ℕ) (x : �
 
   dynamic_yes : yes DynamicByte ≡ (host_writes (first + k) && not (leb 1 k))
   unfolding yes
-  dynamic_yes = rw (dynamic_chain, allowed_pick, allowed_pick, allowed, not-not, and-true)
+  dynamic_yes = rw (dynamic_chain, allowed_pick, allowed_pick, not-not, and-true)
 
   mailbox_yes : yes MailboxByte ≡ (ltb k 256 && mailbox_acked c.mailbox first)
   unfolding yes mailbox_acked
@@ -222,7 +222,7 @@ module _ (c : Core) (session : Bool) (first k : ℕ) (earlier : List ℕ) (x : �
       both (eqb first 0x0900) PasswordByte _ _ _ (λ h. password_more (eqb k 8) (eqb x 0x07) (eqb x 0x09) refl refl refl)
       (λ g. both (is_system (first + k)) SystemRegister Unmapped _ _ (λ h. register_yes) no_register ∙ ap (λ (b : Bool). ltb k 256 && b) (pick_same (is_system (first + k)) _))
 
-  agree : (space : Space) → is_allowed (write_verdict (byte_situation space c session false first k earlier x)) ≡ acked space c session first k earlier x
+  agree : (space : Space) → is_ok (write_verdict (byte_situation space c session false first k earlier x)) ≡ acked space c session first k earlier x
   unfolding yes byte_place acked space_acked
   agree User = user (ltb (first + k) 512) (ltb first 512) refl refl
   agree System = system
@@ -235,7 +235,6 @@ spoiled_never space c session first k earlier x = spoiled_chain c session first 
 
 -- both at once
 pub byte_agrees : (space : Space) (c : Core) (session spoiled : Bool) (first k : ℕ) (earlier : List ℕ) (x : ℕ)
-    → is_allowed (write_verdict (byte_situation space c session spoiled first k earlier x)) ≡ (not spoiled && acked space c session first k earlier x)
-unfolding is_allowed
-byte_agrees space c session true first k earlier x = ap is_allowed (spoiled_never space c session first k earlier x)
+    → is_ok (write_verdict (byte_situation space c session spoiled first k earlier x)) ≡ (not spoiled && acked space c session first k earlier x)
+byte_agrees space c session true first k earlier x = ap is_ok (spoiled_never space c session first k earlier x)
 byte_agrees space c session false first k earlier x = agree c session first k earlier x space

@@ -1,9 +1,8 @@
 -- The names of rules by number, letter for letter.
-use Rattle.std.specs.Prelude.{List, [] as []ᴸ, ◌∷◌ as ◌∷ᴸ◌, map, ℕ, get_or}
+use Rattle.std.specs.Prelude.{List, [] as []ᴸ, ◌∷◌ as ◌∷ᴸ◌, map, ℕ, get_or, None}
 use Prim.Native.Char.{code}
 use Prim.Native.String.{String, [], ◌∷◌}
 use Rattle.write_reasons.specs.declared.WriteReason.TheVariants.{LegSpoiled, OutsideMap, MailboxModeOn, ModeOff, MailboxBusy, MailboxLegNotFrom2008, AnotherArea, LockedBlock, AreaNeverWritable, ConfigurationLocked, SessionNeeded, RegisterReadOnly, PasswordCode, EndaRule, PageFull}
-use Rattle.write_reasons.specs.declared.SessionKey.TheVariants.{Unnumbered}
 use Rattle.errors.specs.declared.RadioError.TheVariants.{ShutOut, UnknownCommand, UnsupportedFlags, WrongLength, NoSuchBlock, ReadLeavesArea, ReadProtected, TooManyBlocks, WriteLeavesArea, WriteForbidden, NotLockable, AlreadyLocked, NoSuchRegister, ConfigurationClosed, EndRefused, NoSuchDynamicRegister, MailboxUnavailable, MailboxDisabled, PastMessage, NoSuchPassword, WrongPassword, PasswordSessionClosed}
 use Rattle.silence_rules.specs.Silence.{no_field, rfSleep, badSize, badCrc, bothFlags, otherMaker, otherUid, notSelected, neitherWhenQuiet, notAddressed}
 use Rattle.rule_names.specs.Rules.{Rule, byte_forbidden, noVcc, noStart, inReadLeg, otherSelectByte, programmingNow, silent, inventory_silence, own_silence, failed, rule_words}
@@ -26,7 +25,7 @@ all_rules =
     ∷ᴸ byte_forbidden LockedBlock
     ∷ᴸ byte_forbidden AreaNeverWritable
     ∷ᴸ byte_forbidden ConfigurationLocked
-    ∷ᴸ byte_forbidden (SessionNeeded Unnumbered)
+    ∷ᴸ byte_forbidden (SessionNeeded None)
     ∷ᴸ byte_forbidden RegisterReadOnly
     ∷ᴸ byte_forbidden PasswordCode
     ∷ᴸ byte_forbidden EndaRule

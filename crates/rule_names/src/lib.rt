@@ -8,15 +8,15 @@ ghost use Rattle.text.specs.Place.{stored, text_at};
 ghost use Rattle.rule_names.specs.Text.{key_text, reason_text, verdict_text};
 
 pub use names::put_name;
-use write_reasons::{SessionKey, WriteReason, WriteVerdict};
+use write_reasons::WriteReason;
 
 // Stores the number of the password whose session is needed, behind a space; a session without a number stores nothing.
-fn put_key(text: &mut [u8], at: usize, key: SessionKey) -> usize
+fn put_key(text: &mut [u8], at: usize, key: Option<u8>) -> usize
     ensures { stored result text.new ≡ text_at text.old at (key_text key) }
 {
     match key {
-        SessionKey::Unnumbered => at,
-        SessionKey::Numbered(n) => {
+        None => at,
+        Some(n) => {
             let number = text::put_mark(text, at, b' ');
             text::put_decimal(text, number, n as u64)
         }
@@ -35,11 +35,11 @@ fn put_reason(text: &mut [u8], at: usize, reason: WriteReason) -> usize
 }
 
 // Stores a verdict at a place.
-pub fn put_verdict(text: &mut [u8], at: usize, verdict: WriteVerdict) -> usize
+pub fn put_verdict(text: &mut [u8], at: usize, verdict: Result<(), WriteReason>) -> usize
     ensures { stored result text.new ≡ text_at text.old at (verdict_text verdict) }
 {
     match verdict {
-        WriteVerdict::Allowed => names::put_part(text, at, b"allowed", 0, 7),
-        WriteVerdict::Forbidden(reason) => put_reason(text, at, reason),
+        Ok(()) => names::put_part(text, at, b"allowed", 0, 7),
+        Err(reason) => put_reason(text, at, reason),
     }
 }

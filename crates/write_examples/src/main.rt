@@ -9,7 +9,7 @@
 use bus::Space;
 use std::io::{Read, Write};
 use tag::{Core, Tag};
-use write_reasons::{WriteAsked, WriteVerdict};
+use write_reasons::{DataByteAsked, WriteAsked, WriteReason};
 
 #[derive(Clone, Copy)]
 struct WriteRun {
@@ -29,7 +29,7 @@ enum WritePrint {
     Bad,
     Done,
     Remark,
-    Verdict(WriteVerdict),
+    Verdict(Result<(), WriteReason>),
 }
 
 // The write that a line asks about, if it asks about one.
@@ -83,14 +83,14 @@ fn data_byte(session: bool, bytes: &[u8]) -> LineAsked {
     if (bytes.len() != 7) | (1 < spoiled) | (1 < space) {
         return LineAsked::Nothing;
     }
-    LineAsked::Write(WriteAsked::DataByte {
+    LineAsked::Write(WriteAsked::DataByte(DataByteAsked {
         session,
         spoiled: spoiled == 1,
         space: space_of(space),
         first: example_states::word_at(bytes, 2),
         k: example_states::word_at(bytes, 4),
         x: parts::byte_at(bytes, 6),
-    })
+    }))
 }
 
 // By radio, with its session.

@@ -6,23 +6,18 @@ use Prim.Native.Nat.{ℕ, suc}
 use types.Run.{OneOf}
 use denote.Enum.Declared.{tag_of}
 use borrow.Author.Tests.{ne_eqb}
+use Rattle.std.specs.Prelude.{⊤, Result, Err, is_ok}
 use Rattle.bus.specs.Passed.{pick}
 use Rattle.write_reasons.specs.declared.WriteReason.{WriteReason}
 use Rattle.write_reasons.specs.declared.WriteReason.TheVariants.{LegSpoiled, OutsideMap, MailboxModeOn, ModeOff, MailboxBusy, MailboxLegNotFrom2008, AnotherArea, LockedBlock, AreaNeverWritable, ConfigurationLocked, SessionNeeded, RegisterReadOnly, PasswordCode, EndaRule, PageFull}
-use Rattle.write_reasons.specs.declared.WriteVerdict.{WriteVerdict}
-use Rattle.write_reasons.specs.declared.WriteVerdict.TheVariants.{Allowed, Forbidden}
-use Rattle.write_reasons.specs.Reasons.{reason_number, is_reason, is_allowed}
+use Rattle.write_reasons.specs.Reasons.{reason_number, is_reason}
 use Rattle.write_reasons.specs.contracts.WriteReason.{the_type}
 
 -- a choice that forbids is a test that must fail
-pub allowed_pick : (b : Bool) (reason : WriteReason) (v : WriteVerdict) → is_allowed (pick b (Forbidden reason) v) ≡ (not b && is_allowed v)
-unfolding pick is_allowed
+pub allowed_pick : (b : Bool) (reason : WriteReason) (v : Result ⊤ WriteReason) → is_ok (pick b (Err reason) v) ≡ (not b && is_ok v)
+unfolding pick
 allowed_pick true reason v = refl
 allowed_pick false reason v = refl
-
-pub allowed : is_allowed Allowed ≡ true
-unfolding is_allowed
-allowed = refl
 
 -- a reason's number is one more than that of its variant in the enum
 tagged : (reason : WriteReason) → reason_number reason ≡ suc (tag_of the_type reason)

@@ -1,10 +1,8 @@
 -- The reasons that forbid a write, with the words of 02, Ask 2.
-use Rattle.std.specs.Prelude.{Bool, true, false, ℕ, eqb}
+use Rattle.std.specs.Prelude.{Bool, ℕ, eqb}
 use Prim.Native.String.{String}
 use Rattle.write_reasons.specs.declared.WriteReason.{WriteReason}
 use Rattle.write_reasons.specs.declared.WriteReason.TheVariants.{LegSpoiled, OutsideMap, MailboxModeOn, ModeOff, MailboxBusy, MailboxLegNotFrom2008, AnotherArea, LockedBlock, AreaNeverWritable, ConfigurationLocked, SessionNeeded, RegisterReadOnly, PasswordCode, EndaRule, PageFull}
-use Rattle.write_reasons.specs.declared.WriteVerdict.{WriteVerdict}
-use Rattle.write_reasons.specs.declared.WriteVerdict.TheVariants.{Allowed, Forbidden}
 
 -- "the first, in this order, of: .."
 abbrev pub reason_words : WriteReason → String
@@ -46,7 +44,3 @@ reason_number PageFull = 15
 -- two reasons are the same, whatever session is needed
 abbrev pub is_reason : WriteReason → WriteReason → Bool
 is_reason reason other = eqb (reason_number reason) (reason_number other)
-
-unfoldable pub is_allowed : WriteVerdict → Bool
-is_allowed Allowed = true
-is_allowed (Forbidden reason) = false

@@ -1,37 +1,31 @@
-// What is asked about a write, and the answer: allowed, or the rule that forbids it.
+// What is asked about a write, and the rules that forbid one: a verdict is a `Result<(), WriteReason>`, whose error is the first of them.
 #![tactic(auto)]
 
 ghost use Rattle.std.specs.Prelude.{◌≡◌};
-ghost use Rattle.write_reasons.specs.Reasons.{reason_number, is_allowed};
+ghost use Rattle.write_reasons.specs.Reasons.{reason_number};
 
 use bus::Space;
+
+// Data byte k of a write leg, from its first address on, the I2C session open or not.
+#[derive(Clone, Copy)]
+pub struct DataByteAsked {
+    pub session: bool,
+    pub spoiled: bool,
+    pub space: Space,
+    pub first: u16,
+    pub k: u16,
+    pub x: u8,
+}
 
 // The write that is asked about.
 #[derive(Clone, Copy)]
 pub enum WriteAsked {
-    // By the wire, the I2C session open or not: data byte k of a write leg, from its first address on.
-    DataByte {
-        session: bool,
-        spoiled: bool,
-        space: Space,
-        first: u16,
-        k: u16,
-        x: u8,
-    },
+    // By the wire.
+    DataByte(DataByteAsked),
     // By radio, with its open session: a block; the register of a pointer, and the byte for it; a password.
-    Block {
-        session: u8,
-        block: u16,
-    },
-    Pointer {
-        session: u8,
-        pointer: u8,
-        x: u8,
-    },
-    PasswordOf {
-        session: u8,
-        n: u8,
-    },
+    Block { session: u8, block: u16 },
+    Pointer { session: u8, pointer: u8, x: u8 },
+    PasswordOf { session: u8, n: u8 },
 }
 
 // What stands where the write goes.
@@ -43,13 +37,6 @@ pub enum WritePlace {
     MailboxByte,
     SystemRegister,
     PasswordByte,
-}
-
-// The password whose session is needed, if it has a number.
-#[derive(Clone, Copy)]
-pub enum SessionKey {
-    Unnumbered,
-    Numbered(u8),
 }
 
 // The rules that forbid a write, in the order in which they are asked.
@@ -65,7 +52,8 @@ pub enum WriteReason {
     LockedBlock,
     AreaNeverWritable,
     ConfigurationLocked,
-    SessionNeeded(SessionKey),
+    // The session of a password, by its number if it has one.
+    SessionNeeded(Option<u8>),
     RegisterReadOnly,
     PasswordCode,
     EndaRule,
@@ -93,23 +81,6 @@ impl WriteReason {
             WriteReason::PasswordCode => 13,
             WriteReason::EndaRule => 14,
             WriteReason::PageFull => 15,
-        }
-    }
-}
-
-#[derive(Clone, Copy)]
-pub enum WriteVerdict {
-    Allowed,
-    Forbidden(WriteReason),
-}
-
-impl WriteVerdict {
-    pub fn is_allowed(self) -> bool
-        ensures { result ≡ is_allowed self }
-    {
-        match self {
-            WriteVerdict::Allowed => true,
-            WriteVerdict::Forbidden(_) => false,
         }
     }
 }

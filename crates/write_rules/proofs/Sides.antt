@@ -6,6 +6,7 @@ use Prim.Native.Nat.{ℕ, ◌*◌, ◌<◌}
 use native.Mathlib.Omega.{arith}
 use lib.Dec.{ltb, eqb}
 use borrow.Author.Tests.{lt-leb, le-leb, ltb-true, ltb-false, eqb-true, eqb-false}
+use Rattle.std.specs.Prelude.{⊤, Result, Err, is_ok}
 use Rattle.parts.specs.Pick.{pick}
 use Rattle.parts.proofs.Picks.{pick_case}
 use Rattle.written_registers.specs.Passed.{is_pointer, Core, page}
@@ -15,11 +16,8 @@ use Rattle.rights.specs.Rights.{security_of, setting, radio_writes, is_locked, w
 use Rattle.write_reasons.specs.declared.WritePlace.{WritePlace}
 use Rattle.write_reasons.specs.declared.WritePlace.TheVariants.{Unmapped, UserMemory, DynamicByte, MailboxByte, SystemRegister, PasswordByte}
 use Rattle.write_reasons.specs.declared.WriteReason.{WriteReason}
-use Rattle.write_reasons.specs.declared.WriteVerdict.{WriteVerdict}
-use Rattle.write_reasons.specs.declared.WriteVerdict.TheVariants.{Forbidden}
 use Rattle.write_reasons.specs.declared.WriteAsked.TheVariants.{DataByte, Block, Pointer, PasswordOf}
-use Rattle.write_reasons.specs.Reasons.{is_allowed}
-use Rattle.write_reasons.proofs.Laws.{allowed_pick, allowed}
+use Rattle.write_reasons.proofs.Laws.{allowed_pick}
 use Rattle.write_rules.specs.Situation.{byte_at, radio_at, byte_place, block_place, block_situation, pointer_place, password_place}
 use Rattle.write_rules.specs.Conditions.{needs_session}
 use Rattle.write_rules.specs.Verdict.{write_verdict}
@@ -27,7 +25,7 @@ use Rattle.write_rules.specs.Claims.{of_radio, of_wire, gives_only, side_gives, 
 use Rattle.write_rules.proofs.Chain.{spoiled_chain, unmapped_chain, memory_chain, dynamic_chain, mailbox_chain, register_chain, password_chain, radio_unmapped, block_chain, pointer_chain, password_number_chain}
 
 -- a choice between a reason that passes and what passes
-gives : (test : WriteReason → Bool) (b : Bool) (reason : WriteReason) (v : WriteVerdict) → test reason ≡ true → gives_only test v ≡ true → gives_only test (pick b (Forbidden reason) v) ≡ true
+gives : (test : WriteReason → Bool) (b : Bool) (reason : WriteReason) (v : Result ⊤ WriteReason) → test reason ≡ true → gives_only test v ≡ true → gives_only test (pick b (Err reason) v) ≡ true
 unfolding pick
 gives test true reason v h g = h
 gives test false reason v h g = g
@@ -60,7 +58,7 @@ module _ (c : Core) (session : ℕ) where
 
 pub each_side_its_reasons : EachSideItsReasons
 unfolding side_gives block_place pointer_place password_place
-each_side_its_reasons c m (DataByte session spoiled space first k x) = wire_gives c session first k (page k m) x spoiled (byte_place space first k)
+each_side_its_reasons c m (DataByte b) = wire_gives c b.session b.first b.k (page b.k m) b.x b.spoiled (byte_place b.space b.first b.k)
 each_side_its_reasons c m (Block session block) =
     radio_place c session (4 * block) block 0 _ Unmapped UserMemory (λ h. rw radio_unmapped) (λ h. block_gives c session block)
 each_side_its_reasons c m (Pointer session pointer x) =
@@ -89,11 +87,11 @@ settings n false false false false opened l e0 e1 e2 e3 =
     four n l a b c d = omega arith
 
 block_more : (c : Core) (session block : ℕ) (b : Bool) → ltb block 128 ≡ b
-    → is_allowed (write_verdict (block_situation c session block)) ≡ (b && may_write c.registers (Radio session) block)
-unfolding block_place pick may_write write_right radio_writes needs_session is_allowed
+    → is_ok (write_verdict (block_situation c session block)) ≡ (b && may_write c.registers (Radio session) block)
+unfolding block_place pick may_write write_right radio_writes needs_session
 block_more c session block true h =
     let n = setting (security_of c.registers.security (area_of_block c.registers.ends block)) in
-    rw (lt-leb 128 block (ltb-true block 128 h), block_chain c session (4 * block) block 0 _ refl, allowed_pick, allowed_pick, allowed_pick, allowed)
+    rw (lt-leb 128 block (ltb-true block 128 h), block_chain c session (4 * block) block 0 _ refl, allowed_pick, allowed_pick, allowed_pick)
     (ap (λ (b : Bool). not (is_locked c.registers.ccfile block) && b) (settings n _ _ _ _ _ (omega arith) refl refl refl refl))
 block_more c session block false h = rw (le-leb 128 block (ltb-false block 128 h), radio_unmapped)
 

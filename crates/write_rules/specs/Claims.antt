@@ -1,25 +1,23 @@
 -- What is proved of the verdict, beside the contract of the function that gives it.
-use Rattle.std.specs.Prelude.{◌≡◌, Bool, true, false, ◌&&◌, List, ◌↔◌, ℕ, ltb}
+use Prim.{tt}
+use Rattle.std.specs.Prelude.{◌≡◌, Bool, true, false, ◌&&◌, List, ◌↔◌, ℕ, ltb, ⊤, Result, Ok, Err, is_ok}
 use Rattle.rule_list.specs.RuleList.{NoneHolds, IsFirst}
 use Rattle.rights.specs.declared.Side.TheVariants.{Radio}
 use Rattle.rights.specs.Rights.{may_write}
 use Rattle.written_registers.specs.Passed.{Core, blocks}
 use Rattle.write_reasons.specs.declared.WriteReason.{WriteReason}
 use Rattle.write_reasons.specs.declared.WriteReason.TheVariants.{LegSpoiled, OutsideMap, MailboxModeOn, ModeOff, MailboxBusy, MailboxLegNotFrom2008, AnotherArea, LockedBlock, AreaNeverWritable, ConfigurationLocked, SessionNeeded, RegisterReadOnly, PasswordCode, EndaRule, PageFull}
-use Rattle.write_reasons.specs.declared.WriteVerdict.{WriteVerdict}
-use Rattle.write_reasons.specs.declared.WriteVerdict.TheVariants.{Allowed, Forbidden}
 use Rattle.write_reasons.specs.declared.WriteAsked.{WriteAsked}
 use Rattle.write_reasons.specs.declared.WriteAsked.TheVariants.{DataByte, Block, Pointer, PasswordOf}
-use Rattle.write_reasons.specs.Reasons.{is_allowed}
 use Rattle.write_rules.specs.Situation.{Situation, block_situation, situation_of}
 use Rattle.write_rules.specs.Verdict.{forbids, reasons_in, write_verdict}
 
 -- the reason given is the first whose condition holds, and the other way round
 abbrev pub ForbiddenByFirst : Type 0
-ForbiddenByFirst = (z : Situation) (reason : WriteReason) → (write_verdict z ≡ Forbidden reason) ↔ IsFirst (forbids z) (reasons_in z) reason
+ForbiddenByFirst = (z : Situation) (reason : WriteReason) → (write_verdict z ≡ Err reason) ↔ IsFirst (forbids z) (reasons_in z) reason
 
 abbrev pub AllowedByNone : Type 0
-AllowedByNone = (z : Situation) → (write_verdict z ≡ Allowed) ↔ NoneHolds (forbids z) (reasons_in z)
+AllowedByNone = (z : Situation) → (write_verdict z ≡ Ok tt) ↔ NoneHolds (forbids z) (reasons_in z)
 
 -- "Radio judging has no leg, mailbox or page reason."
 abbrev pub of_radio : WriteReason → Bool
@@ -58,12 +56,12 @@ of_wire EndaRule = true
 of_wire PageFull = true
 
 -- a verdict gives only reasons that pass a test
-abbrev pub gives_only : (WriteReason → Bool) → WriteVerdict → Bool
-gives_only test Allowed = true
-gives_only test (Forbidden reason) = test reason
+abbrev pub gives_only : (WriteReason → Bool) → Result ⊤ WriteReason → Bool
+gives_only test (Ok unit) = true
+gives_only test (Err reason) = test reason
 
 unfoldable pub side_gives : WriteAsked → WriteReason → Bool
-side_gives (DataByte session spoiled space first k x) = of_wire
+side_gives (DataByte byte) = of_wire
 side_gives (Block session block) = of_radio
 side_gives (Pointer session pointer x) = of_radio
 side_gives (PasswordOf session n) = of_radio
@@ -73,4 +71,4 @@ EachSideItsReasons = (c : Core) (m : List ℕ) (asked : WriteAsked) → gives_on
 
 -- the verdict allows a block by radio exactly when it is one of the memory and its rights and its lock allow it
 abbrev pub BlockAllowed : Type 0
-BlockAllowed = (c : Core) (session block : ℕ) → is_allowed (write_verdict (block_situation c session block)) ≡ (ltb block blocks && may_write c.registers (Radio session) block)
+BlockAllowed = (c : Core) (session block : ℕ) → is_ok (write_verdict (block_situation c session block)) ≡ (ltb block blocks && may_write c.registers (Radio session) block)

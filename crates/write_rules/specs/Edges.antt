@@ -1,27 +1,24 @@
 -- Situations on either side of where a reason begins, with their verdicts as 02, Ask 2, has them, worked out by hand.
-use Prim.{Unit}
-use Rattle.std.specs.Prelude.{◌≡◌, Bool, true, false, List, [], ◌∷◌, ℕ}
+use Prim.{Unit, tt}
+use Rattle.std.specs.Prelude.{◌≡◌, Bool, true, false, List, [], ◌∷◌, ℕ, ⊤, Some, None, Result, Ok, Err}
 use Rattle.rights.specs.Passed.{registers_of}
 use Rattle.keys.specs.Keys.{fresh_passwords}
 use Rattle.written_registers.specs.Passed.{with_put, with_enabled, with_rf_message, no_message, empty_mailbox, Core}
 use Rattle.write_reasons.specs.Passed.{User, System}
-use Rattle.write_reasons.specs.declared.SessionKey.TheVariants.{Unnumbered, Numbered}
 use Rattle.write_reasons.specs.declared.WriteReason.{WriteReason}
 use Rattle.write_reasons.specs.declared.WriteReason.TheVariants.{LegSpoiled, OutsideMap, MailboxModeOn, ModeOff, MailboxBusy, MailboxLegNotFrom2008, AnotherArea, LockedBlock, AreaNeverWritable, ConfigurationLocked, SessionNeeded, RegisterReadOnly, PasswordCode, EndaRule, PageFull}
-use Rattle.write_reasons.specs.declared.WriteVerdict.{WriteVerdict}
-use Rattle.write_reasons.specs.declared.WriteVerdict.TheVariants.{Allowed, Forbidden}
 use Rattle.write_rules.specs.Situation.{Situation, byte_situation, block_situation, pointer_situation, password_situation}
 use Rattle.write_rules.specs.Verdict.{write_verdict}
 
 pub record WriteEdge : Type 0 where
   pub situation : Situation
-  pub verdict : WriteVerdict
+  pub verdict : Result ⊤ WriteReason
 
 abbrev allowed : Situation → WriteEdge
-allowed z = record { situation = z; verdict = Allowed }
+allowed z = record { situation = z; verdict = Ok tt }
 
 abbrev forbidden : Situation → WriteReason → WriteEdge
-forbidden z reason = record { situation = z; verdict = Forbidden reason }
+forbidden z reason = record { situation = z; verdict = Err reason }
 
 -- ---- the tags: RFA1SS, ENDA1, I2CSS, LOCK_CCFILE and LOCK_CFG, all else fresh; MB_EN, and RF_PUT
 abbrev tag_of : ℕ → ℕ → ℕ → ℕ → ℕ → Bool → Bool → Core
@@ -74,7 +71,7 @@ wire_edges =
     ∷ forbidden (user_at mailbox_on 0x0000 0) MailboxModeOn
     ∷ forbidden (user_at locked_first 0x0000 3) LockedBlock
     ∷ allowed (user_at locked_first 0x0004 0)
-    ∷ forbidden (user_at guarded 0x0000 0) (SessionNeeded Unnumbered)
+    ∷ forbidden (user_at guarded 0x0000 0) (SessionNeeded None)
     ∷ forbidden (byte_situation User fresh_core false true 0x0000 0 [] 0) LegSpoiled
     -- the mailbox: its 257th byte, a leg from 2009h
     ∷ allowed (user_at mailbox_on 0x2008 255)
@@ -89,12 +86,12 @@ wire_edges =
     ∷ forbidden (user_at fresh_core 0x2005 0) OutsideMap
     -- system registers: the UID, what is not mapped, DSFID and AFI beside it (02, Ask 4), the ENDA rule with an earlier byte taken as written
     ∷ forbidden (system_at mailbox_on false 0x0018 0 0) MailboxModeOn
-    ∷ forbidden (system_at fresh_core false 0x0018 0 0) (SessionNeeded Unnumbered)
+    ∷ forbidden (system_at fresh_core false 0x0018 0 0) (SessionNeeded None)
     ∷ forbidden (system_at fresh_core true 0x0018 0 0) RegisterReadOnly
     ∷ forbidden (system_at fresh_core true 0x0010 0 0) OutsideMap
     ∷ forbidden (system_at fresh_core true 0x0011 0 0) OutsideMap
     ∷ forbidden (system_at mailbox_on true 0x0012 0 0) MailboxModeOn
-    ∷ forbidden (system_at fresh_core false 0x0012 0 0) (SessionNeeded Unnumbered)
+    ∷ forbidden (system_at fresh_core false 0x0012 0 0) (SessionNeeded None)
     ∷ forbidden (system_at fresh_core true 0x0012 0 0) RegisterReadOnly
     ∷ forbidden (system_at fresh_core true 0x0013 0 0) RegisterReadOnly
     ∷ allowed (system_at fresh_core true 0x000F 0 0)
@@ -105,7 +102,7 @@ wire_edges =
     ∷ forbidden (system_at fresh_core false 0x0900 17 0) PageFull
     ∷ forbidden (byte_situation System fresh_core false true 0x0900 18 [] 0) LegSpoiled
     ∷ forbidden (system_at mailbox_on false 0x0900 8 0x07) MailboxModeOn
-    ∷ forbidden (system_at fresh_core false 0x0900 8 0x07) (SessionNeeded Unnumbered)
+    ∷ forbidden (system_at fresh_core false 0x0900 8 0x07) (SessionNeeded None)
     ∷ allowed (system_at fresh_core true 0x0900 8 0x07)
     ∷ forbidden (system_at mailbox_on false 0x0900 8 0x08) PasswordCode
     ∷ forbidden (system_at fresh_core false 0x0900 8 0x08) PasswordCode
@@ -121,20 +118,20 @@ radio_edges =
     ∷ forbidden (block_situation locked_first 0 0) LockedBlock
     ∷ allowed (block_situation locked_first 0 1)
     ∷ forbidden (block_situation (with_rights 0x0D) 2 0) AreaNeverWritable
-    ∷ forbidden (block_situation (with_rights 0x04) 1 0) (SessionNeeded Unnumbered)
-    ∷ forbidden (block_situation (with_rights 0x05) 1 0) (SessionNeeded (Numbered 1))
-    ∷ forbidden (block_situation (with_rights 0x0B) 2 0) (SessionNeeded (Numbered 3))
+    ∷ forbidden (block_situation (with_rights 0x04) 1 0) (SessionNeeded None)
+    ∷ forbidden (block_situation (with_rights 0x05) 1 0) (SessionNeeded (Some 1))
+    ∷ forbidden (block_situation (with_rights 0x0B) 2 0) (SessionNeeded (Some 3))
     ∷ allowed (block_situation (with_rights 0x05) 2 0)
     -- a register: its pointers, LOCK_CFG, the session of password 0, the ENDA rule
     ∷ forbidden (pointer_situation fresh_core 1 0x0B 0) OutsideMap
     ∷ forbidden (pointer_situation config_locked 0 0x03 0) ConfigurationLocked
-    ∷ forbidden (pointer_situation fresh_core 2 0x03 0) (SessionNeeded (Numbered 0))
+    ∷ forbidden (pointer_situation fresh_core 2 0x03 0) (SessionNeeded (Some 0))
     ∷ forbidden (pointer_situation fresh_core 1 0x05 0x10) EndaRule
     ∷ allowed (pointer_situation mailbox_on 1 0x05 0x0E)
     -- a password
     ∷ forbidden (password_situation fresh_core 4 4) OutsideMap
-    ∷ forbidden (password_situation fresh_core 0 0) (SessionNeeded (Numbered 0))
-    ∷ forbidden (password_situation fresh_core 2 2) (SessionNeeded (Numbered 2))
+    ∷ forbidden (password_situation fresh_core 0 0) (SessionNeeded (Some 0))
+    ∷ forbidden (password_situation fresh_core 2 2) (SessionNeeded (Some 2))
     ∷ allowed (password_situation config_locked 3 2)
     ∷ []
 

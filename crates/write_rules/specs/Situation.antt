@@ -91,7 +91,7 @@ password_situation c session n = radio_at (password_place n) c session n 0 0
 
 -- what is asked, of a tag and its memory: the earlier bytes of a leg stand in the page buffer
 abbrev pub situation_of : Core → List ℕ → WriteAsked → Situation
-situation_of c m (DataByte session spoiled space first k x) = byte_situation space c session spoiled first k (page k m) x
+situation_of c m (DataByte b) = byte_situation b.space c b.session b.spoiled b.first b.k (page b.k m) b.x
 situation_of c m (Block session block) = block_situation c session block
 situation_of c m (Pointer session pointer x) = pointer_situation c session pointer x
 situation_of c m (PasswordOf session n) = password_situation c session n

@@ -4,6 +4,7 @@
 ghost use Rattle.std.specs.Prelude.{◌≡◌, Bool, false, List, ℕ};
 ghost use Rattle.tag.specs.declared.Core.{Core};
 ghost use Rattle.tag.specs.Layout.{page};
+ghost use Rattle.write_reasons.specs.declared.WriteAsked.TheVariants.{DataByte};
 ghost use Rattle.write_reasons.specs.declared.WritePlace.TheVariants.{UserMemory, DynamicByte, MailboxByte, SystemRegister, PasswordByte};
 ghost use Rattle.write_rules.specs.Situation.{is_dynamic, user_place, is_system, system_place, byte_place, byte_at, byte_situation, block_situation, pointer_situation, password_situation, situation_of};
 ghost use Rattle.write_rules.specs.Conditions.{needs_session};
@@ -12,7 +13,7 @@ ghost use Rattle.write_rules.specs.Verdict.{area_key, write_verdict};
 use bus::Space;
 use register_types::RfaSs;
 use tag::Core;
-use write_reasons::{SessionKey, WriteAsked, WritePlace, WriteReason, WriteVerdict};
+use write_reasons::{DataByteAsked, WriteAsked, WritePlace, WriteReason};
 
 // The first address of a password leg.
 const PASSWORD_FIRST: u16 = 0x0900;
@@ -75,9 +76,15 @@ fn byte_place(space: Space, first: u16, k: u16) -> WritePlace
 }
 
 // A byte of user memory, in a leg that is not spoiled.
-fn memory(c: Core, session: bool, first: u16, k: u16) -> WriteVerdict
-    ensures { (earlier : List ℕ) (x : ℕ) → result ≡ write_verdict (byte_at UserMemory c session false first k earlier x) }
+fn memory(c: Core, byte: DataByteAsked) -> Result<(), WriteReason>
+    ensures { (earlier : List ℕ) (x : ℕ) → result ≡ write_verdict (byte_at UserMemory c byte.session false byte.first byte.k earlier x) }
 {
+    let DataByteAsked {
+        session,
+        first,
+        k,
+        ..
+    } = byte;
     let r = c.registers;
     let block = ((first as u32 + k as u32) / 4) as u16;
     let area = areas::area_of_block(r.ends, block);
@@ -85,129 +92,135 @@ fn memory(c: Core, session: bool, first: u16, k: u16) -> WriteVerdict
     let locked = rights::is_locked(r.ccfile, block);
     let guarded = rights::wire_guards(r.i2css, area);
     if c.mailbox.enabled {
-        return WriteVerdict::Forbidden(WriteReason::MailboxModeOn);
+        return Err(WriteReason::MailboxModeOn);
     }
     if own != area {
-        return WriteVerdict::Forbidden(WriteReason::AnotherArea);
+        return Err(WriteReason::AnotherArea);
     }
     if locked {
-        return WriteVerdict::Forbidden(WriteReason::LockedBlock);
+        return Err(WriteReason::LockedBlock);
     }
     if guarded & !session {
-        return WriteVerdict::Forbidden(WriteReason::SessionNeeded(SessionKey::Unnumbered));
+        return Err(WriteReason::SessionNeeded(None));
     }
     if 256 <= k {
-        return WriteVerdict::Forbidden(WriteReason::PageFull);
+        return Err(WriteReason::PageFull);
     }
-    WriteVerdict::Allowed
+    Ok(())
 }
 
 // A dynamic register.
-fn dynamic_byte(first: u16, k: u16) -> WriteVerdict
+fn dynamic_byte(first: u16, k: u16) -> Result<(), WriteReason>
     ensures { (c : Core) (session : Bool) (earlier : List ℕ) (x : ℕ) → result ≡ write_verdict (byte_at DynamicByte c session false first k earlier x) }
 {
     let at = first as u32 + k as u32;
     let writable = (at == dynamic::RF_MNGT_DYN as u32) | (at == dynamic::MB_CTRL_DYN as u32);
     if !writable {
-        return WriteVerdict::Forbidden(WriteReason::RegisterReadOnly);
+        return Err(WriteReason::RegisterReadOnly);
     }
     if 1 <= k {
-        return WriteVerdict::Forbidden(WriteReason::PageFull);
+        return Err(WriteReason::PageFull);
     }
-    WriteVerdict::Allowed
+    Ok(())
 }
 
 // A byte of the mailbox.
-fn mailbox_byte(c: Core, first: u16, k: u16) -> WriteVerdict
+fn mailbox_byte(c: Core, first: u16, k: u16) -> Result<(), WriteReason>
     ensures { (session : Bool) (earlier : List ℕ) (x : ℕ) → result ≡ write_verdict (byte_at MailboxByte c session false first k earlier x) }
 {
     let mailbox = c.mailbox;
     if !mailbox.enabled {
-        return WriteVerdict::Forbidden(WriteReason::ModeOff);
+        return Err(WriteReason::ModeOff);
     }
     if mailbox.host.put | mailbox.rf.put {
-        return WriteVerdict::Forbidden(WriteReason::MailboxBusy);
+        return Err(WriteReason::MailboxBusy);
     }
     if first != dynamic::MAILBOX_FIRST {
-        return WriteVerdict::Forbidden(WriteReason::MailboxLegNotFrom2008);
+        return Err(WriteReason::MailboxLegNotFrom2008);
     }
     if 256 <= k {
-        return WriteVerdict::Forbidden(WriteReason::PageFull);
+        return Err(WriteReason::PageFull);
     }
-    WriteVerdict::Allowed
+    Ok(())
 }
 
 // A system register, after the leg's earlier bytes, which are the page's.
-fn register(c: Core, session: bool, m: &[u8], first: u16, k: u16, x: u8) -> WriteVerdict
-    ensures { result ≡ write_verdict (byte_at SystemRegister c session false first k (page k m.now) x) }
+fn register(c: Core, m: &[u8], byte: DataByteAsked) -> Result<(), WriteReason>
+    ensures { result ≡ write_verdict (byte_at SystemRegister c byte.session false byte.first byte.k (page byte.k m.now) byte.x) }
 {
+    let DataByteAsked {
+        session,
+        first,
+        k,
+        x,
+        ..
+    } = byte;
     let at = first as u32 + k as u32;
     let row = register_table::row_of(at);
     let writable = row.host;
     let after = written_registers::written_all(c.registers, m, first, k);
     let end_allowed = areas::end_allows(after.ends, at, x);
     if c.mailbox.enabled {
-        return WriteVerdict::Forbidden(WriteReason::MailboxModeOn);
+        return Err(WriteReason::MailboxModeOn);
     }
     if !session {
-        return WriteVerdict::Forbidden(WriteReason::SessionNeeded(SessionKey::Unnumbered));
+        return Err(WriteReason::SessionNeeded(None));
     }
     if !writable {
-        return WriteVerdict::Forbidden(WriteReason::RegisterReadOnly);
+        return Err(WriteReason::RegisterReadOnly);
     }
     if !end_allowed {
-        return WriteVerdict::Forbidden(WriteReason::EndaRule);
+        return Err(WriteReason::EndaRule);
     }
     if 256 <= k {
-        return WriteVerdict::Forbidden(WriteReason::PageFull);
+        return Err(WriteReason::PageFull);
     }
-    WriteVerdict::Allowed
+    Ok(())
 }
 
 // A byte of a password leg; its code stands at place 8.
-fn password_byte(c: Core, session: bool, first: u16, k: u16, x: u8) -> WriteVerdict
-    ensures { (earlier : List ℕ) → result ≡ write_verdict (byte_at PasswordByte c session false first k earlier x) }
+fn password_byte(c: Core, byte: DataByteAsked) -> Result<(), WriteReason>
+    ensures { (earlier : List ℕ) → result ≡ write_verdict (byte_at PasswordByte c byte.session false byte.first byte.k earlier byte.x) }
 {
+    let DataByteAsked { session, k, x, .. } = byte;
     let writes = (k == 8) & (x == 0x07);
     if writes & c.mailbox.enabled {
-        return WriteVerdict::Forbidden(WriteReason::MailboxModeOn);
+        return Err(WriteReason::MailboxModeOn);
     }
     if writes & !session {
-        return WriteVerdict::Forbidden(WriteReason::SessionNeeded(SessionKey::Unnumbered));
+        return Err(WriteReason::SessionNeeded(None));
     }
     if (k == 8) & (x != 0x07) & (x != 0x09) {
-        return WriteVerdict::Forbidden(WriteReason::PasswordCode);
+        return Err(WriteReason::PasswordCode);
     }
     if 17 <= k {
-        return WriteVerdict::Forbidden(WriteReason::PageFull);
+        return Err(WriteReason::PageFull);
     }
-    WriteVerdict::Allowed
+    Ok(())
 }
 
 // A data byte of a write leg, by what stands at its address.
-fn data_byte(
-    c: Core,
-    m: &[u8],
-    session: bool,
-    spoiled: bool,
-    space: Space,
-    first: u16,
-    k: u16,
-    x: u8,
-) -> WriteVerdict
-    ensures { result ≡ write_verdict (byte_situation space c session spoiled first k (page k m.now) x) }
+fn data_byte(c: Core, m: &[u8], byte: DataByteAsked) -> Result<(), WriteReason>
+    ensures { result ≡ write_verdict (situation_of c m.now (DataByte byte)) }
 {
+    let DataByteAsked {
+        spoiled,
+        space,
+        first,
+        k,
+        ..
+    } = byte;
     if spoiled {
-        return WriteVerdict::Forbidden(WriteReason::LegSpoiled);
+        return Err(WriteReason::LegSpoiled);
     }
     let place = byte_place(space, first, k);
     match place {
-        WritePlace::Unmapped => WriteVerdict::Forbidden(WriteReason::OutsideMap),
-        WritePlace::UserMemory => memory(c, session, first, k),
+        WritePlace::Unmapped => Err(WriteReason::OutsideMap),
+        WritePlace::UserMemory => memory(c, byte),
         WritePlace::DynamicByte => dynamic_byte(first, k),
         WritePlace::MailboxByte => mailbox_byte(c, first, k),
-        WritePlace::SystemRegister => register(c, session, m, first, k, x),
-        WritePlace::PasswordByte => password_byte(c, session, first, k, x),
+        WritePlace::SystemRegister => register(c, m, byte),
+        WritePlace::PasswordByte => password_byte(c, byte),
     }
 }
 
@@ -218,18 +231,18 @@ fn needs_session(security: RfaSs) -> bool
     (setting == 1) | (setting == 2)
 }
 
-fn area_key(security: RfaSs) -> SessionKey
+fn area_key(security: RfaSs) -> Option<u8>
     ensures { result ≡ area_key security }
 {
     let n = security.bits % 4;
     if n == 0 {
-        return SessionKey::Unnumbered;
+        return None;
     }
-    SessionKey::Numbered(n)
+    Some(n)
 }
 
 // A block, by radio.
-fn block_write(c: Core, session: u8, block: u16) -> WriteVerdict
+fn block_write(c: Core, session: u8, block: u16) -> Result<(), WriteReason>
     ensures { result ≡ write_verdict (block_situation c session block) }
 {
     let r = c.registers;
@@ -241,22 +254,22 @@ fn block_write(c: Core, session: u8, block: u16) -> WriteVerdict
     let opened = rights::session_opens(security, session);
     let key = area_key(security);
     if tag::BLOCKS <= block {
-        return WriteVerdict::Forbidden(WriteReason::OutsideMap);
+        return Err(WriteReason::OutsideMap);
     }
     if locked {
-        return WriteVerdict::Forbidden(WriteReason::LockedBlock);
+        return Err(WriteReason::LockedBlock);
     }
     if never {
-        return WriteVerdict::Forbidden(WriteReason::AreaNeverWritable);
+        return Err(WriteReason::AreaNeverWritable);
     }
     if needed & !opened {
-        return WriteVerdict::Forbidden(WriteReason::SessionNeeded(key));
+        return Err(WriteReason::SessionNeeded(key));
     }
-    WriteVerdict::Allowed
+    Ok(())
 }
 
 // A register, by radio.
-fn pointer_write(c: Core, session: u8, pointer: u8, x: u8) -> WriteVerdict
+fn pointer_write(c: Core, session: u8, pointer: u8, x: u8) -> Result<(), WriteReason>
     ensures { result ≡ write_verdict (pointer_situation c session pointer x) }
 {
     let row = register_table::row_of(pointer as u32);
@@ -264,46 +277,39 @@ fn pointer_write(c: Core, session: u8, pointer: u8, x: u8) -> WriteVerdict
     let locked = c.registers.config.bits / 1 % 2 == 1;
     let end_allowed = areas::end_allows(c.registers.ends, pointer as u32, x);
     if !mapped {
-        return WriteVerdict::Forbidden(WriteReason::OutsideMap);
+        return Err(WriteReason::OutsideMap);
     }
     if locked {
-        return WriteVerdict::Forbidden(WriteReason::ConfigurationLocked);
+        return Err(WriteReason::ConfigurationLocked);
     }
     if session != 1 {
-        return WriteVerdict::Forbidden(WriteReason::SessionNeeded(SessionKey::Numbered(0)));
+        return Err(WriteReason::SessionNeeded(Some(0)));
     }
     if !end_allowed {
-        return WriteVerdict::Forbidden(WriteReason::EndaRule);
+        return Err(WriteReason::EndaRule);
     }
-    WriteVerdict::Allowed
+    Ok(())
 }
 
 // A password, by radio.
-fn password_write(session: u8, n: u8) -> WriteVerdict
+fn password_write(session: u8, n: u8) -> Result<(), WriteReason>
     ensures { (c : Core) → result ≡ write_verdict (password_situation c session n) }
 {
     if LAST_PASSWORD < n {
-        return WriteVerdict::Forbidden(WriteReason::OutsideMap);
+        return Err(WriteReason::OutsideMap);
     }
     if session != n + 1 {
-        return WriteVerdict::Forbidden(WriteReason::SessionNeeded(SessionKey::Numbered(n)));
+        return Err(WriteReason::SessionNeeded(Some(n)));
     }
-    WriteVerdict::Allowed
+    Ok(())
 }
 
 // The first rule that forbids the write asked about, or that it is allowed. A leg's earlier bytes are the page's.
-pub fn verdict(c: Core, m: &[u8], asked: WriteAsked) -> WriteVerdict
+pub fn verdict(c: Core, m: &[u8], asked: WriteAsked) -> Result<(), WriteReason>
     ensures { result ≡ write_verdict (situation_of c m.now asked) }
 {
     match asked {
-        WriteAsked::DataByte {
-            session,
-            spoiled,
-            space,
-            first,
-            k,
-            x,
-        } => data_byte(c, m, session, spoiled, space, first, k, x),
+        WriteAsked::DataByte(byte) => data_byte(c, m, byte),
         WriteAsked::Block { session, block } => block_write(c, session, block),
         WriteAsked::Pointer {
             session,

@@ -1,8 +1,8 @@
 use mathlib.Core.Path.{◌≡◌, refl, ap, ◌∙◌}
-use Prim.Native.Nat.{◌+◌, ◌-◌}
+use Prim.Native.Nat.{◌+◌}
 use native.Mathlib.Omega.{arith}
 use native.Mathlib.Numerals.{add-one}
-use Rattle.write_reasons.specs.Reasons.{is_allowed}
+use Rattle.std.specs.Prelude.{is_ok}
 use Rattle.block_writes.specs.Claims.{all_allowed}
 use Rattle.block_writes.proofs.all_allowed.Goals as goal
 
@@ -15,7 +15,7 @@ unfolding all_allowed
 loop-k-preserved c =
     let l = c.loop-k in
     let a = c.args in
-    let one = c.is_allowed-one.ensures ∙ ap is_allowed c.verdict-verdict.ensures in
+    let one = c.is_ok-one.ensures.value ∙ ap is_ok c.verdict-verdict.ensures in
     (omega arith, rw (l.invariant.1, one, add-one l.k))
 
 pub returns : goal.returns

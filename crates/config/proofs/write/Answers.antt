@@ -6,18 +6,18 @@ use Rattle.config.specs.Claims.{config_by}
 use Rattle.config.proofs.ByVerdict.{config_by_verdict}
 use Rattle.config.proofs.write.Goals as goal
 
-pub returns-in-Allowed : goal.returns-in-Allowed
+pub returns-in-Ok : goal.returns-in-Ok
 unfolding config_by
-returns-in-Allowed c =
+returns-in-Ok c =
     let a = c.args in
     let by = config_by_verdict a.v a.m.now a.pointer a.x in
     said (write_config_of a.v a.m.now a.pointer a.x) _ (good []) c.done.ensures
-    (rw (by, ← c.verdict-verdict.ensures, c.in-Allowed.is, c.written_core-core.ensures))
+    (rw (by, ← c.verdict-verdict.ensures, c.in-Ok.is, c.written_core-core.ensures))
 
-pub returns-in-Forbidden : goal.returns-in-Forbidden
+pub returns-in-Err : goal.returns-in-Err
 unfolding config_by
-returns-in-Forbidden c =
+returns-in-Err c =
     let a = c.args in
     let by = config_by_verdict a.v a.m.now a.pointer a.x in
     said (write_config_of a.v a.m.now a.pointer a.x) _ (fault c.config_error.result) c.error.ensures
-    (rw (by, ← c.verdict-verdict.ensures, c.in-Forbidden.is, c.config_error.ensures))
+    (rw (by, ← c.verdict-verdict.ensures, c.in-Err.is, c.config_error.ensures))

@@ -7,13 +7,13 @@ use Rattle.data_byte.proofs.send_data.Goals as goal
 pub overflow_add-count : goal.overflow_add-count
 overflow_add-count c =
     let a = c.args in
-    let j = judged a.kept a.space a.k a.spoiled a.w a.m.now a.x _ _ _ c.asked_of.ensures c.verdict-verdict.ensures c.is_allowed.ensures ∙ c.if-is_allowed.true in
+    let j = judged a.kept a.space a.k a.spoiled a.w a.m.now a.x _ _ _ c.asked_of.ensures c.verdict-verdict.ensures c.is_ok.ensures.value ∙ c.if-is_ok.true in
     omega (arith, room a.kept a.space a.k a.spoiled a.w a.m.now a.x j)
 
-pub returns-then-is_allowed : goal.returns-then-is_allowed
-returns-then-is_allowed c =
+pub returns-then-is_ok : goal.returns-then-is_ok
+returns-then-is_ok c =
     let a = c.args in
-    let j = judged a.kept a.space a.k a.spoiled a.w a.m.now a.x _ _ _ c.asked_of.ensures c.verdict-verdict.ensures c.is_allowed.ensures ∙ c.if-is_allowed.true in
+    let j = judged a.kept a.space a.k a.spoiled a.w a.m.now a.x _ _ _ c.asked_of.ensures c.verdict-verdict.ensures c.is_ok.ensures.value ∙ c.if-is_ok.true in
     rw (c.with_line.ensures, c.next_address-next.ensures, c.put_in.ensures, add-one a.k) (taken a.kept a.space a.k a.spoiled a.w a.m.now a.x j)
 
 pub returns-then-spoiled : goal.returns-then-spoiled
@@ -24,5 +24,5 @@ returns-then-spoiled c =
 pub returns : goal.returns
 returns c =
     let a = c.args in
-    let j = judged a.kept a.space a.k a.spoiled a.w a.m.now a.x _ _ _ c.asked_of.ensures c.verdict-verdict.ensures c.is_allowed.ensures ∙ c.if-is_allowed.false in
+    let j = judged a.kept a.space a.k a.spoiled a.w a.m.now a.x _ _ _ c.asked_of.ensures c.verdict-verdict.ensures c.is_ok.ensures.value ∙ c.if-is_ok.false in
     rw (c.no_ack-2.ensures, c.with_bus.ensures) (spoils a.kept a.space a.k a.spoiled a.w a.m.now a.x j c.if-spoiled.false)

@@ -1,11 +1,11 @@
 use Rattle.explanation_rules.specs.Numbers.{write_number}
 use Rattle.explanation.proofs.write_number.Goals as goal
 
-pub returns-in-Allowed : goal.returns-in-Allowed
+pub returns-in-Ok : goal.returns-in-Ok
 unfolding write_number
-returns-in-Allowed c = rw c.in-Allowed.is
+returns-in-Ok c = rw c.in-Ok.is
 
-pub returns-in-Forbidden : goal.returns-in-Forbidden
+pub returns-in-Err : goal.returns-in-Err
 unfolding write_number
-returns-in-Forbidden c =
-    rw c.in-Forbidden.is c.number.ensures
+returns-in-Err c =
+    rw c.in-Err.is c.number.ensures

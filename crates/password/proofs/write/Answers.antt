@@ -6,16 +6,16 @@ use Rattle.password.specs.Claims.{password_by}
 use Rattle.password.proofs.ByVerdict.{password_by_verdict}
 use Rattle.password.proofs.write.Goals as goal
 
-pub returns-in-Forbidden : goal.returns-in-Forbidden
+pub returns-in-Err : goal.returns-in-Err
 unfolding password_by
-returns-in-Forbidden c =
+returns-in-Err c =
     let a = c.args in
     said (write_password_of a.v a.m.now a.n a.frame.now a.at) _ (fault c.password_error.result) c.error.ensures
-    (rw (password_by_verdict a.v a.m.now a.n a.frame.now a.at, ← c.verdict-verdict.ensures, c.in-Forbidden.is, c.password_error.ensures))
+    (rw (password_by_verdict a.v a.m.now a.n a.frame.now a.at, ← c.verdict-verdict.ensures, c.in-Err.is, c.password_error.ensures))
 
 pub returns : goal.returns
 unfolding password_by
 returns c =
     let a = c.args in
     said (write_password_of a.v a.m.now a.n a.frame.now a.at) _ (good []) c.done.ensures
-    (rw (password_by_verdict a.v a.m.now a.n a.frame.now a.at, ← c.verdict-verdict.ensures, c.in-Allowed.is, c.with_passwords.ensures, c.with_radio-passwords.ensures, c.at.ensures))
+    (rw (password_by_verdict a.v a.m.now a.n a.frame.now a.at, ← c.verdict-verdict.ensures, c.in-Ok.is, c.with_passwords.ensures, c.with_radio-passwords.ensures, c.at.ensures))

@@ -10,16 +10,16 @@ use Rattle.rule_names.specs.Text.{key_text}
 use Rattle.rule_names.proofs.Table.{nothing_stored}
 use Rattle.rule_names.proofs.put_key.Goals as goal
 
-pub returns-in-Unnumbered : goal.returns-in-Unnumbered
+pub returns-in-None : goal.returns-in-None
 unfolding key_text
-returns-in-Unnumbered c = rw c.in-Unnumbered.is (nothing_stored _ _ (omega arith))
+returns-in-None c = rw c.in-None.is (nothing_stored _ _ (omega arith))
 
-pub returns-in-Numbered : goal.returns-in-Numbered
+pub returns-in-Some : goal.returns-in-Some
 unfolding key_text
-returns-in-Numbered c =
+returns-in-Some c =
     let a = c.args in
     let o = a.text.now in
     let mark = c.put_mark-number in
     let room : length o ≤ last_place = omega arith in
-    rw c.in-Numbered.is
+    rw c.in-Some.is
     (c.put_decimal.ensures ∙ behind o mark.new.text (0x20 ∷ []) (decimal _) a.at mark.result room mark.ensures)

@@ -3,12 +3,12 @@ use Rattle.rule_names.specs.Names.{string_bytes}
 use Rattle.rule_names.specs.Text.{verdict_text}
 use Rattle.rule_names.proofs.put_verdict.Goals as goal
 
-pub returns-in-Allowed : goal.returns-in-Allowed
+pub returns-in-Ok : goal.returns-in-Ok
 unfolding verdict_text string_bytes bytes_at
-returns-in-Allowed c =
-    rw c.in-Allowed.is c.put_part.ensures
+returns-in-Ok c =
+    rw c.in-Ok.is c.put_part.ensures
 
-pub returns-in-Forbidden : goal.returns-in-Forbidden
+pub returns-in-Err : goal.returns-in-Err
 unfolding verdict_text
-returns-in-Forbidden c =
-    rw c.in-Forbidden.is c.put_reason.ensures
+returns-in-Err c =
+    rw c.in-Err.is c.put_reason.ensures

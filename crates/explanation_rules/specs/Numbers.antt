@@ -12,5 +12,5 @@ write_number (Err reason) = reason_number reason
 
 -- of a frame's first error, if there is one
 unfoldable pub found_number : Result ⊤ RadioError → ℕ
-found_number (Ok unit) = 0
+found_number (Ok w) = 0
 found_number (Err error) = error_number error

@@ -6,7 +6,7 @@ ghost use Rattle.select.specs.Select.{select_of, choose, address, first_of};
 
 use bus::Space;
 
-// What a select byte comes to.
+// What a select byte comes to: no Ack, or a leg of one of two kinds. An Option would need a second enum inside.
 #[derive(Clone, Copy)]
 pub enum Choice {
     NotAcked,

@@ -13,6 +13,7 @@ use signal::{WireAnswer, WireOutcome};
 use signal_table::WireSignal;
 use tag::{Host, WireSide};
 
+// A fetch that gives no byte and moves nothing. A method of WireOutcome would say the same at more length.
 fn no_byte(w: WireSide) -> WireOutcome
     ensures { result ≡ record { answer = Byte 0xFF; side = w } }
 {

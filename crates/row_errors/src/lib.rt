@@ -181,7 +181,7 @@ fn present_error(v: RadioSide, f: &[u8]) -> Verdict
     if 3 < n {
         return Verdict::Error(RadioError::NoSuchPassword);
     }
-    if !passwords.radio(n).equals(Password::at(f, at + 1)) {
+    if passwords.radio(n) != Password::at(f, at + 1) {
         return Verdict::Error(RadioError::WrongPassword);
     }
     Verdict::Request

@@ -21,11 +21,11 @@ fn password_written(w: WireSide, m: &[u8], k: u16) -> WireSide
     }
     if parts::byte_at(m, 776) == 0x09 {
         let mut n = w;
-        let open = own.equals(first) & own.equals(second);
+        let open = (own == first) & (own == second);
         n.host.session = open;
         return n;
     }
-    if first.equals(second) {
+    if first == second {
         let mut c = w.core;
         let passwords = c.passwords.with_i2c(first);
         c.passwords = passwords;

@@ -1,4 +1,5 @@
 -- Demand 2, host direction, at the entry. Assumes nothing.
+use Rattle.std.specs.Prelude.{None}
 use mathlib.Core.Path.{◌≡◌, refl, sym, ap, ◌∙◌}
 use mathlib.Core.Bool.{true, false, ◌&&◌}
 use mathlib.Core.List.{List, [], ◌∷◌}
@@ -9,7 +10,6 @@ use borrow.Author.Tests.{leb-true}
 use Rattle.parts.specs.Pick.{pick}
 use Rattle.parts.proofs.Bools.{and_left, and_right}
 use Rattle.bus.specs.declared.Bus.{Bus}
-use Rattle.bus.specs.declared.Transfer.TheVariants.{Closed}
 use Rattle.bus.specs.declared.Bus.TheVariants.{Started}
 use Rattle.tag.specs.declared.WireSide.{WireSide}
 use Rattle.tag.specs.Layout.{reply_bytes}
@@ -102,5 +102,5 @@ transfer_served d ws r l b v p e h =
     let w = wire_side d.tag in
     run_notes ws d (record { range = r; size = l }) h
     ∙ ap (λ (q : TransferResult). left d q ws)
-    (ap (λ (w : WireSide). run_of w d.tag.uid d.memory (signals ws)) (sym (started w (Started Closed) b))
-    ∙ sym (transfer_by_signals (signals ws) e w d.tag.uid d.memory Closed (record { vcc = v; still = p; bytes = l })))
+    (ap (λ (w : WireSide). run_of w d.tag.uid d.memory (signals ws)) (sym (started w (Started None) b))
+    ∙ sym (transfer_by_signals (signals ws) e w d.tag.uid d.memory None (record { vcc = v; still = p; bytes = l })))

@@ -1,6 +1,5 @@
 -- Demand 2, in both directions, at the entry.
-use Rattle.std.specs.Prelude.{◌≡◌, Bool, true, false, ◌&&◌, List, [], ◌∷◌, ℕ, ◌≤◌, leb, length}
-use Rattle.bus.specs.declared.Transfer.TheVariants.{Closed}
+use Rattle.std.specs.Prelude.{◌≡◌, Bool, true, false, ◌&&◌, List, [], ◌∷◌, ℕ, ◌≤◌, leb, length, None}
 use Rattle.bus.specs.declared.Bus.TheVariants.{Started}
 use Rattle.bus.specs.Bus.{transfer_at}
 use Rattle.tag.specs.declared.Tag.{Tag}
@@ -67,7 +66,7 @@ abbrev pub TransferServed : Type 0
 TransferServed = (d : Device) (handed : List WireCall)
     → tag_in_range d.tag d.memory ≡ true → length d.memory ≡ memory_bytes
     -- the bus is started and no transfer open, and a select would be Acked
-    → d.tag.host.bus ≡ Started Closed → d.tag.host.vcc ≡ true → d.tag.host.programming ≡ false
+    → d.tag.host.bus ≡ Started None → d.tag.host.vcc ≡ true → d.tag.host.programming ≡ false
     → finished true (signals handed) ≡ true → all_served handed ≡ true
     → run_by entry d (wire_calls handed)
     ≡ (let result = transfer_of (wire_side d.tag) d.tag.uid d.memory (signals handed) in

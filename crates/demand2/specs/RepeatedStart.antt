@@ -1,10 +1,9 @@
 -- Whole transfers with a repeated Start, computed from their definition: every answer, the wire side and the memory.
-use Rattle.std.specs.Prelude.{◌≡◌, true, List, [], ◌∷◌, ◌++◌, ℕ, replicate}
+use Rattle.std.specs.Prelude.{◌≡◌, true, List, [], ◌∷◌, ◌++◌, ℕ, replicate, None}
 use Rattle.register_types.specs.Types.{rf_mngt}
 use Rattle.registers.specs.Map.{with_dynamic}
 use Rattle.mailbox.specs.Mailbox.{empty_mailbox}
 use Rattle.mailbox.specs.Parts.{with_enabled}
-use Rattle.bus.specs.declared.Transfer.TheVariants.{Closed}
 use Rattle.bus.specs.declared.Bus.TheVariants.{Idle, Started}
 use Rattle.tag.specs.Parts.{wire_side, with_mailbox}
 use Rattle.signal.specs.declared.WireAnswer.{WireAnswer}
@@ -39,7 +38,7 @@ four_acks = replicate 4 Ack
 
 -- the bus started, MB_MODE 1
 abbrev pub begins : Device
-begins = powered but mailbox_mode 1 but on_bus (Started Closed)
+begins = powered but mailbox_mode 1 but on_bus (Started None)
 
 abbrev pub dynamic_is : ℕ → Device → Device
 dynamic_is n d = on_registers (with_dynamic (rf_mngt n)) d

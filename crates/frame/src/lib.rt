@@ -64,5 +64,5 @@ pub fn crc_place(f: &[u8]) -> usize
 pub fn own_uid(f: &[u8], u: Uid) -> bool
     ensures { result ≡ own_uid f.now u }
 {
-    Uid::at(f, uid_place(f)).equals(u)
+    Uid::at(f, uid_place(f)) == u
 }

@@ -1,4 +1,6 @@
 -- What the ranges say of a tag's numbers. Assumes nothing.
+use Rattle.std.specs.Prelude.{Option, Some, None}
+use Rattle.bus.specs.declared.OpenTransfer.{OpenTransfer}
 use mathlib.Core.Path.{◌≡◌, refl, sym, subst}
 use mathlib.Core.Bool.{Bool, true, false, not, ◌&&◌, ◌||◌}
 use mathlib.Core.List.{List}
@@ -19,8 +21,6 @@ use Rattle.register_table.proofs.Rows.{eight_bits}
 use Rattle.defined_bits.specs.Defined.{only_bits, defined_to, defined_only}
 use Rattle.defined_bits.proofs.Defined.{defined_at}
 use Rattle.areas.specs.Ends.{ends_in_range}
-use Rattle.bus.specs.declared.Transfer.{Transfer}
-use Rattle.bus.specs.declared.Transfer.TheVariants.{Closed, Open}
 use Rattle.bus.specs.declared.Bus.{Bus}
 use Rattle.bus.specs.declared.Bus.TheVariants.{Idle, Started, ReadLeg, WriteLeg, LowAddress, DataLeg}
 use Rattle.mailbox.specs.declared.Mailbox.{Mailbox}
@@ -65,10 +65,10 @@ message_is b h =
     let small = and_left n c (and_left (n && c) p (and_left (n && c && p) q (and_left (n && c && p && q) l (and_left (n && c && p && q && l) e h)))) in
     lt-ltb b.length 65536 (omega (arith, leb-true b.length 256 small))
 
-transfer_is : (transfer : Transfer) → transfer_in_range transfer ≡ true → transfer_fits transfer ≡ true
+transfer_is : (transfer : Option OpenTransfer) → transfer_in_range transfer ≡ true → transfer_fits transfer ≡ true
 unfolding transfer_in_range transfer_fits
-transfer_is Closed h = refl
-transfer_is (Open kept) h = lt-ltb kept.dynamic.bits 256 (bits_below rf_mngt_bits kept.dynamic.bits (omega arith) h)
+transfer_is None h = refl
+transfer_is (Some kept) h = lt-ltb kept.dynamic.bits 256 (bits_below rf_mngt_bits kept.dynamic.bits (omega arith) h)
 
 leg_is : (b : Bus) → leb (page_bytes b) 256 ≡ true → high_byte_of b < 256 → leg_fits b ≡ true
 unfolding page_bytes high_byte_of leg_fits

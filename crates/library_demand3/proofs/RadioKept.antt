@@ -1,11 +1,12 @@
 -- A frame keeps the passwords and the memory of bytes. Assumes nothing.
+use Rattle.std.specs.Prelude.{Option}
+use Rattle.bus.specs.declared.OpenTransfer.{OpenTransfer}
 use mathlib.Core.Path.{sym, subst}
 use mathlib.Core.Bool.{Bool}
 use mathlib.Core.List.{List}
 use Prim.Native.Nat.{ℕ}
 use Rattle.parts.proofs.Below.{Below}
 use Rattle.parts.proofs.Picks.{pick_case}
-use Rattle.bus.specs.declared.Transfer.{Transfer}
 use Rattle.keys.specs.declared.Uid.{Uid}
 use Rattle.keys.specs.declared.Passwords.{Passwords}
 use Rattle.keys.specs.Keys.{password_at, with_radio_password}
@@ -34,7 +35,7 @@ pub record Sound (d : CommandResult) : Type 0 where
   pub passwords : PasswordsFit d.side.core.passwords
   pub memory : Below d.memory
 
-pub radio_sound : (v : RadioSide) (u : Uid) (vcc : Bool) (transfer : Transfer) (programming : Bool) (m f : List ℕ) → PasswordsFit v.core.passwords → Below m → Below f
+pub radio_sound : (v : RadioSide) (u : Uid) (vcc : Bool) (transfer : Option OpenTransfer) (programming : Bool) (m f : List ℕ) → PasswordsFit v.core.passwords → Below m → Below f
     → Sound (radio_of v u vcc transfer programming m f)
 radio_sound v u vcc transfer programming m f p h b =
     let k = frame_behaves v vcc m f u transfer programming in

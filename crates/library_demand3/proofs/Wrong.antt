@@ -1,4 +1,5 @@
 -- Library steps that demand 3 over the library's calls shuts out, each by one list. Assumes nothing.
+use Rattle.std.specs.Prelude.{None}
 use mathlib.Core.Path.{◌≡◌, refl, ap}
 use mathlib.Core.Bool.{true, false, not}
 use mathlib.Core.List.{List, [], ◌∷◌}
@@ -8,7 +9,6 @@ use lib.Dec.{ltb, eqb}
 use lib.ListN.{length, get_or}
 use Rattle.parts.specs.Bytes.{are_bytes}
 use Rattle.air.specs.declared.RadioState.TheVariants.{Selected}
-use Rattle.bus.specs.declared.Transfer.TheVariants.{Closed}
 use Rattle.bus.specs.declared.Bus.TheVariants.{Started}
 use Rattle.tag.specs.declared.Tag.{Tag}
 use Rattle.tag.specs.Layout.{memory_bytes}
@@ -69,7 +69,7 @@ starts a b c d e f = record { state = a; whole = b; memory = c; size = d; range 
 
 -- a tag whose bus is started: the next byte sent is a select
 abbrev awaiting : Device
-awaiting = powered but on_bus (Started Closed)
+awaiting = powered but on_bus (Started None)
 
 -- a frame between a select and its Stop
 abbrev framed : List Call

@@ -25,14 +25,24 @@ pub struct Mailbox {
     pub length: u16,
 }
 
+impl Message {
+    const NONE: Message = Message {
+        put: false,
+        current: false,
+    };
+
+    // Put and not yet read.
+    const PUT: Message = Message {
+        put: true,
+        current: true,
+    };
+}
+
 fn weight(on: bool, n: u8) -> u8
     ensures value { result ≡ weight on n }
     ensures upper_bound { result ≤ n }
 {
-    if on {
-        return n;
-    }
-    0
+    u8::from(on) * n
 }
 
 impl Mailbox {
@@ -52,10 +62,7 @@ impl Mailbox {
     pub fn length_byte(self) -> u8
         ensures { result ≡ length_byte self }
     {
-        if self.length == 0 {
-            return 0;
-        }
-        ((self.length - 1) % 256) as u8
+        (self.length.saturating_sub(1) % 256) as u8
     }
 
     // Disabled and empty.
@@ -64,14 +71,8 @@ impl Mailbox {
     {
         Mailbox {
             enabled: false,
-            host: Message {
-                put: false,
-                current: false,
-            },
-            rf: Message {
-                put: false,
-                current: false,
-            },
+            host: Message::NONE,
+            rf: Message::NONE,
             length: 0,
         }
     }
@@ -86,9 +87,10 @@ impl Mailbox {
         ensures { result ≡ enabled mode vcc self }
     {
         if (mode.bits / 1 % 2 == 1) & vcc {
-            let mut m = self;
-            m.enabled = true;
-            return m;
+            return Mailbox {
+                enabled: true,
+                ..self
+            };
         }
         self
     }
@@ -107,41 +109,55 @@ impl Mailbox {
     pub fn host_put(self, n: u16) -> Mailbox
         ensures { result ≡ host_put n self }
     {
-        let mut m = self;
-        m.host.put = true;
-        m.host.current = true;
-        m.rf.current = false;
-        m.length = n;
-        m
+        Mailbox {
+            host: Message::PUT,
+            rf: Message {
+                current: false,
+                ..self.rf
+            },
+            length: n,
+            ..self
+        }
     }
 
     // A message of n bytes from the radio.
     pub fn radio_put(self, n: u16) -> Mailbox
         ensures { result ≡ radio_put n self }
     {
-        let mut m = self;
-        m.rf.put = true;
-        m.rf.current = true;
-        m.host.current = false;
-        m.length = n;
-        m
+        Mailbox {
+            host: Message {
+                current: false,
+                ..self.host
+            },
+            rf: Message::PUT,
+            length: n,
+            ..self
+        }
     }
 
     // The host has read an RF message to its end.
     pub fn host_read(self) -> Mailbox
         ensures { result ≡ host_read self }
     {
-        let mut m = self;
-        m.rf.put = false;
-        m
+        Mailbox {
+            rf: Message {
+                put: false,
+                ..self.rf
+            },
+            ..self
+        }
     }
 
     // The radio has read a host message to its end.
     pub fn radio_read(self) -> Mailbox
         ensures { result ≡ radio_read self }
     {
-        let mut m = self;
-        m.host.put = false;
-        m
+        Mailbox {
+            host: Message {
+                put: false,
+                ..self.host
+            },
+            ..self
+        }
     }
 }

@@ -1,4 +1,6 @@
 -- Every call keeps the tag in range, and the fresh tag is. Assumes nothing.
+use Rattle.std.specs.Prelude.{Option}
+use Rattle.bus.specs.declared.OpenTransfer.{OpenTransfer}
 use mathlib.Core.Path.{◌≡◌, refl, ap, ◌∙◌}
 use mathlib.Core.Bool.{Bool, true, false, not, ◌&&◌, ◌||◌, false≢true}
 use mathlib.Core.List.{List}
@@ -9,7 +11,6 @@ use Rattle.parts.specs.Bytes.{are_bytes}
 use Rattle.parts.specs.Bits.{is_set}
 use Rattle.parts.proofs.Below.{bytes_below}
 use Rattle.parts.proofs.Bools.{and_left, and_right, and_both, or_first, or_second}
-use Rattle.bus.specs.declared.Transfer.{Transfer}
 use Rattle.bus.specs.declared.Bus.{Bus}
 use Rattle.bus.specs.declared.Bus.TheVariants.{Idle, Started, ReadLeg, WriteLeg, LowAddress, DataLeg}
 use Rattle.tag.specs.declared.Core.{Core}
@@ -123,7 +124,7 @@ module _ (t : Tag) (m : List ℕ) (f : Fits t m) where
         size = l ∙ f.size;
       }
 
-  abbrev transfer : Transfer
+  abbrev transfer : Option OpenTransfer
   transfer = transfer_at t.host.bus
 
   abbrev Same : CommandResult → Type 0

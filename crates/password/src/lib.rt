@@ -32,7 +32,7 @@ pub fn present(
         };
     }
     let air = v.air;
-    if !v.core.passwords.radio(n).equals(Password::at(frame, at)) {
+    if v.core.passwords.radio(n) != Password::at(frame, at) {
         let closed = v.with_air(air.with_session(0));
         return RadioOutcome {
             answer: reply::error(out, RadioError::WrongPassword),

@@ -58,8 +58,7 @@ fn uid_among(uids: [Uid; 16], n: usize, u: Uid) -> bool
     let mut found = false;
     let mut i = 0;
     while i < n {
-        let other = uids[i];
-        found = found | other.equals(u);
+        found = found | (uids[i] == u);
         i += 1;
     }
     found

@@ -1,5 +1,7 @@
 -- What every command says and leaves: a command has its line here, once for all that is proved of every frame. An error has none:
 -- the law of its command (proofs/Cases.antt of the command's crate) asks for one fact on all errors. Assumes nothing.
+use Rattle.std.specs.Prelude.{Option}
+use Rattle.bus.specs.declared.OpenTransfer.{OpenTransfer}
 use mathlib.Core.Path.{◌≡◌, refl, sym, ap, ◌∙◌}
 use mathlib.Core.Bool.{Bool, true, false, not, ◌&&◌, ◌||◌}
 use mathlib.Core.List.{List, []}
@@ -31,7 +33,6 @@ use Rattle.keys.specs.declared.Passwords.{Passwords}
 use Rattle.keys.specs.declared.Uid.{Uid}
 use Rattle.keys.specs.Keys.{password_at, with_radio_password}
 use Rattle.air.specs.declared.Air.{Air}
-use Rattle.bus.specs.declared.Transfer.{Transfer}
 use Rattle.air.specs.declared.RadioState.TheVariants.{Ready, Selected}
 use Rattle.air.specs.Parts.{with_slots}
 use Rattle.air.specs.Radio.{is_quiet, deselected}
@@ -326,7 +327,7 @@ module _ (v : RadioSide) (vcc : Bool) (m f : List ℕ) where
   answer_behaves u (Error error) = fail (request_of f u) v vcc m f error
   answer_behaves u Request = request_behaves u
 
-  pub frame_behaves : (u : Uid) (transfer : Transfer) (programming : Bool) → F (request_of f u) (radio_of v u vcc transfer programming m f)
+  pub frame_behaves : (u : Uid) (transfer : Option OpenTransfer) (programming : Bool) → F (request_of f u) (radio_of v u vcc transfer programming m f)
   unfolding radio_of
   frame_behaves u transfer programming =
       pick_case (F (request_of f u)) (inventory_flag f) _ _ (λ h. inventories (request_of f u) v vcc m f u (dynamic_now v transfer) (busy_now transfer programming))

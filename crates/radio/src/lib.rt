@@ -5,7 +5,7 @@ ghost use Rattle.std.specs.Prelude.{◌≡◌};
 ghost use Rattle.reply.specs.Outcome.{radio_result, finish};
 ghost use Rattle.radio.specs.Radio.{verdict_result, verdict_of, radio_of, next_slot_of};
 
-use bus::Transfer;
+use bus::OpenTransfer;
 use judge::Verdict;
 use keys::Uid;
 use reply::{RadioAnswer, RadioOutcome, RadioSide};
@@ -15,7 +15,7 @@ fn request(
     v: RadioSide,
     u: Uid,
     vcc: bool,
-    transfer: Transfer,
+    transfer: Option<OpenTransfer>,
     programming: bool,
     m: &mut [u8],
     out: &mut [u8],
@@ -44,7 +44,7 @@ pub fn radio(
     v: RadioSide,
     u: Uid,
     vcc: bool,
-    transfer: Transfer,
+    transfer: Option<OpenTransfer>,
     programming: bool,
     m: &mut [u8],
     out: &mut [u8],
@@ -64,7 +64,7 @@ pub fn radio(
 pub fn end_of_frame(
     v: RadioSide,
     u: Uid,
-    transfer: Transfer,
+    transfer: Option<OpenTransfer>,
     programming: bool,
     m: &[u8],
     out: &mut [u8],

@@ -1,4 +1,6 @@
 -- An error reply changes nothing but by B3, and B3 closes a session at most. Assumes nothing.
+use Rattle.std.specs.Prelude.{Option}
+use Rattle.bus.specs.declared.OpenTransfer.{OpenTransfer}
 use mathlib.Core.Path.{◌≡◌, refl, sym, ap, ◌∙◌}
 use mathlib.Core.Bool.{Bool, true, false, not, ◌&&◌, false≢true}
 use mathlib.Core.List.{List, [], ◌∷◌}
@@ -11,7 +13,6 @@ use borrow.Author.Tests.{eq-eqb, eqb-true, lt-leb, le-leb}
 use Rattle.parts.specs.Pick.{pick}
 use Rattle.parts.proofs.Picks.{pick_true, pick_false, pick_case}
 use Rattle.rule_list.specs.RuleList.{first_says}
-use Rattle.bus.specs.declared.Transfer.{Transfer}
 use Rattle.keys.specs.declared.Uid.{Uid}
 use Rattle.keys.specs.Keys.{password_at, same_password, radio_password}
 use Rattle.errors.specs.declared.RadioError.{RadioError}
@@ -96,7 +97,7 @@ inventory_leaves v after u dynamic busy m f =
     let own = v.core.registers.afi in
     inventory_case K v u dynamic busy m f (λ _. pick_case K (answers_now f u own) _ _ (λ _. served _ refl) (λ _. silent refl)) (silent refl)
 
-pub frame_leaves : (v : RadioSide) (u : Uid) (vcc : Bool) (transfer : Transfer) (programming : Bool) (m f : List ℕ)
+pub frame_leaves : (v : RadioSide) (u : Uid) (vcc : Bool) (transfer : Option OpenTransfer) (programming : Bool) (m f : List ℕ)
     → Shape (error_leaves v u transfer programming f) m (radio_of v u vcc transfer programming m f)
 unfolding radio_of
 frame_leaves v u vcc transfer programming m f =

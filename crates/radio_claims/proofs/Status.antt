@@ -1,4 +1,6 @@
 -- A status byte is 1 exactly when 21 on its block gives 12h. Assumes nothing.
+use Rattle.std.specs.Prelude.{Option}
+use Rattle.bus.specs.declared.OpenTransfer.{OpenTransfer}
 use mathlib.Core.Path.{◌≡◌, refl, sym, ap, subst, ◌∙◌}
 use mathlib.Core.Bool.{Bool, true, false, not, ◌&&◌}
 use mathlib.Core.List.{List, [], ◌∷◌, ◌++◌, append_assoc, append-nil}
@@ -15,7 +17,6 @@ use Rattle.parts.proofs.Picks.{pick_false}
 use Rattle.registers.specs.declared.Registers.{Registers}
 use Rattle.rights.specs.declared.Side.TheVariants.{Radio}
 use Rattle.rights.specs.Rights.{may_write}
-use Rattle.bus.specs.declared.Transfer.{Transfer}
 use Rattle.keys.specs.declared.Uid.{Uid}
 use Rattle.errors.specs.declared.RadioError.TheVariants.{WriteForbidden}
 use Rattle.reply.specs.declared.RadioSide.{RadioSide}
@@ -202,7 +203,7 @@ module _ (t : RadioSide) (u : Uid) (vcc : Bool) (m s : List ℕ) where
   unfolding command_of command_table first_says pick serve_command
   read_more_row h = known_row (request_of s u) t vcc m s _ (ap command_of h)
 
-module _ (t : RadioSide) (u : Uid) (vcc : Bool) (transfer : Transfer) (programming : Bool) (m : List ℕ) where
+module _ (t : RadioSide) (u : Uid) (vcc : Bool) (transfer : Option OpenTransfer) (programming : Bool) (m : List ℕ) where
   asked : (c : ℕ) (s : List ℕ) → Asks t u transfer programming c s
       → radio_of t u vcc transfer programming m s ≡ serve_of (request_of s u) t vcc m s
   unfolding radio_of verdict_result

@@ -1,8 +1,8 @@
 -- What 01 says of the radio's replies as a whole, beside the rows of its table.
-use Rattle.std.specs.Prelude.{◌≡◌, Bool, true, false, not, ◌&&◌, List, [], ◌∷◌, ◌⊎◌, ℕ, ◌+◌, ◌*◌, ◌<◌, leb, eqb, length, get_or}
+use Rattle.std.specs.Prelude.{◌≡◌, Bool, true, false, not, ◌&&◌, List, [], ◌∷◌, ◌⊎◌, ℕ, ◌+◌, ◌*◌, ◌<◌, leb, eqb, length, get_or, Option}
+use Rattle.bus.specs.declared.OpenTransfer.{OpenTransfer}
 use Rattle.parts.specs.Pick.{pick}
 use Rattle.keys.specs.declared.Uid.{Uid}
-use Rattle.bus.specs.declared.Transfer.{Transfer}
 use Rattle.bus.specs.Bus.{transfer_at}
 use Rattle.tag.specs.declared.Tag.{Tag}
 use Rattle.keys.specs.Keys.{password_at, same_password, radio_password}
@@ -23,7 +23,7 @@ use Rattle.model.specs.Step.{step_of}
 -- ---- "01h and the code (nothing changed but by B3)"
 -- without B3: a reply that begins with 01h has the code of an error rule, and tag and memory stay
 abbrev pub ErrorsChangeNothing : Type 0
-ErrorsChangeNothing = (v : RadioSide) (u : Uid) (vcc : Bool) (transfer : Transfer) (programming : Bool) (m f rest : List ℕ)
+ErrorsChangeNothing = (v : RadioSide) (u : Uid) (vcc : Bool) (transfer : Option OpenTransfer) (programming : Bool) (m f rest : List ℕ)
     → (command f ≡ 0xB3 → ⊥)
     → (radio_of v u vcc transfer programming m f).reply ≡ body (0x01 ∷ rest)
     → (error : RadioError) × (radio_of v u vcc transfer programming m f ≡ fails error v m)
@@ -44,14 +44,14 @@ abbrev pub session_closed : RadioSide → RadioSide
 session_closed v = with_air (with_radio_session 0 v.air) v
 
 -- what an error reply leaves: "session closed" by a B3 that is served and wrong, and nothing else changed
-abbrev pub error_leaves : RadioSide → Uid → Transfer → Bool → List ℕ → RadioSide
+abbrev pub error_leaves : RadioSide → Uid → Option OpenTransfer → Bool → List ℕ → RadioSide
 error_leaves v u transfer programming f =
     pick (is_request (verdict_of v u transfer programming f) && eqb (command f) 0xB3 && presents_wrong v f)
     (session_closed v) v
 
 -- every frame, B3 too
 abbrev pub ErrorsLeave : Type 0
-ErrorsLeave = (v : RadioSide) (u : Uid) (vcc : Bool) (transfer : Transfer) (programming : Bool) (m f rest : List ℕ)
+ErrorsLeave = (v : RadioSide) (u : Uid) (vcc : Bool) (transfer : Option OpenTransfer) (programming : Bool) (m f rest : List ℕ)
     → (radio_of v u vcc transfer programming m f).reply ≡ body (0x01 ∷ rest)
     → (error : RadioError) × (radio_of v u vcc transfer programming m f ≡ command_result (fault error) (error_leaves v u transfer programming f) m)
 
@@ -65,7 +65,7 @@ ErrorCallsLeave = (t : Tag) (m o f : List ℕ) (n : ℕ)
 
 -- ---- "1 exactly when 21 would give 12h"
 -- the frame f asks for the command of a code, and is served; it is no inventory
-pub record Asks (v : RadioSide) (u : Uid) (transfer : Transfer) (programming : Bool) (code : ℕ) (f : List ℕ) : Type 0 where
+pub record Asks (v : RadioSide) (u : Uid) (transfer : Option OpenTransfer) (programming : Bool) (code : ℕ) (f : List ℕ) : Type 0 where
   pub plain : inventory_flag f ≡ false
   pub judged : verdict_of v u transfer programming f ≡ Request
   pub named : command f ≡ code
@@ -76,7 +76,7 @@ StatusAgrees x reply = ((x ≡ 1) × (reply ≡ fault WriteForbidden)) ⊎ ((x �
 
 -- 2C: byte k of its data is the status of block first + k; `write` asks for 21 on that block
 abbrev pub StatusAsWrite : Type 0
-StatusAsWrite = (v : RadioSide) (u : Uid) (vcc : Bool) (transfer : Transfer) (programming : Bool) (m status write data- : List ℕ) (k : ℕ)
+StatusAsWrite = (v : RadioSide) (u : Uid) (vcc : Bool) (transfer : Option OpenTransfer) (programming : Bool) (m status write data- : List ℕ) (k : ℕ)
     → Asks v u transfer programming 0x2C status
     → Asks v u transfer programming 0x21 write → param write 0 ≡ param status 0 + k
     → (radio_of v u vcc transfer programming m status).reply ≡ good data- → k < length data-
@@ -84,7 +84,7 @@ StatusAsWrite = (v : RadioSide) (u : Uid) (vcc : Bool) (transfer : Transfer) (pr
 
 -- 20, 23 with the option: "status byte before each block, as 2C", five bytes a block
 abbrev pub OptionStatusAsWrite : Type 0
-OptionStatusAsWrite = (v : RadioSide) (u : Uid) (vcc : Bool) (transfer : Transfer) (programming : Bool) (m read write data- : List ℕ) (k : ℕ)
+OptionStatusAsWrite = (v : RadioSide) (u : Uid) (vcc : Bool) (transfer : Option OpenTransfer) (programming : Bool) (m read write data- : List ℕ) (k : ℕ)
     → (Asks v u transfer programming 0x20 read) ⊎ (Asks v u transfer programming 0x23 read) → option_flag read ≡ true
     → Asks v u transfer programming 0x21 write → param write 0 ≡ param read 0 + k
     → (radio_of v u vcc transfer programming m read).reply ≡ good data- → 5 * k < length data-

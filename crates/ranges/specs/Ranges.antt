@@ -1,5 +1,6 @@
 -- 01's sentence "Ranges", but for the page bytes that "would be Acked there". What the types hold is listed in docs/DECISIONS.md.
-use Rattle.std.specs.Prelude.{Bool, true, not, ◌&&◌, ◌||◌, leb, ltb, eqb}
+use Rattle.std.specs.Prelude.{Bool, true, not, ◌&&◌, ◌||◌, leb, ltb, eqb, Option, Some, None}
+use Rattle.bus.specs.declared.OpenTransfer.{OpenTransfer}
 use Rattle.registers.specs.declared.Registers.{Registers}
 use Rattle.register_types.specs.Types.{rf_mngt_bits}
 use Rattle.defined_bits.specs.Defined.{only_bits, defined_only}
@@ -13,8 +14,6 @@ use Rattle.tag.specs.declared.Core.{Core}
 use Rattle.tag.specs.declared.WireSide.{WireSide}
 use Rattle.tag.specs.declared.Tag.{Tag}
 use Rattle.tag.specs.Parts.{wire_side}
-use Rattle.bus.specs.declared.Transfer.{Transfer}
-use Rattle.bus.specs.declared.Transfer.TheVariants.{Closed, Open}
 use Rattle.bus.specs.Bus.{transfer_at, is_open, is_active, page_bytes}
 
 -- "ends as under Areas"; "undefined register bits 0"
@@ -45,9 +44,9 @@ unfoldable pub supplied_in_range : Host → Bool → Bool
 supplied_in_range h mailbox = h.vcc || not (mailbox || h.session || h.programming || is_active h.bus)
 
 -- "undefined register bits 0", of what is kept of an open transfer
-unfoldable pub transfer_in_range : Transfer → Bool
-transfer_in_range Closed = true
-transfer_in_range (Open kept) = only_bits rf_mngt_bits kept.dynamic.bits
+unfoldable pub transfer_in_range : Option OpenTransfer → Bool
+transfer_in_range None = true
+transfer_in_range (Some kept) = only_bits rf_mngt_bits kept.dynamic.bits
 
 -- "page bytes 0 to 256"; "never programming and a transfer open together"
 unfoldable pub host_in_range : Host → Bool

@@ -5,7 +5,7 @@ ghost use Rattle.std.specs.Prelude.{◌≡◌, Bool};
 ghost use Rattle.ranges.specs.Ranges.{registers_in_range, air_in_range, mailbox_in_range, supplied_in_range, transfer_in_range, host_in_range, core_in_range, wire_in_range, in_range};
 
 use air::Air;
-use bus::Transfer;
+use bus::OpenTransfer;
 use mailbox::Mailbox;
 use register_types::{DefinedBits, RfMngt};
 use registers::Registers;
@@ -20,8 +20,7 @@ fn registers_in_range(r: Registers) -> bool
 fn air_in_range(a: Air) -> bool
     ensures { result ≡ air_in_range a }
 {
-    let radio = a.radio;
-    (a.session <= 4) & (a.slots <= 15) & ((a.slots == 0) | (a.field & !air::is_quiet(radio)))
+    (a.session <= 4) & (a.slots <= 15) & ((a.slots == 0) | (a.field & !air::is_quiet(a.radio)))
 }
 
 fn mailbox_in_range(mailbox: Mailbox) -> bool
@@ -39,27 +38,25 @@ fn mailbox_in_range(mailbox: Mailbox) -> bool
 fn supplied_in_range(h: Host, mailbox: bool) -> bool
     ensures { result ≡ supplied_in_range h mailbox }
 {
-    let bus = h.bus;
-    h.vcc | !(mailbox | h.session | h.programming | bus::is_active(bus))
+    h.vcc | !(mailbox | h.session | h.programming | bus::is_active(h.bus))
 }
 
 // Whether what is kept of an open transfer has defined bits only.
-fn transfer_in_range(transfer: Transfer) -> bool
+fn transfer_in_range(transfer: Option<OpenTransfer>) -> bool
     ensures { result ≡ transfer_in_range transfer }
 {
     match transfer {
-        Transfer::Closed => true,
-        Transfer::Open(kept) => RfMngt::keep(kept.dynamic.bits) == kept.dynamic.bits,
+        None => true,
+        Some(kept) => RfMngt::keep(kept.dynamic.bits) == kept.dynamic.bits,
     }
 }
 
 fn host_in_range(h: Host) -> bool
     ensures { result ≡ host_in_range h }
 {
-    let bus = h.bus;
-    (bus::page_bytes(bus) <= 256)
-        & !(h.programming & bus::is_open(bus))
-        & transfer_in_range(bus::transfer_at(bus))
+    (bus::page_bytes(h.bus) <= 256)
+        & !(h.programming & bus::is_open(h.bus))
+        & transfer_in_range(bus::transfer_at(h.bus))
 }
 
 fn core_in_range(c: Core) -> bool

@@ -180,7 +180,7 @@ fn present_error(v: RadioSide, f: &[u8]) -> Result<(), RadioError>
     if 3 < n {
         return Err(RadioError::NoSuchPassword);
     }
-    if !passwords.radio(n).equals(Password::at(f, at + 1)) {
+    if passwords.radio(n) != Password::at(f, at + 1) {
         return Err(RadioError::WrongPassword);
     }
     Ok(())

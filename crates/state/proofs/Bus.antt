@@ -1,4 +1,6 @@
 -- The bus in the state, at any place: its length, its bytes, there and back. Assumes nothing.
+use Rattle.std.specs.Prelude.{Option, Some, None}
+use Rattle.bus.specs.declared.OpenTransfer.{OpenTransfer}
 use mathlib.Core.Path.{◌≡◌, refl, ◌∙◌}
 use mathlib.Core.Bool.{Bool, true, false, ◌&&◌, ◌||◌}
 use mathlib.Core.List.{List, [], ◌∷◌}
@@ -12,8 +14,6 @@ use Rattle.parts.specs.Bytes.{bytes_at, are_bytes}
 use Rattle.parts.proofs.Below.{Below}
 use Rattle.parts.proofs.Bools.{and_left, and_right}
 use Rattle.parts.proofs.Picks.{pick_case}
-use Rattle.bus.specs.declared.Transfer.{Transfer}
-use Rattle.bus.specs.declared.Transfer.TheVariants.{Closed, Open}
 use Rattle.bus.specs.declared.Bus.{Bus}
 use Rattle.bus.specs.declared.Bus.TheVariants.{Idle, Started, ReadLeg, WriteLeg, LowAddress, DataLeg}
 use Rattle.bus.specs.Bus.{is_open_transfer, transfer_at}
@@ -33,8 +33,8 @@ bus_length_lem (DataLeg kept space count spoiled) = refl
 pub bus_decodes_lem : (b : Bus) → bus_decodes (bus_bytes b) 0 ≡ true
 unfolding bus_decodes bus_bytes transfer_byte is_open_transfer flag_byte pick is_bus
 bus_decodes_lem Idle = refl
-bus_decodes_lem (Started Closed) = refl
-bus_decodes_lem (Started (Open kept)) = refl
+bus_decodes_lem (Started None) = refl
+bus_decodes_lem (Started (Some kept)) = refl
 bus_decodes_lem (ReadLeg kept space over last) = rw (space_fits space, flag_fits over, flag_fits last)
 bus_decodes_lem (WriteLeg kept space) = rw (space_fits space)
 bus_decodes_lem (LowAddress kept space high) = rw (space_fits space)
@@ -43,17 +43,17 @@ bus_decodes_lem (DataLeg kept space count spoiled) = rw (space_fits space, flag_
 pub bus_back : (b : Bus) → bus_at (bus_bytes b) 0 ≡ b
 unfolding bus_at bus_bytes transfer_byte is_open_transfer bus_of flag_byte pick
 bus_back Idle = refl
-bus_back (Started Closed) = refl
-bus_back (Started (Open kept)) = refl
+bus_back (Started None) = refl
+bus_back (Started (Some kept)) = refl
 bus_back (ReadLeg kept space over last) = rw (space_back space, flag_back over, flag_back last)
 bus_back (WriteLeg kept space) = rw (space_back space)
 bus_back (LowAddress kept space high) = rw (space_back space)
 bus_back (DataLeg kept space count spoiled) = rw (space_back space, flag_back spoiled, word_back count)
 
-transfer_byte_lem : (transfer : Transfer) → transfer_fits transfer ≡ true → is_byte (transfer_byte transfer) ≡ true
+transfer_byte_lem : (transfer : Option OpenTransfer) → transfer_fits transfer ≡ true → is_byte (transfer_byte transfer) ≡ true
 unfolding transfer_fits transfer_byte
-transfer_byte_lem Closed h = refl
-transfer_byte_lem (Open kept) h = h
+transfer_byte_lem None h = refl
+transfer_byte_lem (Some kept) h = h
 
 pub are_bus : (b : Bus) → bus_fits b ≡ true → are_bytes (bus_bytes b) ≡ true
 unfolding are_bytes bus_bytes transfer_fits leg_fits bus_fits transfer_at
@@ -123,7 +123,7 @@ module _ (space flag last high low top dynamic : ℕ) (l : low < 256) where
   again_0 b = rw (eqb-true space 0 b.space_used, eqb-true flag 0 b.flag_used, eqb-true last 0 b.last_used, eqb-true high 0 b.high_used, eqb-true low 0 b.low_used, eqb-true top 0 b.top_used, eqb-true dynamic 0 b.dynamic_used)
 
   -- a started bus keeps the byte only with a transfer open
-  started_again : (open- : Bool) → used_or0 open- dynamic ≡ true → bus_bytes (Started (pick open- (Open (open_transfer_of dynamic)) Closed)) ≡ 1 ∷ 0 ∷ flag_byte open- ∷ 0 ∷ 0 ∷ 0 ∷ 0 ∷ dynamic ∷ []
+  started_again : (open- : Bool) → used_or0 open- dynamic ≡ true → bus_bytes (Started (pick open- (Some (open_transfer_of dynamic)) None)) ≡ 1 ∷ 0 ∷ flag_byte open- ∷ 0 ∷ 0 ∷ 0 ∷ 0 ∷ dynamic ∷ []
   unfolding bus_bytes transfer_byte is_open_transfer pick
   started_again true h = refl
   started_again false h = rw (eqb-true dynamic 0 h)
@@ -175,7 +175,7 @@ module _ (s : List ℕ) (at : ℕ) where
   bus_fits_lem h =
       let P : Bus → Type 0 = λ b. bus_fits b ≡ true in
       let kept = byte_fits s h (at + 7) in
-      pick_case P _ _ _ (λ _. pick_case (λ (x : Transfer). P (Started x)) _ _ _ (λ _. rw kept) (λ _. refl))
+      pick_case P _ _ _ (λ _. pick_case (λ (x : Option OpenTransfer). P (Started x)) _ _ _ (λ _. rw kept) (λ _. refl))
       (λ _. pick_case P _ _ _ (λ _. rw kept)
       (λ _. pick_case P _ _ _ (λ _. rw kept)
       (λ _. pick_case P _ _ _ (λ _. rw (kept, byte_fits s h (at + 4))) (λ _. pick_case P _ _ _ (λ _. rw (kept, word_fits s h (at + 5) (at + 6))) (λ _. refl)))))

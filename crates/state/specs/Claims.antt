@@ -1,8 +1,7 @@
 -- The bytes and the state say the same.
-use Rattle.std.specs.Prelude.{◌≡◌, Bool, true, ◌&&◌, List, ℕ, ltb, eqb, length}
+use Rattle.std.specs.Prelude.{◌≡◌, Bool, true, ◌&&◌, List, ℕ, ltb, eqb, length, Option, Some, None}
+use Rattle.bus.specs.declared.OpenTransfer.{OpenTransfer}
 use Rattle.parts.specs.Bytes.{are_bytes}
-use Rattle.bus.specs.declared.Transfer.{Transfer}
-use Rattle.bus.specs.declared.Transfer.TheVariants.{Closed, Open}
 use Rattle.bus.specs.declared.Bus.{Bus}
 use Rattle.bus.specs.declared.Bus.TheVariants.{Idle, Started, ReadLeg, WriteLeg, LowAddress, DataLeg}
 use Rattle.keys.specs.declared.Passwords.{Passwords}
@@ -24,9 +23,9 @@ abbrev pub are_eight : List ℕ → Bool
 are_eight s = eqb (length s) 8 && are_bytes s
 
 -- RF_MNGT_Dyn at the start of an open transfer
-unfoldable pub transfer_fits : Transfer → Bool
-transfer_fits Closed = true
-transfer_fits (Open kept) = is_byte kept.dynamic.bits
+unfoldable pub transfer_fits : Option OpenTransfer → Bool
+transfer_fits None = true
+transfer_fits (Some kept) = is_byte kept.dynamic.bits
 
 -- the high address byte; the page bytes
 unfoldable pub leg_fits : Bus → Bool

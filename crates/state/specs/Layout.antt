@@ -1,6 +1,6 @@
 -- The tag's state as bytes, part after part. Of each part: how long it is and where it stands; its bytes; the part that stands at a place; and, where not every byte will do, whether bytes at a place are one.
 -- Byte i of a part that stands at place `at` is at + i.
-use Rattle.std.specs.Prelude.{Bool, ◌&&◌, ◌||◌, List, [], ◌∷◌, ◌++◌, ℕ, ◌+◌, ◌*◌, ◌/◌, ◌%◌, leb, eqb, length, get_or}
+use Rattle.std.specs.Prelude.{Bool, ◌&&◌, ◌||◌, List, [], ◌∷◌, ◌++◌, ℕ, ◌+◌, ◌*◌, ◌/◌, ◌%◌, leb, eqb, length, get_or, Option, Some, None}
 use Rattle.parts.specs.Pick.{pick}
 use Rattle.parts.specs.Bytes.{bytes_at}
 use Rattle.register_table.specs.Table.{register_count}
@@ -14,8 +14,6 @@ use Rattle.keys.specs.declared.Passwords.{Passwords}
 use Rattle.bus.specs.declared.Space.{Space}
 use Rattle.bus.specs.declared.Space.TheVariants.{User, System}
 use Rattle.bus.specs.declared.OpenTransfer.{OpenTransfer}
-use Rattle.bus.specs.declared.Transfer.{Transfer}
-use Rattle.bus.specs.declared.Transfer.TheVariants.{Closed, Open}
 use Rattle.bus.specs.declared.Bus.{Bus}
 use Rattle.bus.specs.declared.Bus.TheVariants.{Idle, Started, ReadLeg, WriteLeg, LowAddress, DataLeg}
 use Rattle.bus.specs.Bus.{is_open_transfer}
@@ -121,9 +119,9 @@ air_at s at = record { field = flag_of (get_or s (at + 0) 0); radio = radio_stat
 
 -- ---- the bus
 -- "with a transfer open: RF_MNGT_Dyn at its start"
-unfoldable pub transfer_byte : Transfer → ℕ
-transfer_byte Closed = 0
-transfer_byte (Open kept) = kept.dynamic.bits
+unfoldable pub transfer_byte : Option OpenTransfer → ℕ
+transfer_byte None = 0
+transfer_byte (Some kept) = kept.dynamic.bits
 
 -- "bus: 0 idle, 1 started, 2 read leg, 3 write leg before its address, 4 write leg after the high address byte, 5 write leg past its address"; "space of the leg";
 -- "bus 1: transfer open; bus 2: the host has NoAcked; bus 5: the leg is spoiled"; "bus 2: the last byte of an RF message was fetched"; "bus 4: the high address byte"; "bus 5: page bytes, low byte first"
@@ -158,7 +156,7 @@ open_transfer_of x = record { dynamic = record { bits = x } }
 -- the bus of a kind
 unfoldable pub bus_of : ℕ → OpenTransfer → Space → Bool → Bool → ℕ → ℕ → Bus
 bus_of kind kept space flag last high count =
-    pick (eqb kind 1) (Started (pick flag (Open kept) Closed))
+    pick (eqb kind 1) (Started (pick flag (Some kept) None))
     (pick (eqb kind 2) (ReadLeg kept space flag last)
     (pick (eqb kind 3) (WriteLeg kept space)
     (pick (eqb kind 4) (LowAddress kept space high)

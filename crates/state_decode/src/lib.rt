@@ -5,7 +5,7 @@ ghost use Rattle.std.specs.Prelude.{◌≡◌, ◌+◌, ◌≤◌, get_or};
 ghost use Rattle.state.specs.Layout.{state_bytes, flag_of, word_of, radio_state_of, space_of, air_at, bus_of, bus_at, host_at, registers_at, mailbox_at, passwords_at, tag_of};
 
 use air::{Air, RadioState};
-use bus::{Bus, OpenTransfer, Space, Transfer};
+use bus::{Bus, OpenTransfer, Space};
 use keys::{Password, Passwords, Uid};
 use mailbox::{Mailbox, Message};
 use register_types::RfMngt;
@@ -15,28 +15,26 @@ use tag::{Core, Host, Tag};
 fn radio_state_of(n: u8) -> RadioState
     ensures { result ≡ radio_state_of n }
 {
-    if n == 1 {
-        return RadioState::Quiet;
+    match n {
+        1 => RadioState::Quiet,
+        2 => RadioState::Selected,
+        _ => RadioState::Ready,
     }
-    if n == 2 {
-        return RadioState::Selected;
-    }
-    RadioState::Ready
 }
 
 fn space_of(n: u8) -> Space
     ensures { result ≡ space_of n }
 {
-    if n == 1 {
-        return Space::System;
+    match n {
+        1 => Space::System,
+        _ => Space::User,
     }
-    Space::User
 }
 
 fn word_of(low: u8, high: u8) -> u16
     ensures { result ≡ word_of low high }
 {
-    low as u16 + high as u16 * 256
+    u16::from_le_bytes([low, high])
 }
 
 // Byte i of what starts at a place.
@@ -68,35 +66,24 @@ fn bus_of(
 ) -> Bus
     ensures { result ≡ bus_of kind kept space flag last high count }
 {
-    if kind == 1 {
-        if flag {
-            return Bus::Started(Transfer::Open(kept));
-        }
-        return Bus::Started(Transfer::Closed);
-    }
-    if kind == 2 {
-        return Bus::ReadLeg {
+    match kind {
+        1 => Bus::Started(if flag { Some(kept) } else { None }),
+        2 => Bus::ReadLeg {
             kept,
             space,
             over: flag,
             last,
-        };
-    }
-    if kind == 3 {
-        return Bus::WriteLeg { kept, space };
-    }
-    if kind == 4 {
-        return Bus::LowAddress { kept, space, high };
-    }
-    if kind == 5 {
-        return Bus::DataLeg {
+        },
+        3 => Bus::WriteLeg { kept, space },
+        4 => Bus::LowAddress { kept, space, high },
+        5 => Bus::DataLeg {
             kept,
             space,
             count,
             spoiled: flag,
-        };
+        },
+        _ => Bus::Idle,
     }
-    Bus::Idle
 }
 
 fn bus_at(s: &[u8], at: usize) -> Bus

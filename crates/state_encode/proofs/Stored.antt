@@ -1,16 +1,20 @@
 -- Parts stored one after the other are the whole stored. Assumes nothing.
-use mathlib.Core.Path.{◌≡◌, ap, ◌∙◌}
+use mathlib.Core.Path.{◌≡◌, refl, ap, ◌∙◌}
+use mathlib.Core.Bool.{Bool, true, false}
+use mir.Val.{bool_byte}
+use Rattle.parts.specs.Pick.{pick}
 use mathlib.Core.List.{List, ◌++◌}
-use Prim.Native.Nat.{ℕ, ◌+◌}
+use Prim.Native.Nat.{ℕ, ◌+◌, ◌<◌}
 use native.Mathlib.Omega.{arith}
-use lib.ListN.{length}
+use lib.ListN.{length, get_or}
+use Rattle.std.specs.Int.{to_le_bytes, w16}
 use lib.Seq.{sets}
 use Rattle.parts.specs.Bytes.{bytes_at}
 use Rattle.keys.specs.declared.Passwords.{Passwords}
 use Rattle.tag.specs.declared.Host.{Host}
 use Rattle.tag.specs.declared.Tag.{Tag}
 use Rattle.registers.specs.Map.{register_bytes}
-use Rattle.state.specs.Layout.{bus_offset, bus_length, air_part_length, host_part_length, registers_part_length, mailbox_part_length, passwords_part_length, air_part_place, host_part_place, registers_part_place, mailbox_part_place, passwords_part_place, uid_part_place, air_bytes, bus_bytes, host_bytes, mailbox_bytes, password_bytes, bytes_of}
+use Rattle.state.specs.Layout.{flag_byte, low_byte, high_byte, bus_offset, bus_length, air_part_length, host_part_length, registers_part_length, mailbox_part_length, passwords_part_length, air_part_place, host_part_place, registers_part_place, mailbox_part_place, passwords_part_place, uid_part_place, air_bytes, bus_bytes, host_bytes, mailbox_bytes, password_bytes, bytes_of}
 use Rattle.state.proofs.Places.{bytes_at_whole, sets_then, sets_next}
 use Rattle.state.proofs.Air.{air_length}
 use Rattle.state.proofs.Bus.{bus_length_lem}
@@ -72,3 +76,16 @@ tag_stored t s r₁ r₂ r₃ r₄ r₅ r₆ e e₁ e₂ e₃ e₄ e₅ e₆ =
     ∙ sets_then h (r ++ (m ++ (p ++ u))) r₁ host_part_place host_part_length (host_length t.host)
     ∙ ap (λ (o : List ℕ). sets o host_part_place (h ++ (r ++ (m ++ (p ++ u))))) e₁
     ∙ sets_then (air_bytes t.air) (h ++ (r ++ (m ++ (p ++ u)))) s air_part_place air_part_length (air_length t.air)
+
+-- a flag as a byte
+pub byte_of_flag : (on : Bool) → bool_byte on ≡ flag_byte on
+unfolding flag_byte pick
+byte_of_flag true = refl
+byte_of_flag false = refl
+
+-- a number of two bytes, lowest first
+pub first_of_le : (n : ℕ) → get_or (to_le_bytes w16 n) 0 0 ≡ low_byte n
+first_of_le n = omega arith
+
+pub second_of_le : (n : ℕ) → n < 65536 → get_or (to_le_bytes w16 n) 1 0 ≡ high_byte n
+second_of_le n h = omega arith

@@ -4,23 +4,14 @@
 ghost use Rattle.std.specs.Prelude.{◌≡◌, ◌≤◌, length};
 ghost use Rattle.std.proofs.lemmas.List.Edits.{sets};
 ghost use Rattle.registers.specs.Map.{register_bytes};
-ghost use Rattle.state.specs.Layout.{state_bytes, passwords_part_length, flag_byte, radio_number, space_number, air_bytes, transfer_byte, bus_bytes, host_bytes, mailbox_bytes, password_bytes, bytes_of};
+ghost use Rattle.state.specs.Layout.{state_bytes, passwords_part_length, radio_number, space_number, air_bytes, transfer_byte, bus_bytes, host_bytes, mailbox_bytes, password_bytes, bytes_of};
 
 use air::{Air, RadioState};
-use bus::{Bus, Space, Transfer};
+use bus::{Bus, OpenTransfer, Space};
 use keys::Passwords;
 use mailbox::Mailbox;
 use registers::Registers;
 use tag::{Host, Tag};
-
-fn flag_byte(on: bool) -> u8
-    ensures { result ≡ flag_byte on }
-{
-    if on {
-        return 1;
-    }
-    0
-}
 
 fn radio_number(x: RadioState) -> u8
     ensures { result ≡ radio_number x }
@@ -44,17 +35,16 @@ fn space_number(space: Space) -> u8
 fn put_air(a: Air, s: &mut [u8], at: usize)
     ensures { s.new ≡ sets s.old at (air_bytes a) }
 {
-    let radio = a.radio;
-    let b = [flag_byte(a.field), radio_number(radio), a.session, a.slots];
+    let b = [u8::from(a.field), radio_number(a.radio), a.session, a.slots];
     parts::put_bytes(s, at, &b, 0, state::AIR_PART_LENGTH);
 }
 
-fn transfer_byte(transfer: Transfer) -> u8
+fn transfer_byte(transfer: Option<OpenTransfer>) -> u8
     ensures { result ≡ transfer_byte transfer }
 {
     match transfer {
-        Transfer::Closed => 0,
-        Transfer::Open(kept) => kept.dynamic.bits,
+        None => 0,
+        Some(kept) => kept.dynamic.bits,
     }
 }
 
@@ -66,7 +56,7 @@ fn bus_bytes(b: Bus) -> [u8; state::BUS_LENGTH]
         Bus::Started(transfer) => [
             1,
             0,
-            flag_byte(bus::is_open_transfer(transfer)),
+            u8::from(transfer.is_some()),
             0,
             0,
             0,
@@ -81,8 +71,8 @@ fn bus_bytes(b: Bus) -> [u8; state::BUS_LENGTH]
         } => [
             2,
             space_number(space),
-            flag_byte(over),
-            flag_byte(last),
+            u8::from(over),
+            u8::from(last),
             0,
             0,
             0,
@@ -104,16 +94,19 @@ fn bus_bytes(b: Bus) -> [u8; state::BUS_LENGTH]
             space,
             count,
             spoiled,
-        } => [
-            5,
-            space_number(space),
-            flag_byte(spoiled),
-            0,
-            0,
-            (count % 256) as u8,
-            (count / 256) as u8,
-            kept.dynamic.bits,
-        ],
+        } => {
+            let count = count.to_le_bytes();
+            [
+                5,
+                space_number(space),
+                u8::from(spoiled),
+                0,
+                0,
+                count[0],
+                count[1],
+                kept.dynamic.bits,
+            ]
+        }
     }
 }
 
@@ -121,16 +114,16 @@ fn put_host(h: Host, s: &mut [u8], at: usize)
     requires { at ≤ state_bytes }
     ensures { s.new ≡ sets s.old at (host_bytes h) }
 {
+    let counter = h.counter.to_le_bytes();
     let b = [
-        flag_byte(h.vcc),
-        flag_byte(h.session),
-        flag_byte(h.programming),
-        (h.counter % 256) as u8,
-        (h.counter / 256) as u8,
+        u8::from(h.vcc),
+        u8::from(h.session),
+        u8::from(h.programming),
+        counter[0],
+        counter[1],
     ];
     parts::put_bytes(s, at, &b, 0, state::BUS_OFFSET);
-    let bus = h.bus;
-    let leg = bus_bytes(bus);
+    let leg = bus_bytes(h.bus);
     parts::put_bytes(s, at + state::BUS_OFFSET, &leg, 0, state::BUS_LENGTH);
 }
 
@@ -144,14 +137,15 @@ fn put_registers(r: Registers, s: &mut [u8], at: usize)
 fn put_mailbox(mailbox: Mailbox, s: &mut [u8], at: usize)
     ensures { s.new ≡ sets s.old at (mailbox_bytes mailbox) }
 {
+    let length = mailbox.length.to_le_bytes();
     let b = [
-        flag_byte(mailbox.enabled),
-        flag_byte(mailbox.host.put),
-        flag_byte(mailbox.rf.put),
-        flag_byte(mailbox.host.current),
-        flag_byte(mailbox.rf.current),
-        (mailbox.length % 256) as u8,
-        (mailbox.length / 256) as u8,
+        u8::from(mailbox.enabled),
+        u8::from(mailbox.host.put),
+        u8::from(mailbox.rf.put),
+        u8::from(mailbox.host.current),
+        u8::from(mailbox.rf.current),
+        length[0],
+        length[1],
     ];
     parts::put_bytes(s, at, &b, 0, state::MAILBOX_PART_LENGTH);
 }
@@ -168,16 +162,11 @@ fn put_passwords(p: Passwords, s: &mut [u8], at: usize)
     ensures s_after { s.new ≡ sets s.old at (password_bytes p) }
     ensures p_len { length (password_bytes p) ≡ passwords_part_length }
 {
-    let i2c = p.i2c.bytes;
-    let rf0 = p.rf0.bytes;
-    let rf1 = p.rf1.bytes;
-    let rf2 = p.rf2.bytes;
-    let rf3 = p.rf3.bytes;
-    put_eight(i2c, s, at);
-    put_eight(rf0, s, at + 8);
-    put_eight(rf1, s, at + 16);
-    put_eight(rf2, s, at + 24);
-    put_eight(rf3, s, at + 32);
+    put_eight(p.i2c.bytes, s, at);
+    put_eight(p.rf0.bytes, s, at + 8);
+    put_eight(p.rf1.bytes, s, at + 16);
+    put_eight(p.rf2.bytes, s, at + 24);
+    put_eight(p.rf3.bytes, s, at + 32);
 }
 
 // Stores the bytes of a tag.

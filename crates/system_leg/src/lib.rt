@@ -20,7 +20,7 @@ fn password_written(w: WireSide, m: &[u8], k: u16) -> WireSide
         return w;
     }
     if parts::byte_at(m, tag::PAGE_AT + 8) == 0x09 {
-        let open = own.equals(first) & own.equals(second);
+        let open = (own == first) & (own == second);
         return WireSide {
             host: Host {
                 session: open,
@@ -29,7 +29,7 @@ fn password_written(w: WireSide, m: &[u8], k: u16) -> WireSide
             ..w
         };
     }
-    if first.equals(second) {
+    if first == second {
         let passwords = w.core.passwords.with_i2c(first);
         return effect::start_programming(effect::with_core(
             w,

@@ -27,13 +27,7 @@ impl Host {
     pub fn with_bus(self, b: Bus) -> Host
         ensures { result ≡ with_bus b self }
     {
-        Host {
-            vcc: self.vcc,
-            session: self.session,
-            programming: self.programming,
-            counter: self.counter,
-            bus: b,
-        }
+        Host { bus: b, ..self }
     }
 }
 
@@ -41,43 +35,40 @@ impl WireSide {
     pub fn vcc_off(self) -> WireSide
         ensures { result ≡ vcc_off self }
     {
-        let mailbox = self.core.mailbox.disable();
-        let registers = self.core.registers.reload();
-        let mut core = self.core;
-        core.mailbox = mailbox;
-        core.registers = registers;
-        let mut w = self;
-        w.host = Host::fresh();
-        w.core = core;
-        w
+        WireSide {
+            host: Host::fresh(),
+            core: Core {
+                registers: self.core.registers.reload(),
+                mailbox: self.core.mailbox.disable(),
+                ..self.core
+            },
+        }
     }
 
     pub fn vcc_on(self) -> WireSide
         ensures { result ≡ vcc_on self }
     {
-        let registers = self.core.registers.reload();
-        let mut core = self.core;
-        core.registers = registers;
-        let mut w = self;
-        w.host.vcc = true;
-        w.core = core;
-        w
+        WireSide {
+            host: Host {
+                vcc: true,
+                ..self.host
+            },
+            core: Core {
+                registers: self.core.registers.reload(),
+                ..self.core
+            },
+        }
     }
 
     // VCC at a level; a repeated level changes nothing.
     pub fn vcc_at(self, on: bool) -> WireSide
         ensures { result ≡ vcc_at on self }
     {
-        if on {
-            if self.host.vcc {
-                return self;
-            }
-            return self.vcc_on();
+        match (self.host.vcc, on) {
+            (false, true) => self.vcc_on(),
+            (true, false) => self.vcc_off(),
+            _ => self,
         }
-        if self.host.vcc {
-            return self.vcc_off();
-        }
-        self
     }
 }
 
@@ -85,15 +76,14 @@ impl Tag {
     pub fn fresh(uid: Uid) -> Tag
         ensures { result ≡ fresh_tag uid }
     {
-        let core = Core {
-            registers: Registers::fresh(),
-            mailbox: Mailbox::fresh(),
-            passwords: Passwords::fresh(),
-        };
         Tag {
             air: Air::fresh(),
             host: Host::fresh(),
-            core,
+            core: Core {
+                registers: Registers::fresh(),
+                mailbox: Mailbox::fresh(),
+                passwords: Passwords::fresh(),
+            },
             uid,
         }
     }

@@ -1,4 +1,5 @@
 -- A leg, from its Start to its end. Assumes nothing.
+use Rattle.std.specs.Prelude.{Option}
 use mathlib.Core.Path.{◌≡◌, refl, sym, ap, ◌∙◌}
 use mathlib.Core.Bool.{Bool, true, false, ◌||◌}
 use mathlib.Core.List.{List, [], ◌∷◌, ◌++◌}
@@ -13,7 +14,6 @@ use Rattle.parts.specs.Pick.{pick}
 use Rattle.parts.specs.Bytes.{bytes_at}
 use Rattle.bus.specs.declared.Space.{Space}
 use Rattle.bus.specs.declared.OpenTransfer.{OpenTransfer}
-use Rattle.bus.specs.declared.Transfer.{Transfer}
 use Rattle.bus.specs.declared.Bus.{Bus}
 use Rattle.bus.specs.declared.Bus.TheVariants.{Idle, Started, ReadLeg, WriteLeg, LowAddress, DataLeg}
 use Rattle.tag.specs.declared.WireSide.{WireSide}
@@ -186,10 +186,10 @@ module _ (w : WireSide) (u : Uid) (m : List ℕ) (whole : length m ≡ 1024) (ke
 
 module _ (w : WireSide) (u : Uid) (m : List ℕ) (whole : length m ≡ 1024) where
   -- what an Acked select keeps
-  abbrev kept : Transfer → OpenTransfer
+  abbrev kept : Option OpenTransfer → OpenTransfer
   kept o = kept_of o w.core.registers.dynamic
 
-  select_goes : (o : Transfer) (x : ℕ) (ms : List Move) (c : Choice) → choose w.host.vcc w.host.programming x ≡ c
+  select_goes : (o : Option OpenTransfer) (x : ℕ) (ms : List Move) (c : Choice) → choose w.host.vcc w.host.programming x ≡ c
       → Goes w m (run_of (side_bus (Started o) w) u m (NotedSend x ∷ signals ms)) (selected_leg c w u m ms)
   unfolding selected_leg select_by due_of signal_of wire_signal send_at fetch_at
   select_goes o x ms NotAcked h =
@@ -204,7 +204,7 @@ module _ (w : WireSide) (u : Uid) (m : List ℕ) (whole : length m ≡ 1024) whe
       (ap (λ (c : Choice). select_by c (kept o) (side_bus (Started o) w) m) h) refl (write_goes w u m whole (kept o) s ms)
 
   -- the leg
-  pub leg_goes : (o : Transfer) (ms : List Move) → Goes w m (run_of (side_bus (Started o) w) u m (signals ms)) (leg_of w u m ms)
+  pub leg_goes : (o : Option OpenTransfer) (ms : List Move) → Goes w m (run_of (side_bus (Started o) w) u m (signals ms)) (leg_of w u m ms)
   unfolding run_of signals replies leg_of due_of signal_of wire_signal fetch_at
   leg_goes o [] = record { bus = Started o; run = refl; due = refl }
   leg_goes o (move_fetch a ∷ ms) = more w u m (side_bus (Started o) w) (NotedFetch a) (signals ms) _ _ refl refl (leg_goes o ms)

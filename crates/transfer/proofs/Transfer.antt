@@ -1,4 +1,6 @@
 -- The whole transfer is what its signals give one by one. Assumes nothing.
+use Rattle.std.specs.Prelude.{Option}
+use Rattle.bus.specs.declared.OpenTransfer.{OpenTransfer}
 use mathlib.Core.Path.{◌≡◌, refl, sym, ap, ◌∙◌}
 use mathlib.Core.Bool.{Bool, true, false, false≢true}
 use mathlib.Core.List.{List, [], ◌∷◌, ◌++◌, append-nil, append_assoc}
@@ -8,7 +10,6 @@ use lib.Seq.{length-sets}
 use Rattle.parts.specs.Pick.{pick}
 use Rattle.parts.proofs.Picks.{pick_true, pick_false, pick_map}
 use Rattle.bus.specs.declared.Space.TheVariants.{User, System}
-use Rattle.bus.specs.declared.Transfer.{Transfer}
 use Rattle.bus.specs.declared.Bus.{Bus}
 use Rattle.bus.specs.declared.Bus.TheVariants.{Idle, Started}
 use Rattle.tag.specs.declared.Host.{Host}
@@ -104,7 +105,7 @@ choose_ready : (x : ℕ) (v p : Bool) → v ≡ true → p ≡ false → choose 
 unfolding choose pick
 choose_ready x v p h k = rw (h, k)
 
-refused_run : (w : WireSide) (u : Uid) (m : List ℕ) (o : Transfer) (x : ℕ) (ms : List Move) (c : Choice)
+refused_run : (w : WireSide) (u : Uid) (m : List ℕ) (o : Option OpenTransfer) (x : ℕ) (ms : List Move) (c : Choice)
     → choose w.host.vcc w.host.programming x ≡ c → c ≡ NotAcked
     → run_of (side_bus (Started o) w) u m (NotedSend x ∷ signals ms) ≡ transfer_result (selected_leg c w u m ms).answers (side_bus Idle w) m
 unfolding selected_leg select_by signal_of wire_signal send_at fetch_at
@@ -113,7 +114,7 @@ refused_run w u m o x ms c q h =
     (ap (λ (c : Choice). select_by c (kept_of o w.core.registers.dynamic) (side_bus (Started o) w) m) (q ∙ h)) (still (side_bus Idle w) u m (λ x. refl) (λ a. refl) ms)
     ∙ ap (λ (c : Choice). transfer_result (selected_leg c w u m ms).answers (side_bus Idle w) m) (sym h)
 
-refused_leg : (w : WireSide) (u : Uid) (m : List ℕ) (o : Transfer) → Ready w m → (ms : List Move) → refuses true ms ≡ true
+refused_leg : (w : WireSide) (u : Uid) (m : List ℕ) (o : Option OpenTransfer) → Ready w m → (ms : List Move) → refuses true ms ≡ true
     → run_of (side_bus (Started o) w) u m (signals ms) ≡ transfer_result (leg_of w u m ms).answers (side_bus Idle w) m
 unfolding refuses leg_of signals signal_of wire_signal fetch_at
 refused_leg w u m o y [] h = absurd (false≢true h)
@@ -137,12 +138,12 @@ last_off w u m e n v h g =
     run_then n (NotedVccOff ∷ []) v u m _ g.run
     ∙ ap (λ (x : WireResult). transfer_result (e.answers ++ x.answer ∷ []) x.side x.memory) (offs g.bus (counting e w) u (filled e m) e.due h)
 
-last_refused : (w : WireSide) (u : Uid) (m : List ℕ) (o : Transfer) → Ready w m → (ms : List Move) → refuses true ms ≡ true
+last_refused : (w : WireSide) (u : Uid) (m : List ℕ) (o : Option OpenTransfer) → Ready w m → (ms : List Move) → refuses true ms ≡ true
     → run_of (side_bus (Started o) w) u m (signals ms ++ []) ≡ last_leg at_refusal (leg_of w u m ms) w m
 unfolding last_leg
 last_refused w u m o y ms h = ap (run_of (side_bus (Started o) w) u m) (append-nil (signals ms)) ∙ refused_leg w u m o y ms h
 
-last_run : (w : WireSide) (u : Uid) (m : List ℕ) (o : Transfer) → Ready w m → (ms : List Move) (end : Finish) → done true (last ms end) ≡ true
+last_run : (w : WireSide) (u : Uid) (m : List ℕ) (o : Option OpenTransfer) → Ready w m → (ms : List Move) (end : Finish) → done true (last ms end) ≡ true
     → run_of (side_bus (Started o) w) u m (signals ms ++ end_signals end) ≡ last_leg end (leg_of w u m ms) w m
 unfolding done end_signals
 last_run w u m o y ms at_stop h = last_stop w u m (leg_of w u m ms) (signals ms) (side_bus (Started o) w) (leg_goes w u m y.bytes o ms)
@@ -158,8 +159,8 @@ start_ready w m e y = record {
   bytes = ap (λ (m : List ℕ). length m) (start_memory e.due (counting e w) (filled e m)) ∙ length-sets m 768 e.page ∙ y.bytes;
 }
 
-leg_run : (w : WireSide) (u : Uid) (m : List ℕ) (o : Transfer) → Ready w m → (ms : List Move) (n : List Noted) (rest : WireSide → List ℕ → TransferResult)
-    → ((w : WireSide) (m : List ℕ) (o : Transfer) → Ready w m → run_of (side_bus (Started o) w) u m n ≡ rest w m)
+leg_run : (w : WireSide) (u : Uid) (m : List ℕ) (o : Option OpenTransfer) → Ready w m → (ms : List Move) (n : List Noted) (rest : WireSide → List ℕ → TransferResult)
+    → ((w : WireSide) (m : List ℕ) (o : Option OpenTransfer) → Ready w m → run_of (side_bus (Started o) w) u m n ≡ rest w m)
     → (e : Leg) → Goes w m (run_of (side_bus (Started o) w) u m (signals ms)) e
     → run_of (side_bus (Started o) w) u m (signals ms ++ NotedStart ∷ n)
     ≡ before (e.answers ++ Nothing ∷ [])
@@ -172,7 +173,7 @@ leg_run w u m o y ms n rest ih e g =
     (ih r.side r.memory (transfer_at g.bus) (start_ready w m e y)))
     ∙ rw (append_assoc e.answers (Nothing ∷ []))
 
-pub legs_run : (l : Legs) → done true l ≡ true → (u : Uid) (w : WireSide) (m : List ℕ) (o : Transfer) → Ready w m
+pub legs_run : (l : Legs) → done true l ≡ true → (u : Uid) (w : WireSide) (m : List ℕ) (o : Option OpenTransfer) → Ready w m
     → run_of (side_bus (Started o) w) u m (render l) ≡ legs_of w u m l
 unfolding render done legs_of
 legs_run (last ms end) h u w m o y = last_run w u m o y ms end h

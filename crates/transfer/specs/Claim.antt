@@ -1,6 +1,6 @@
 -- The whole transfer is what its signals give one by one: every answer, the wire side and all 1,024 bytes.
-use Rattle.std.specs.Prelude.{◌≡◌, true, false, List, [], ◌∷◌, ℕ, length}
-use Rattle.bus.specs.declared.Transfer.{Transfer}
+use Rattle.std.specs.Prelude.{◌≡◌, true, false, List, [], ◌∷◌, ℕ, length, Option}
+use Rattle.bus.specs.declared.OpenTransfer.{OpenTransfer}
 use Rattle.bus.specs.declared.Bus.TheVariants.{Started}
 use Rattle.tag.specs.declared.WireSide.{WireSide}
 use Rattle.keys.specs.declared.Uid.{Uid}
@@ -26,5 +26,5 @@ pub record Ready (w : WireSide) (m : List ℕ) : Type 0 where
 -- what is noted comes after the first Start, up to the end of the transfer; the bus is started, a transfer open or not
 abbrev pub TransferBySignals : Type 0
 TransferBySignals =
-    (noted : List Noted) → finished true noted ≡ true → (w : WireSide) (u : Uid) (m : List ℕ) (transfer : Transfer) → Ready w m
+    (noted : List Noted) → finished true noted ≡ true → (w : WireSide) (u : Uid) (m : List ℕ) (transfer : Option OpenTransfer) → Ready w m
     → transfer_of w u m noted ≡ run_of (side_bus (Started transfer) w) u m noted

@@ -1,4 +1,6 @@
 -- The waiting tag follows the tag by signals, call by call. Assumes nothing.
+use Rattle.std.specs.Prelude.{Option}
+use Rattle.bus.specs.declared.OpenTransfer.{OpenTransfer}
 use mathlib.Core.Path.{◌≡◌, refl, sym, ap, subst, ◌∙◌}
 use mathlib.Core.Bool.{Bool, true, false, not, false≢true}
 use mathlib.Core.List.{List, [], ◌∷◌, ◌++◌, append_assoc}
@@ -9,7 +11,6 @@ use lib.ListN.{length, length-append}
 use Rattle.parts.proofs.Picks.{pick_case}
 use Rattle.register_types.specs.declared.RfMngt.{RfMngt}
 use Rattle.air.specs.declared.Air.{Air}
-use Rattle.bus.specs.declared.Transfer.{Transfer}
 use Rattle.bus.specs.declared.Bus.{Bus}
 use Rattle.bus.specs.declared.Bus.TheVariants.{Started}
 use Rattle.tag.specs.declared.Host.{Host}
@@ -61,7 +62,7 @@ answers (inside out k n sl) = out ++ fill sl (running k n).answers
 -- and RF_MNGT_Dyn counts as it stands in the kept tag
 pub record Inside (k : Device) (n : List Noted) (sl : List Pending) : Type 0 where
   pub ready : Ready (wire_side k.tag) k.memory
-  pub before : Transfer
+  pub before : Option OpenTransfer
   pub at : k.tag.host.bus ≡ Started before
   pub places : waiting sl ≡ length n
   pub state : Open (running k n).side.host

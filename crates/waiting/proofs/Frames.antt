@@ -1,4 +1,6 @@
 -- A frame and an end-of-frame while a transfer is open, by the entry point and by the waiting tag. Assumes nothing.
+use Rattle.std.specs.Prelude.{Option}
+use Rattle.bus.specs.declared.OpenTransfer.{OpenTransfer}
 use mathlib.Core.Path.{◌≡◌, refl, sym, ap, ◌∙◌}
 use mathlib.Core.Bool.{Bool, true, false, ◌||◌}
 use mathlib.Core.List.{List}
@@ -8,7 +10,6 @@ use Rattle.parts.specs.Bits.{is_set}
 use Rattle.parts.proofs.Bools.{or_second}
 use Rattle.register_types.specs.declared.RfMngt.{RfMngt}
 use Rattle.air.specs.declared.Air.{Air}
-use Rattle.bus.specs.declared.Transfer.{Transfer}
 use Rattle.bus.specs.Bus.{is_open_transfer, counted_dynamic, kept_of, transfer_at, is_open}
 use Rattle.keys.specs.declared.Uid.{Uid}
 use Rattle.tag.specs.declared.Tag.{Tag}
@@ -50,12 +51,12 @@ by_flag true a b t m x y p q = p
 by_flag false a b t m x y p q = q
 
 -- with a transfer open the tag is shut out
-is_shut : (t : RadioSide) (transfer : Transfer) (programming : Bool) → is_open_transfer transfer ≡ true
+is_shut : (t : RadioSide) (transfer : Option OpenTransfer) (programming : Bool) → is_open_transfer transfer ≡ true
     → (is_set 1 (counted_dynamic transfer t.core.registers.dynamic).bits || (is_open_transfer transfer || programming)) ≡ true
 is_shut t transfer programming h =
     or_second (is_set 1 (counted_dynamic transfer t.core.registers.dynamic).bits) (is_open_transfer transfer || programming) (rw h)
 
-pub shut_told : (t : RadioSide) (u : Uid) (vcc : Bool) (transfer : Transfer) (programming : Bool) (m s : List ℕ) → is_open_transfer transfer ≡ true
+pub shut_told : (t : RadioSide) (u : Uid) (vcc : Bool) (transfer : Option OpenTransfer) (programming : Bool) (m s : List ℕ) → is_open_transfer transfer ≡ true
     → radio_of t u vcc transfer programming m s ≡ command_result (shut_by s t.air u (counted_dynamic transfer t.core.registers.dynamic)) t m
 unfolding radio_of shut_out error_of
 shut_told t u vcc transfer programming m s h =

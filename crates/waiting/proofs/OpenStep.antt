@@ -1,4 +1,5 @@
 -- What one noted signal does to an open transfer, and that only an Acked select opens one. Assumes nothing.
+use Rattle.std.specs.Prelude.{Option}
 use mathlib.Core.Path.{◌≡◌, refl, sym, ap, subst, ◌∙◌}
 use mathlib.Core.Bool.{Bool, true, false, not, ◌&&◌, false≢true}
 use mathlib.Core.List.{List, [], ◌∷◌}
@@ -8,7 +9,6 @@ use Rattle.parts.specs.Pick.{pick}
 use Rattle.parts.proofs.Picks.{pick_true, pick_false, pick_case}
 use Rattle.bus.specs.declared.Space.{Space}
 use Rattle.bus.specs.declared.OpenTransfer.{OpenTransfer}
-use Rattle.bus.specs.declared.Transfer.{Transfer}
 use Rattle.bus.specs.declared.Bus.{Bus}
 use Rattle.bus.specs.declared.Bus.TheVariants.{Idle, Started, ReadLeg, WriteLeg, LowAddress, DataLeg}
 use Rattle.tag.specs.declared.Host.{Host}
@@ -222,7 +222,7 @@ noted_as ProgrammingEnd = is_idle refl programming_idles
 
 -- an Acked select finds the bus started, VCC on and nothing being programmed
 pub record Selects (h : Host) (x : ℕ) : Type 0 where
-  pub before : Transfer
+  pub before : Option OpenTransfer
   pub at : h.bus ≡ Started before
   pub vcc : h.vcc ≡ true
   pub still : h.programming ≡ false

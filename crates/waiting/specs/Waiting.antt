@@ -1,9 +1,8 @@
 -- The waiting tag. "The waiting tag gets each call's arguments but, after the start, neither state nor memory;
 -- it keeps a tag of its own and the open transfer's wire signals."
-use Rattle.std.specs.Prelude.{Bool, true, false, not, ◌&&◌, List, [], ◌∷◌, ◌++◌, ℕ}
+use Rattle.std.specs.Prelude.{Bool, true, false, not, ◌&&◌, List, [], ◌∷◌, ◌++◌, ℕ, Option, Some, None}
+use Rattle.bus.specs.declared.OpenTransfer.{OpenTransfer}
 use Rattle.parts.specs.Pick.{pick}
-use Rattle.bus.specs.declared.Transfer.{Transfer}
-use Rattle.bus.specs.declared.Transfer.TheVariants.{Closed, Open}
 use Rattle.bus.specs.declared.Bus.{Bus}
 use Rattle.bus.specs.declared.Bus.TheVariants.{Idle, Started, ReadLeg, WriteLeg, LowAddress, DataLeg}
 use Rattle.bus.specs.Bus.{kept_of}
@@ -105,8 +104,8 @@ note out d noted pending =
     (inside out d noted pending)
 
 -- "frames are answered from the kept tag, a transfer being open"
-abbrev pub as_opened : Device → Transfer
-as_opened d = Open (kept_of Closed d.tag.core.registers.dynamic)
+abbrev pub as_opened : Device → Option OpenTransfer
+as_opened d = Some (kept_of None d.tag.core.registers.dynamic)
 
 unfoldable pub frame_answer : Device → Call → CallAnswer
 frame_answer d call =

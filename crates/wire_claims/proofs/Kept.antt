@@ -1,4 +1,5 @@
 -- Every signal keeps the ranges. Assumes nothing.
+use Rattle.std.specs.Prelude.{Option, Some, None}
 use mathlib.Core.Path.{◌≡◌, refl, ap, subst, ◌∙◌}
 use mathlib.Core.Bool.{Bool, true, false, not, ◌&&◌, ◌||◌, and-false, true≢false, false≢true}
 use mathlib.Core.List.{List}
@@ -17,8 +18,6 @@ use Rattle.registers.specs.Map.{with_dynamic}
 use Rattle.bus.specs.declared.Space.{Space}
 use Rattle.bus.specs.declared.Space.TheVariants.{User, System}
 use Rattle.bus.specs.declared.OpenTransfer.{OpenTransfer}
-use Rattle.bus.specs.declared.Transfer.{Transfer}
-use Rattle.bus.specs.declared.Transfer.TheVariants.{Closed, Open}
 use Rattle.mailbox.specs.declared.Mailbox.{Mailbox}
 use Rattle.bus.specs.declared.Bus.{Bus}
 use Rattle.bus.specs.declared.Bus.TheVariants.{Idle, Started, ReadLeg, WriteLeg, LowAddress, DataLeg}
@@ -154,10 +153,10 @@ module _ (w : WireSide) (f : Fits w) where
   started_fits v = record { registers = f.registers; mailbox = f.mailbox; room = refl; alone = f.alone; kept = f.kept; supplied = rw v }
 
   -- what an Acked select after a Start keeps
-  select_keeps : (o : Transfer) → w.host.bus ≡ Started o → transfer_in_range (Open (kept_of o w.core.registers.dynamic)) ≡ true
+  select_keeps : (o : Option OpenTransfer) → w.host.bus ≡ Started o → transfer_in_range (Some (kept_of o w.core.registers.dynamic)) ≡ true
   unfolding kept_of transfer_at transfer_in_range
-  select_keeps Closed e = dynamic_defined w.core.registers f.registers
-  select_keeps (Open x) e = subst (λ (b : Bus). transfer_in_range (transfer_at b) ≡ true) e f.kept
+  select_keeps None e = dynamic_defined w.core.registers f.registers
+  select_keeps (Some x) e = subst (λ (b : Bus). transfer_in_range (transfer_at b) ≡ true) e f.kept
 
   -- RF_PUT cleared
   read_fits : Fits (with_wire_core (with_mailbox (host_read w.core.mailbox) w.core) w)
@@ -278,13 +277,13 @@ module _ (w : WireSide) (m : List ℕ) (k : Kept w m) where
       d
 
   -- a select
-  select_by_lem : Leg w → (kept : OpenTransfer) → transfer_in_range (Open kept) ≡ true → (c : Choice) → K (select_by c kept w m)
+  select_by_lem : Leg w → (kept : OpenTransfer) → transfer_in_range (Some kept) ≡ true → (c : Choice) → K (select_by c kept w m)
   unfolding select_by page_bytes transfer_at bus_in_range
   select_by_lem l kept t NotAcked = idle
   select_by_lem l kept t (Reading s) = moved l w.host.counter (ReadLeg kept s false false) refl t refl
   select_by_lem l kept t (Writing s) = moved l w.host.counter (WriteLeg kept s) refl t refl
 
-  select_kept : (x : ℕ) (kept : OpenTransfer) → transfer_in_range (Open kept) ≡ true → K (select_by (choose w.host.vcc w.host.programming x) kept w m)
+  select_kept : (x : ℕ) (kept : OpenTransfer) → transfer_in_range (Some kept) ≡ true → K (select_by (choose w.host.vcc w.host.programming x) kept w m)
   unfolding choose select_by
   select_kept x kept t =
       pick_case (λ (c : Choice). K (select_by c kept w m)) (w.host.programming || not w.host.vcc) NotAcked (select_of x) (λ h. idle)
@@ -298,7 +297,7 @@ module _ (w : WireSide) (m : List ℕ) (k : Kept w m) where
     unfolding is_open transfer_at is_open_transfer is_active
     leg_is = in_leg w k.side (ap is_open e) (ap is_active e)
 
-    kept_is : transfer_in_range (Open kept) ≡ true
+    kept_is : transfer_in_range (Some kept) ≡ true
     unfolding transfer_at
     kept_is = kept_at (DataLeg kept s n spoiled) e
 

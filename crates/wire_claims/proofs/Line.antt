@@ -1,4 +1,5 @@
 -- What a signal does to the counter, and what one that leaves a transfer open keeps. Assumes nothing.
+use Rattle.std.specs.Prelude.{Option, Some, None}
 use mathlib.Core.Path.{◌≡◌, refl, sym, ap, subst, ◌∙◌}
 use mathlib.Core.Bool.{Bool, true, false, ◌&&◌, ◌||◌, false≢true}
 use mathlib.Core.List.{List}
@@ -9,8 +10,6 @@ use Rattle.parts.specs.Bits.{is_set}
 use Rattle.parts.proofs.Picks.{pick_case}
 use Rattle.bus.specs.declared.Space.{Space}
 use Rattle.bus.specs.declared.OpenTransfer.{OpenTransfer}
-use Rattle.bus.specs.declared.Transfer.{Transfer}
-use Rattle.bus.specs.declared.Transfer.TheVariants.{Closed, Open}
 use Rattle.bus.specs.declared.Bus.{Bus}
 use Rattle.bus.specs.declared.Bus.TheVariants.{Idle, Started, ReadLeg, WriteLeg, LowAddress, DataLeg}
 use Rattle.register_types.specs.declared.RfMngt.{RfMngt}
@@ -130,21 +129,21 @@ module _ (w : WireSide) (m : List ℕ) where
   fetch_leaves (DataLeg kept s n spoiled) u ack = (refl, refl)
 
 -- ---- RF_MNGT_Dyn as it counts for frames
-kept_counted : (o : Transfer) (d : RfMngt) → (kept_of o d).dynamic ≡ counted_dynamic o d
+kept_counted : (o : Option OpenTransfer) (d : RfMngt) → (kept_of o d).dynamic ≡ counted_dynamic o d
 unfolding kept_of counted_dynamic
-kept_counted Closed d = refl
-kept_counted (Open kept) d = refl
+kept_counted None d = refl
+kept_counted (Some kept) d = refl
 
 -- with none open the register counts, with one open it does not
-pub closed_counted : (t : Transfer) (d : RfMngt) → is_open_transfer t ≡ false → counted_dynamic t d ≡ d
+pub closed_counted : (t : Option OpenTransfer) (d : RfMngt) → is_open_transfer t ≡ false → counted_dynamic t d ≡ d
 unfolding is_open_transfer counted_dynamic
-closed_counted Closed d h = refl
-closed_counted (Open kept) d h = absurd (false≢true (sym h))
+closed_counted None d h = refl
+closed_counted (Some kept) d h = absurd (false≢true (sym h))
 
-counted_open : (t : Transfer) (d e : RfMngt) → is_open_transfer t ≡ true → counted_dynamic t d ≡ counted_dynamic t e
+counted_open : (t : Option OpenTransfer) (d e : RfMngt) → is_open_transfer t ≡ true → counted_dynamic t d ≡ counted_dynamic t e
 unfolding is_open_transfer counted_dynamic
-counted_open Closed d e h = absurd (false≢true h)
-counted_open (Open kept) d e h = refl
+counted_open None d e h = absurd (false≢true h)
+counted_open (Some kept) d e h = refl
 
 module _ (w : WireSide) (m : List ℕ) where
   abbrev Q : WireSide → Type 0
@@ -156,7 +155,7 @@ module _ (w : WireSide) (m : List ℕ) where
   at_bus : (b : Bus) → w.host.bus ≡ b → counted_dynamic (transfer_at b) w.core.registers.dynamic ≡ side_counted w
   at_bus b e = ap (λ (b : Bus). counted_dynamic (transfer_at b) w.core.registers.dynamic) (sym e)
 
-  select_counted : (o : Transfer) → w.host.bus ≡ Started o → (c : Choice) → QR (select_by c (kept_of o w.core.registers.dynamic) w m)
+  select_counted : (o : Option OpenTransfer) → w.host.bus ≡ Started o → (c : Choice) → QR (select_by c (kept_of o w.core.registers.dynamic) w m)
   unfolding select_by is_open is_open_transfer transfer_at counted_dynamic
   select_counted o e NotAcked h = absurd (false≢true h)
   select_counted o e (Reading s) h = kept_counted o w.core.registers.dynamic ∙ at_bus (Started o) e

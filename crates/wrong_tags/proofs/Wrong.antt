@@ -1,4 +1,5 @@
 -- Tags that demand 3 shuts out, each by one list. Assumes nothing.
+use Rattle.std.specs.Prelude.{None}
 use mathlib.Core.Path.{◌≡◌, refl, sym, ap}
 use mathlib.Core.Bool.{true, false, false≢true}
 use mathlib.Core.List.{List, [], ◌∷◌, ◌++◌}
@@ -8,7 +9,6 @@ use lib.ListN.{get_or, replicate}
 use Rattle.register_types.specs.Types.{rf_mngt}
 use Rattle.registers.specs.Map.{with_dynamic}
 use Rattle.air.specs.declared.RadioState.TheVariants.{Selected}
-use Rattle.bus.specs.declared.Transfer.TheVariants.{Closed}
 use Rattle.bus.specs.declared.Bus.TheVariants.{Started}
 use Rattle.bus.specs.Bus.{is_open, page_bytes}
 use Rattle.air.specs.Radio.{is_selected}
@@ -328,7 +328,7 @@ tellings =
     also (λ h. ends_in_ack (h (powered but being_programmed) (programming_end ∷ []) refl refl refl refl refl))
     also (λ h. ends_in_ack (h (powered but field_is false but radio_state Selected) (programming_end ∷ []) refl refl refl refl refl))
     also (λ h. ends_in_ack (h (powered but field_is false but radio_session 1) (programming_end ∷ []) refl refl refl refl refl))
-    also (λ h. ends_in_ack (h (powered but on_bus (Started Closed)) (programming_end ∷ []) refl refl refl refl refl))
+    also (λ h. ends_in_ack (h (powered but on_bus (Started None)) (programming_end ∷ []) refl refl refl refl refl))
     also (λ h. ends_in_ack (h waiting_mail (programming_end ∷ []) refl refl refl refl refl))
     also (λ h. ends_in_ack (h (powered but vcc_is false but counter_at 5) (programming_end ∷ []) refl refl refl refl refl))
     also drops_at_start_told

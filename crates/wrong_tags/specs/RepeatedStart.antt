@@ -1,10 +1,9 @@
 -- Tags that take a repeated Start wrongly, or keep RF_MNGT_Dyn of another moment for the frames inside a transfer. Code 3 is a Start, 4 a byte sent.
-use Rattle.std.specs.Prelude.{Bool, true, false, not, ◌&&◌, ℕ, ◌+◌, ◌-◌, ◌*◌, ◌/◌, ◌%◌, eqb, ltb}
+use Rattle.std.specs.Prelude.{Bool, true, false, not, ◌&&◌, ℕ, ◌+◌, ◌-◌, ◌*◌, ◌/◌, ◌%◌, eqb, ltb, Some, None}
 use Rattle.parts.specs.Pick.{pick}
 use Rattle.parts.specs.Bits.{is_set}
 use Rattle.register_types.specs.Types.{rf_mngt}
 use Rattle.bus.specs.declared.OpenTransfer.{OpenTransfer}
-use Rattle.bus.specs.declared.Transfer.TheVariants.{Closed, Open}
 use Rattle.bus.specs.declared.Bus.{Bus}
 use Rattle.bus.specs.declared.Bus.TheVariants.{Idle, Started, ReadLeg, WriteLeg, LowAddress, DataLeg}
 use Rattle.bus.specs.Bus.{kept_of, page_bytes}
@@ -76,7 +75,7 @@ wakes_at_once = judging_as_it_stands not
 -- an open transfer's bus, keeping another
 unfoldable pub keeping : OpenTransfer → Bus → Bus
 keeping kept Idle = Idle
-keeping kept (Started transfer) = Started (Open kept)
+keeping kept (Started transfer) = Started (Some kept)
 keeping kept (ReadLeg x space over last) = ReadLeg kept space over last
 keeping kept (WriteLeg x space) = WriteLeg kept space
 keeping kept (LowAddress x space high) = LowAddress kept space high
@@ -91,7 +90,7 @@ keeping_anew when d call =
     let result = entry d call in
     let after = result.device in
     pick (transfer_open after.tag && when d call after)
-    (device_result result.says (keeping_on (kept_of Closed after.tag.core.registers.dynamic) after))
+    (device_result result.says (keeping_on (kept_of None after.tag.core.registers.dynamic) after))
     result
 
 -- at each select
@@ -123,4 +122,4 @@ keeps_from_start d call =
     device_result result.says
     (pick (waits && eqb call.code 3) (holding after.tag.core.registers.dynamic.bits after)
     (pick (waits && is_holding d) (holding (held d) after)
-    (pick (is_holding d) (keeping_on (kept_of Closed (rf_mngt (held d))) after) after)))
+    (pick (is_holding d) (keeping_on (kept_of None (rf_mngt (held d))) after) after)))

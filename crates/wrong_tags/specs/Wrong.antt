@@ -1,7 +1,6 @@
 -- Tags that demand 3 shuts out: each is the entry point with one thing changed. Code 1 with value 0 is VCC off, 6 a Stop, 8 a frame, 9 an end-of-frame.
-use Rattle.std.specs.Prelude.{Bool, true, not, ◌&&◌, List, [], ◌∷◌, ℕ, eqb, take}
+use Rattle.std.specs.Prelude.{Bool, true, not, ◌&&◌, List, [], ◌∷◌, ℕ, eqb, take, Some, None}
 use Rattle.parts.specs.Pick.{pick}
-use Rattle.bus.specs.declared.Transfer.TheVariants.{Closed, Open}
 use Rattle.bus.specs.declared.Bus.TheVariants.{Idle, Started}
 use Rattle.bus.specs.Bus.{kept_of}
 use Rattle.tag.specs.declared.Core.{Core}
@@ -70,7 +69,7 @@ counts_anew = counts_inside (λ (call : Call). eqb call.code 8 && inventory_flag
 
 -- a transfer open that would have begun with the registers as they stand
 abbrev pub as_it_stands : Device → Device
-as_it_stands d = on_bus (Started (Open (kept_of Closed d.tag.core.registers.dynamic))) d
+as_it_stands d = on_bus (Started (Some (kept_of None d.tag.core.registers.dynamic))) d
 
 -- the call with a Stop for its signal
 abbrev pub stopping : Call → Call

@@ -1,11 +1,16 @@
-use Rattle.register_types.proofs.Passed.{picks}
-use borrow.Author.Rules.{rules}
+use mathlib.Core.Path.{◌≡◌}
+use mathlib.Core.Bool.{Bool, true, false}
+use Prim.Native.Nat.{ℕ, ◌*◌}
+use native.Mathlib.Omega.{arith}
+use mir.Val.{bool_byte}
+use Rattle.register_types.specs.Passed.{pick}
+use Rattle.mailbox.specs.Mailbox.{weight}
 use Rattle.mailbox.proofs.weight.Goals as goal
 
-pub returns-then-on : goal.returns-then-on
-returns-then-on c =
-    record { value = search picks depth 20; upper_bound = search rules }
+by_flag : (on : Bool) (n : ℕ) → bool_byte on * n ≡ weight on n
+unfolding pick
+by_flag true n = omega arith
+by_flag false n = omega arith
 
-pub returns : goal.returns
-returns c =
-    record { value = search picks depth 20; upper_bound = search rules }
+pub returns-clause-value : goal.returns-clause-value
+returns-clause-value c = rw c.from.ensures (by_flag c.args.on c.args.n)

@@ -1,4 +1,8 @@
+use mathlib.Core.Path.{ap, ◌∙◌}
+use mathlib.Core.Bool.{not}
 use mathlib.Core.List.{[]}
+use native.Mathlib.Omega.{arith}
+use Rattle.keys.proofs.Same.{password_eq}
 use Rattle.parts.proofs.Picks.{picks}
 use Rattle.errors.specs.declared.RadioError.TheVariants.{NoSuchPassword, WrongPassword}
 use Rattle.reply.specs.Reply.{good, fault}
@@ -12,18 +16,18 @@ returns-then-n-gt-LAST c =
     let a = c.args in
     said (present_of a.v a.m.now a.n a.frame.now a.at) _ (fault NoSuchPassword) c.error.ensures (search picks depth 20)
 
-pub returns-then-not-equals : goal.returns-then-not-equals
+pub returns-then-ne : goal.returns-then-ne
 unfolding present_of
-returns-then-not-equals c =
+returns-then-ne c =
     let a = c.args in
-    let same = rw (c.radio.ensures, c.at.ensures) at c.equals.ensures in
-    said (present_of a.v a.m.now a.n a.frame.now a.at) _ (fault WrongPassword) c.error-then-not-equals.ensures
+    let same = rw (c.radio.ensures, c.at.ensures) at (c.ne.ensures ∙ ap not (password_eq c.radio.result c.at.result (omega arith) (omega arith))) in
+    said (present_of a.v a.m.now a.n a.frame.now a.at) _ (fault WrongPassword) c.error-then-ne.ensures
     (rw (c.with_air-closed.ensures, c.with_session.ensures, ← same) (search picks depth 20))
 
 pub returns : goal.returns
 unfolding present_of
 returns c =
     let a = c.args in
-    let same = rw (c.radio.ensures, c.at.ensures) at c.equals.ensures in
+    let same = rw (c.radio.ensures, c.at.ensures) at (c.ne.ensures ∙ ap not (password_eq c.radio.result c.at.result (omega arith) (omega arith))) in
     said (present_of a.v a.m.now a.n a.frame.now a.at) _ (good []) c.done.ensures
     (rw (c.with_air-opened.ensures, c.with_session-2.ensures, ← same) (search picks depth 20))

@@ -2,6 +2,7 @@ use mathlib.Core.Path.{◌≡◌, refl}
 use Prim.Native.Nat.{◌-◌}
 use native.Mathlib.Omega.{arith}
 use native.Mathlib.Numerals.{add-one}
+use Rattle.keys.proofs.Same.{uid_eq}
 use Rattle.rack_judge.specs.Judge.{uid_among}
 use Rattle.rack_judge.proofs.uid_among.Goals as goal
 
@@ -13,7 +14,7 @@ pub loop-i-preserved : goal.loop-i-preserved
 unfolding uid_among
 loop-i-preserved c =
     let l = c.loop-i in
-    (rw (add-one l.i, c.equals-found.ensures, l.invariant.0), omega arith)
+    (rw (add-one l.i, c.eq-found.ensures, uid_eq _ l.u (omega arith) (omega arith), l.invariant.0), omega arith)
 
 pub returns : goal.returns
 returns c =

@@ -1,10 +1,10 @@
 use Rattle.ranges.specs.Ranges.{transfer_in_range}
 use Rattle.ranges.proofs.transfer_in_range.Goals as goal
 
-pub returns-in-Closed : goal.returns-in-Closed
+pub returns-in-None : goal.returns-in-None
 unfolding transfer_in_range
-returns-in-Closed c = rw c.in-Closed.is
+returns-in-None c = rw c.in-None.is
 
-pub returns-in-Open : goal.returns-in-Open
+pub returns-in-Some : goal.returns-in-Some
 unfolding transfer_in_range
-returns-in-Open c = rw (c.keep.ensures, c.in-Open.is)
+returns-in-Some c = rw (c.keep.ensures, c.in-Some.is)

@@ -2,14 +2,14 @@ use Rattle.parts.proofs.Picks.{picks}
 use Rattle.state.specs.Layout.{radio_state_of}
 use Rattle.state_decode.proofs.radio_state_of.Goals as goal
 
-pub returns-then-n-eq1 : goal.returns-then-n-eq1
+pub returns-in-1 : goal.returns-in-1
 unfolding radio_state_of
-returns-then-n-eq1 c = search picks depth 20
+returns-in-1 c = search (picks, c.in-1.is) depth 20
 
-pub returns-then-n-eq2 : goal.returns-then-n-eq2
+pub returns-in-2 : goal.returns-in-2
 unfolding radio_state_of
-returns-then-n-eq2 c = search picks depth 20
+returns-in-2 c = search (picks, c.in-2.is) depth 20
 
-pub returns : goal.returns
+pub returns-in_default : goal.returns-in_default
 unfolding radio_state_of
-returns c = search picks depth 20
+returns-in_default c = search picks depth 20

@@ -1,10 +1,10 @@
 use Rattle.state.specs.Layout.{transfer_byte}
 use Rattle.state_encode.proofs.transfer_byte.Goals as goal
 
-pub returns-in-Closed : goal.returns-in-Closed
+pub returns-in-None : goal.returns-in-None
 unfolding transfer_byte
-returns-in-Closed c = rw c.in-Closed.is
+returns-in-None c = rw c.in-None.is
 
-pub returns-in-Open : goal.returns-in-Open
+pub returns-in-Some : goal.returns-in-Some
 unfolding transfer_byte
-returns-in-Open c = rw c.in-Open.is
+returns-in-Some c = rw c.in-Some.is

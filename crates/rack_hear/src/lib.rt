@@ -37,18 +37,11 @@ pub struct HeardTag {
 }
 
 // ---- what is carried from tag to tag
+#[tactic(auto, unfolding(model::specs::Step::is_reply))]
 fn is_reply(answer: Answer) -> bool
     ensures { result ≡ is_reply answer }
 {
-    match answer {
-        Answer::Refused(why) => false,
-        Answer::Nothing => false,
-        Answer::Ack => false,
-        Answer::NoAck => false,
-        Answer::Byte(x) => false,
-        Answer::Silence => false,
-        Answer::Reply(n) => true,
-    }
+    matches!(answer, Answer::Reply(_))
 }
 
 // The answer of a rack of which no tag replied.
@@ -82,14 +75,8 @@ fn hear_refused(why: Refusal, code: u32, value: u32, to: usize) -> Heard
     ensures { result ≡ hear_refused why code value to }
 {
     Heard {
-        number: 0,
-        at: 0,
-        code,
-        value,
-        to,
-        replied: false,
-        answered: [false; 16],
         answer: Answer::Refused(why),
+        ..hear_start(0, code, value, to)
     }
 }
 
@@ -107,9 +94,7 @@ pub fn hearing(judged: Judgement, number: usize, code: u32, value: u32, to: usiz
 fn passed(heard: Heard, end: usize) -> Heard
     ensures { result ≡ passed_by heard end }
 {
-    let mut b = heard;
-    b.at = end;
-    b
+    Heard { at: end, ..heard }
 }
 
 // The first reply stands.
@@ -131,14 +116,11 @@ fn noted(heard: Heard, i: usize, end: usize, answer: Answer) -> Heard
     let mut answered = heard.answered;
     answered[i] = replied;
     Heard {
-        number: heard.number,
         at: end,
-        code: heard.code,
-        value: heard.value,
-        to: heard.to,
         replied: heard.replied | replied,
         answered,
         answer: first_reply(heard, answer),
+        ..heard
     }
 }
 
@@ -184,29 +166,12 @@ pub fn hear_tag(
 ) -> HeardTag
     ensures { heard_tag result memory.new out.new ≡ hear_of t memory.old out.old frame.now i heard }
 {
-    if heard.number <= i {
-        return HeardTag {
-            heard: heard,
-            tag: t,
-        };
-    }
-    if 15 < i {
-        return HeardTag {
-            heard: heard,
-            tag: t,
-        };
-    }
-    if memory.len() < heard.at {
-        return HeardTag {
-            heard: heard,
-            tag: t,
-        };
-    }
-    if memory.len() - heard.at < tag::MEMORY_BYTES {
-        return HeardTag {
-            heard: heard,
-            tag: t,
-        };
+    if (heard.number <= i)
+        || (15 < i)
+        || (memory.len() < heard.at)
+        || (memory.len() - heard.at < tag::MEMORY_BYTES)
+    {
+        return HeardTag { heard, tag: t };
     }
     if rack_judge::to_all(heard.code) | (i == heard.to) {
         return act_at(t, memory, out, frame, i, heard);

@@ -19,14 +19,10 @@ fn all_decode(s: &[u8], n: usize) -> bool
     ensures { result ≡ all_decode n s.now }
 {
     let mut all = true;
-    let mut i = 0;
-    let mut at = 0;
-    while i < n {
-        let end = at + state::STATE_BYTES;
-        let one = state_judge::decodes(&s[at..end]);
-        all = all & one;
-        at = end;
-        i += 1;
+    for i in 0..n {
+        let at = i * state::STATE_BYTES;
+        let one = state_judge::decodes(&s[at..at + state::STATE_BYTES]);
+        all &= one;
     }
     all
 }
@@ -37,20 +33,13 @@ fn all_in_range(s: &[u8], m: &[u8], n: usize) -> bool
     ensures { result ≡ all_in_range (devices_of (tags_at n s.now) m.now) }
 {
     let mut all = true;
-    let mut i = 0;
-    let mut at = 0;
-    let mut from = 0;
-    while i < n {
-        let end = at + state::STATE_BYTES;
-        let to = from + tag::MEMORY_BYTES;
+    for i in 0..n {
+        let at = i * state::STATE_BYTES;
+        let from = i * tag::MEMORY_BYTES;
         // By the function that a rack's tags are taken by: it stays in one place.
-        let tags = rack_states::decode_tags(&s[at..end]);
-        let t = tags[0];
-        let one = refusals::in_range(t, &m[from..to]);
-        all = all & one;
-        at = end;
-        from = to;
-        i += 1;
+        let tags = rack_states::decode_tags(&s[at..at + state::STATE_BYTES]);
+        let one = refusals::in_range(tags[0], &m[from..from + tag::MEMORY_BYTES]);
+        all &= one;
     }
     all
 }

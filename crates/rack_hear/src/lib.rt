@@ -37,6 +37,7 @@ pub struct HeardTag {
 }
 
 // ---- what is carried from tag to tag
+#[tactic(auto, unfolding(model::specs::Step::is_reply))]
 fn is_reply(answer: Answer) -> bool
     ensures { result ≡ is_reply answer }
 {
@@ -74,14 +75,8 @@ fn hear_refused(why: Refusal, code: u32, value: u32, to: usize) -> Heard
     ensures { result ≡ hear_refused why code value to }
 {
     Heard {
-        number: 0,
-        at: 0,
-        code,
-        value,
-        to,
-        replied: false,
-        answered: [false; 16],
         answer: Answer::Refused(why),
+        ..hear_start(0, code, value, to)
     }
 }
 
@@ -177,16 +172,11 @@ pub fn hear_tag(
 ) -> HeardTag
     ensures { heard_tag result memory.new out.new ≡ hear_of t memory.old out.old frame.now i heard }
 {
-    if heard.number <= i {
-        return HeardTag { heard, tag: t };
-    }
-    if 15 < i {
-        return HeardTag { heard, tag: t };
-    }
-    if memory.len() < heard.at {
-        return HeardTag { heard, tag: t };
-    }
-    if memory.len() - heard.at < tag::MEMORY_BYTES {
+    if (heard.number <= i)
+        || (15 < i)
+        || (memory.len() < heard.at)
+        || (memory.len() - heard.at < tag::MEMORY_BYTES)
+    {
         return HeardTag { heard, tag: t };
     }
     if rack_judge::to_all(heard.code) | (i == heard.to) {

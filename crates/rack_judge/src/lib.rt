@@ -17,10 +17,7 @@ use tag::Tag;
 pub fn tag_count(number: usize) -> usize
     ensures { result ≡ min number most_tags }
 {
-    if number < 16 {
-        return number;
-    }
-    16
+    number.min(16)
 }
 
 // Whether a signal goes to all tags: a field change, a frame or an end-of-frame.
@@ -37,15 +34,10 @@ fn all_in_range(tags: [Tag; 16], n: usize, memory: &[u8]) -> bool
     ensures { result ≡ all_in_range (devices_of (take n tags) memory.now) }
 {
     let mut all = true;
-    let mut i = 0;
-    let mut at = 0;
-    while i < n {
-        let end = at + tag::MEMORY_BYTES;
-        let t = tags[i];
-        let one = refusals::in_range(t, &memory[at..end]);
-        all = all & one;
-        at = end;
-        i += 1;
+    for i in 0..n {
+        let at = i * tag::MEMORY_BYTES;
+        let one = refusals::in_range(tags[i], &memory[at..at + tag::MEMORY_BYTES]);
+        all &= one;
     }
     all
 }
@@ -56,10 +48,8 @@ fn uid_among(uids: [Uid; 16], n: usize, u: Uid) -> bool
     ensures { result ≡ uid_among uids n u }
 {
     let mut found = false;
-    let mut i = 0;
-    while i < n {
+    for i in 0..n {
         found = found | (uids[i] == u);
-        i += 1;
     }
     found
 }
@@ -72,14 +62,11 @@ fn equal_uids(tags: [Tag; 16], n: usize) -> bool
     let none = Uid { bytes: [0; 8] };
     let mut uids = [none; 16];
     let mut found = false;
-    let mut i = 0;
-    while i < n {
-        let t = tags[i];
-        let u = t.uid;
+    for i in 0..n {
+        let u = tags[i].uid;
         let one = uid_among(uids, i, u);
-        found = found | one;
+        found |= one;
         uids[i] = u;
-        i += 1;
     }
     found
 }

@@ -60,12 +60,10 @@ fn put_report(text: &mut [u8], at: usize, answered: [bool; 16]) -> usize
 {
     let mut to = at;
     let mut mark = 0x09;
-    let mut i = 0;
-    while i < 16 {
+    for i in 0..16 {
         let one = answered[i];
         to = put_number(text, to, mark, i as u64, one);
         mark = next_mark(mark, one);
-        i += 1;
     }
     to
 }

@@ -46,7 +46,7 @@ fn add_sent(s: &[u8]) -> RackReading
 fn is_digit(x: u8) -> bool
     ensures { result ≡ is_digit x }
 {
-    (0x30 <= x) & (x <= 0x39)
+    x.is_ascii_digit()
 }
 
 // A decimal number, 0 to 255, without leading zeros.
@@ -58,17 +58,14 @@ fn number_sent(s: &[u8]) -> RackReading
         return RackReading::Bad;
     }
     let mut n = 0u16;
-    let mut i = 0;
-    while i < s.len() {
-        let x = s[i];
-        if !is_digit(x) {
+    for x in s {
+        if !is_digit(*x) {
             return RackReading::Bad;
         }
-        n = 10 * n + (x - b'0') as u16;
+        n = 10 * n + (*x - b'0') as u16;
         if 255 < n {
             return RackReading::Bad;
         }
-        i += 1;
     }
     RackReading::Name(n as u8)
 }

@@ -53,10 +53,13 @@ pub fn add(bench: RackBench, m: &mut [u8; 16384], uid: Uid) -> RackBench
     let i = bench.count;
     let zeros = [0u8; 1024];
     parts::put_bytes(m, tag::MEMORY_BYTES * i, &zeros, 0, tag::MEMORY_BYTES);
-    let mut n = bench;
-    n.tags[i] = Tag::fresh(uid);
-    n.count = i + 1;
-    n
+    let mut tags = bench.tags;
+    tags[i] = Tag::fresh(uid);
+    RackBench {
+        tags,
+        count: i + 1,
+        ..bench
+    }
 }
 
 // How many bytes the tags' memories have together.
@@ -64,8 +67,5 @@ pub fn memory_length(bench: RackBench) -> usize
     ensures value { result ≡ memory_sizes (take bench.count bench.tags) }
     ensures upper_bound { result ≤ 16384 }
 {
-    if bench.count < 16 {
-        return tag::MEMORY_BYTES * bench.count;
-    }
-    16384
+    tag::MEMORY_BYTES * bench.count.min(16)
 }

@@ -36,13 +36,9 @@ pub fn decode_tags(s: &[u8]) -> [Tag; MOST_TAGS]
 {
     let spare = spare_tag();
     let mut tags = [spare; MOST_TAGS];
-    let mut i = 0;
-    let mut at = 0;
-    while (i < MOST_TAGS) & (state::STATE_BYTES <= s.len() - at) {
-        let end = at + state::STATE_BYTES;
-        tags[i] = decode_state(&s[at..end]);
-        at = end;
-        i += 1;
+    for i in 0..MOST_TAGS.min(s.len() / state::STATE_BYTES) {
+        let at = i * state::STATE_BYTES;
+        tags[i] = decode_state(&s[at..at + state::STATE_BYTES]);
     }
     tags
 }
@@ -51,13 +47,8 @@ pub fn decode_tags(s: &[u8]) -> [Tag; MOST_TAGS]
 pub fn encode_tags(tags: [Tag; MOST_TAGS], s: &mut [u8])
     ensures { s.new ≡ stored_tags tags s.old }
 {
-    let mut i = 0;
-    let mut at = 0;
-    while (i < MOST_TAGS) & (state::STATE_BYTES <= s.len() - at) {
-        let end = at + state::STATE_BYTES;
-        let t = tags[i];
-        state_encode::encode(t, &mut s[at..end]);
-        at = end;
-        i += 1;
+    for i in 0..MOST_TAGS.min(s.len() / state::STATE_BYTES) {
+        let at = i * state::STATE_BYTES;
+        state_encode::encode(tags[i], &mut s[at..at + state::STATE_BYTES]);
     }
 }

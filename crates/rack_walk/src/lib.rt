@@ -34,12 +34,9 @@ pub fn hear_all(
 ) -> Heard
     ensures { heard_all result tags.new memory.new out.new ≡ hear_all_of (length tags.old) tags.old memory.old out.old frame.now heard }
 {
-    let n = heard.number;
     let mut b = heard;
-    let mut i = 0;
-    while (i < tags.len()) & (i < n) {
+    for i in 0..tags.len().min(heard.number) {
         b = hear_one(tags, memory, out, frame, i, b);
-        i += 1;
     }
     b
 }
@@ -64,8 +61,5 @@ pub fn hear_sixteen(
 {
     let mut lent = tags;
     let heard = hear_all(&mut lent, memory, out, frame, heard);
-    HeardRack {
-        heard: heard,
-        tags: lent,
-    }
+    HeardRack { heard, tags: lent }
 }

@@ -1,6 +1,6 @@
 use mathlib.Core.Path.{◌≡◌}
 use mathlib.Core.Bool.{◌&&◌}
-use Prim.Native.Nat.{◌*◌, ◌-◌, ◌≤◌}
+use Prim.Native.Nat.{◌*◌, ◌-◌}
 use lib.ListN.{drop}
 use Rattle.tag.specs.Layout.{memory_bytes}
 use Rattle.state.specs.Layout.{state_bytes}
@@ -11,7 +11,4 @@ use Rattle.library_rack_refusals.proofs.all_in_range.Given as goal
 
 abbrev pub invariant-loop-i : goal.invariant-loop-i
 invariant-loop-i l =
-    ((l.all && all_in_range (devices_of (tags_at (l.n - l.i) (drop l.at l.s)) (drop l.from l.m))) ≡ all_in_range (devices_of (tags_at l.n l.s) l.m)) × (l.at ≡ l.i * state_bytes) × (l.from ≡ l.i * memory_bytes) × (l.i ≤ l.n)
-
-abbrev pub decreases-loop-i : goal.decreases-loop-i
-decreases-loop-i l = l.n - l.i
+    (l.all && all_in_range (devices_of (tags_at (l.n - l.i) (drop (l.i * state_bytes) l.s)) (drop (l.i * memory_bytes) l.m))) ≡ all_in_range (devices_of (tags_at l.n l.s) l.m)

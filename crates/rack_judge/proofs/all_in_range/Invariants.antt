@@ -1,13 +1,8 @@
 use mathlib.Core.Path.{◌≡◌}
-use Prim.Native.Nat.{◌*◌, ◌-◌, ◌≤◌}
 use lib.ListN.{take}
-use Rattle.tag.specs.Layout.{memory_bytes}
 use Rattle.rack.specs.Rack.{devices_of}
 use Rattle.rack.specs.Rules.{all_in_range}
 use Rattle.rack_judge.proofs.all_in_range.Given as goal
 
 abbrev pub invariant-loop-i : goal.invariant-loop-i
-invariant-loop-i l = (l.all ≡ all_in_range (devices_of (take l.i l.tags) l.memory)) × (l.at ≡ l.i * memory_bytes) × (l.i ≤ l.n)
-
-abbrev pub decreases-loop-i : goal.decreases-loop-i
-decreases-loop-i l = l.n - l.i
+invariant-loop-i l = l.all ≡ all_in_range (devices_of (take l.i l.tags) l.memory)

@@ -10,7 +10,7 @@ use Rattle.rack_judge.proofs.equal_uids.Goals as goal
 
 pub loop-i-init : goal.loop-i-init
 unfolding uids_of equal_uids
-loop-i-init c = (refl, refl, omega arith)
+loop-i-init c = (refl, refl)
 
 pub loop-i-preserved : goal.loop-i-preserved
 loop-i-preserved c =
@@ -20,12 +20,11 @@ loop-i-preserved c =
     let h : l.i < length a.tags = omega (arith, number) in (
       rw (add-one l.i) (gathered_next a.tags l.i _ h number l.uids l.invariant.0),
       rw (add-one l.i) (equal_next a.tags l.i _ h number l.uids l.found c.uid_among-one.result l.invariant.0 l.invariant.1 c.uid_among-one.ensures),
-      omega arith,
     )
 
 pub returns : goal.returns
 returns c =
     let l = c.loop-i in
     let a = c.args in
-    let e : l.i ≡ a.n = omega (arith, l.invariant.2) in
+    let e : l.i ≡ a.n = omega arith in
     rw (← e) l.invariant.1

@@ -8,16 +8,16 @@ use Rattle.rack_judge.proofs.uid_among.Goals as goal
 
 pub loop-i-init : goal.loop-i-init
 unfolding uid_among
-loop-i-init c = (refl, omega arith)
+loop-i-init c = refl
 
 pub loop-i-preserved : goal.loop-i-preserved
 unfolding uid_among
 loop-i-preserved c =
     let l = c.loop-i in
-    (rw (add-one l.i, c.eq-found.ensures, uid_eq _ l.u (omega arith) (omega arith), l.invariant.0), omega arith)
+    rw (add-one l.i, c.eq-found.ensures, uid_eq _ l.u (omega arith) (omega arith), l.invariant)
 
 pub returns : goal.returns
 returns c =
     let l = c.loop-i in
     let e : l.i ≡ c.args.n = omega arith in
-    rw (← e) l.invariant.0
+    rw (← e) l.invariant

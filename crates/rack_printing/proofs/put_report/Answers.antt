@@ -8,14 +8,14 @@ use lib.ListN.{length, drop, get_or, drop_of_length-le}
 use Rattle.parts.specs.Pick.{pick}
 use Rattle.text.specs.Decimal.{decimal}
 use Rattle.text.specs.Place.{Stored, stored, last_place, text_at}
-use Rattle.text.proofs.PlaceLaws.{behind, same_room}
+use Rattle.text.proofs.PlaceLaws.{behind}
 use Rattle.rack.specs.Step.{numbers_from}
 use Rattle.rack_printing.specs.Text.{numbers_text}
 use Rattle.rack_printing.proofs.TextLaws.{report_more}
 use Rattle.rack_printing.proofs.put_report.Goals as goal
 
 pub loop-i-init : goal.loop-i-init
-loop-i-init c = (refl, (omega arith, (omega arith, refl)))
+loop-i-init c = (refl, omega arith)
 
 pub loop-i-preserved : goal.loop-i-preserved
 loop-i-preserved c =
@@ -32,11 +32,8 @@ loop-i-preserved c =
           ∙ behind l.text p.new.text t (numbers_text (pick one 0x2C l.mark) rest) l.to p.result room p.ensures
           ∙ ap (λ (s : List ℕ). text_at l.text l.to s) (sym (report_more a.answered l.i l.mark (omega arith)))
           ∙ l.invariant.0,
-      (omega arith, (omega (arith, ap (λ (s : Stored). s.next) p.ensures), same_room l.text p.new.text t l.to p.result p.ensures ∙ l.invariant.1.1.1)),
+      omega (arith, ap (λ (s : Stored). s.next) p.ensures),
     )
-
-pub shape_of-text : goal.shape_of-text
-shape_of-text c = c.loop-i.invariant.1.1.1
 
 pub returns : goal.returns
 unfolding numbers_text numbers_from

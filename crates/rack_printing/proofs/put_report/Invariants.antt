@@ -1,7 +1,6 @@
 use mathlib.Core.Path.{◌≡◌}
-use mathlib.Core.List.{[]}
-use Prim.Native.Nat.{◌-◌, ◌≤◌}
-use lib.ListN.{length, drop}
+use Prim.Native.Nat.{◌≤◌}
+use lib.ListN.{drop}
 use Rattle.text.specs.Place.{last_place, text_at}
 use Rattle.rack.specs.Step.{numbers_from}
 use Rattle.rack_printing.specs.Text.{numbers_text, report_text}
@@ -9,7 +8,4 @@ use Rattle.rack_printing.proofs.put_report.Given as goal
 
 -- stored behind what stands, what is left gives the whole
 abbrev pub invariant-loop-i : goal.invariant-loop-i
-invariant-loop-i l = (text_at l.text l.to (numbers_text l.mark (numbers_from l.i (drop l.i l.answered))) ≡ text_at l.initial.text l.at (report_text (numbers_from 0 l.answered))) × ((l.i ≤ 16) × ((l.to ≤ last_place) × (length l.text ≡ length l.initial.text)))
-
-abbrev pub decreases-loop-i : goal.decreases-loop-i
-decreases-loop-i l = 16 - l.i
+invariant-loop-i l = (text_at l.text l.to (numbers_text l.mark (numbers_from l.i (drop l.i l.answered))) ≡ text_at l.initial.text l.at (report_text (numbers_from 0 l.answered))) × (l.to ≤ last_place)

@@ -1,9 +1,5 @@
-use Prim.Native.Nat.{◌-◌}
 use Rattle.rack_states.proofs.Encoding.{Encoding}
 use Rattle.rack_states.proofs.encode_tags.Given as goal
 
 abbrev pub invariant-loop-i : goal.invariant-loop-i
-invariant-loop-i l = Encoding l.initial.s l.tags l.s l.i l.at
-
-abbrev pub decreases-loop-i : goal.decreases-loop-i
-decreases-loop-i l = 16 - l.i
+invariant-loop-i l = Encoding l.initial.s l.tags l.s l.i

@@ -1,9 +1,8 @@
 // The statuses of blocks, and the command that reads them.
 #![tactic(auto)]
 
-ghost use Rattle.std.specs.Prelude.{◌≡◌, ◌≤◌, ltb};
+ghost use Rattle.std.specs.Prelude.{◌≡◌, ◌≤◌};
 ghost use Rattle.std.proofs.lemmas.List.Edits.{sets};
-ghost use Rattle.parts.specs.Pick.{pick};
 ghost use Rattle.reply.specs.Outcome.{radio_result, finish};
 ghost use Rattle.block_status.specs.Status.{status_of, statuses_of, status_reply};
 
@@ -16,10 +15,7 @@ use write_reasons::WriteAsked;
 pub fn status_of(c: Core, m: &[u8], session: u8, block: u16) -> u8
     ensures { result ≡ status_of c.registers session block }
 {
-    let asked = WriteAsked::Block {
-        session: session,
-        block: block,
-    };
+    let asked = WriteAsked::Block { session, block };
     let verdict = write_verdict::verdict(c, m, asked);
     if verdict.is_ok() {
         return 0;
@@ -32,23 +28,10 @@ fn put_statuses(out: &mut [u8], c: Core, m: &[u8], session: u8, first: u8, n: u1
     requires { n ≤ 256 }
     ensures { out.new ≡ sets out.old 1 (statuses_of c.registers session first n) }
 {
-    let mut k: u16 = 0;
-    while k < n {
+    for k in 0..n {
         let status = status_of(c, m, session, first as u16 + k);
         parts::put_in(out, 1, k as usize, status);
-        k += 1;
     }
-}
-
-// The blocks that are asked for, or those left where they are fewer.
-fn lesser(left: u16, asked: u16) -> u16
-    ensures value { result ≡ pick (ltb left asked) left asked }
-    ensures upper_bound { result ≤ asked }
-{
-    if left < asked {
-        return left;
-    }
-    asked
 }
 
 // 2C, more being one less than the count.
@@ -56,12 +39,14 @@ pub fn status(v: RadioSide, m: &[u8], out: &mut [u8], first: u8, more: u8) -> Ra
     ensures { radio_result result m.now out.new ≡ finish (status_reply v m.now first more) out.old }
 {
     if tag::BLOCKS <= first as u16 {
-        let answer = reply::error(out, RadioError::NoSuchBlock);
-        return RadioOutcome { answer, side: v };
+        return reply::fail(v, out, RadioError::NoSuchBlock);
     }
-    let n = lesser(tag::BLOCKS - first as u16, more as u16 + 1);
+    let left = tag::BLOCKS - first as u16;
+    let n = left.min(more as u16 + 1);
     parts::put(out, 0, 0x00);
     put_statuses(out, v.core, m, v.air.session, first, n);
-    let answer = reply::close(out, 1 + n as u32);
-    RadioOutcome { answer, side: v }
+    RadioOutcome {
+        answer: Some(reply::close(out, 1 + n as u32)),
+        side: v,
+    }
 }

@@ -18,17 +18,13 @@ pub fn all_allowed(c: Core, m: &[u8], session: u8, first: u8, more: u8) -> bool
 {
     let n = more as u16 + 1;
     let mut all = true;
-    let mut k: u16 = 0;
-    while k < n {
-        let block = first as u16 + k;
+    for k in 0..n {
         let asked = WriteAsked::Block {
-            session: session,
-            block: block,
+            session,
+            block: first as u16 + k,
         };
         let verdict = write_verdict::verdict(c, m, asked);
-        let one = verdict.is_ok();
-        all = all & one;
-        k += 1;
+        all &= verdict.is_ok();
     }
     all
 }
@@ -48,24 +44,22 @@ pub fn write(
     let r = v.core.registers;
     let last = first as u16 + more as u16;
     if 3 < more {
-        let answer = reply::error(out, RadioError::TooManyBlocks);
-        return RadioOutcome { answer, side: v };
+        return reply::fail(v, out, RadioError::TooManyBlocks);
     }
     if tag::BLOCKS <= first as u16 {
-        let answer = reply::error(out, RadioError::NoSuchBlock);
-        return RadioOutcome { answer, side: v };
+        return reply::fail(v, out, RadioError::NoSuchBlock);
     }
     if blocks::leaves_area(r.ends, first as u16, last) {
-        let answer = reply::error(out, RadioError::WriteLeavesArea);
-        return RadioOutcome { answer, side: v };
+        return reply::fail(v, out, RadioError::WriteLeavesArea);
     }
     if !all_allowed(v.core, m, v.air.session, first, more) {
-        let answer = reply::error(out, RadioError::WriteForbidden);
-        return RadioOutcome { answer, side: v };
+        return reply::fail(v, out, RadioError::WriteForbidden);
     }
     parts::put_bytes(m, 4 * (first as usize), frame, at, 4 * (more as usize + 1));
-    let answer = reply::done(out);
-    RadioOutcome { answer, side: v }
+    RadioOutcome {
+        answer: Some(reply::done(out)),
+        side: v,
+    }
 }
 
 // 22.
@@ -74,15 +68,15 @@ pub fn lock(v: RadioSide, m: &[u8], out: &mut [u8], block: u8) -> RadioOutcome
 {
     let r = v.core.registers;
     if 1 < block {
-        let answer = reply::error(out, RadioError::NotLockable);
-        return RadioOutcome { answer, side: v };
+        return reply::fail(v, out, RadioError::NotLockable);
     }
     if rights::is_locked(r.ccfile, block as u16) {
-        let answer = reply::error(out, RadioError::AlreadyLocked);
-        return RadioOutcome { answer, side: v };
+        return reply::fail(v, out, RadioError::AlreadyLocked);
     }
     let bits = LockCcFile::keep(r.ccfile.bits) + (block + 1);
     let next = v.with_registers(r.write_to(register_table::CCFILE_PLACE, bits));
-    let answer = reply::done(out);
-    RadioOutcome { answer, side: next }
+    RadioOutcome {
+        answer: Some(reply::done(out)),
+        side: next,
+    }
 }

@@ -36,10 +36,8 @@ fn put_blocks(
     ensures out_after { out.new ≡ sets out.old 1 (blocks_of c.registers session m.now option first n) }
 {
     let mut at: u32 = 1;
-    let mut k: u16 = 0;
-    while k < n {
+    for k in 0..n {
         at += block_bytes::put_block_at(out, at, c, session, m, option, first as u16 + k);
-        k += 1;
     }
     at
 }
@@ -62,19 +60,18 @@ pub fn read(
     let above = tag::BLOCKS <= start;
     let leaving = leaves_area(r.ends, start, last);
     if above {
-        let answer = reply::error(out, RadioError::NoSuchBlock);
-        return RadioOutcome { answer, side: v };
+        return reply::fail(v, out, RadioError::NoSuchBlock);
     }
     if leaving {
-        let answer = reply::error(out, RadioError::ReadLeavesArea);
-        return RadioOutcome { answer, side: v };
+        return reply::fail(v, out, RadioError::ReadLeavesArea);
     }
     if !rights::may_read(r, Side::Radio(session), start) {
-        let answer = reply::error(out, RadioError::ReadProtected);
-        return RadioOutcome { answer, side: v };
+        return reply::fail(v, out, RadioError::ReadProtected);
     }
     parts::put(out, 0, 0x00);
     let n = put_blocks(out, v.core, session, m, option, first, more as u16 + 1);
-    let answer = reply::close(out, n);
-    RadioOutcome { answer, side: v }
+    RadioOutcome {
+        answer: Some(reply::close(out, n)),
+        side: v,
+    }
 }

@@ -59,6 +59,7 @@ fn known(command: Command, option: bool, size: ParamSize) -> Option<CommandRow>
 }
 
 // What a command code stands for; an unknown one has no row.
+#[tactic(auto, using(parts::proofs::Picks::picks), unfolding(crate::specs::Table::command_of, crate::specs::Table::command_table, rule_list::specs::RuleList::first_says))]
 pub fn command_of(code: u8) -> Option<CommandRow>
     ensures { result ≡ command_of code }
 {
@@ -97,6 +98,7 @@ pub fn command_of(code: u8) -> Option<CommandRow>
     }
 }
 
+#[tactic(auto, unfolding(crate::specs::Table::size_of))]
 fn size_of(size: ParamSize, first: u8, second: u8) -> usize
     ensures value { result ≡ size_of size first second }
     ensures upper_bound { result ≤ 1026 }
@@ -108,12 +110,14 @@ fn size_of(size: ParamSize, first: u8, second: u8) -> usize
     }
 }
 
+#[tactic(auto, unfolding(crate::specs::Table::is_known))]
 pub fn is_known(code: u8) -> bool
     ensures { result ≡ is_known (command_of code) }
 {
     command_of(code).is_some()
 }
 
+#[tactic(auto, unfolding(crate::specs::Table::takes_option))]
 pub fn takes_option(code: u8) -> bool
     ensures { result ≡ takes_option (command_of code) }
 {
@@ -121,6 +125,7 @@ pub fn takes_option(code: u8) -> bool
 }
 
 // The first two bytes of the parameters may say how many there are.
+#[tactic(auto, unfolding(crate::specs::Table::param_bytes))]
 pub fn param_bytes(code: u8, first: u8, second: u8) -> usize
     ensures value { result ≡ param_bytes (command_of code) first second }
     ensures upper_bound { result ≤ 1026 }

@@ -19,26 +19,22 @@ pub fn read(v: RadioSide, m: &[u8], out: &mut [u8], pointer: u8) -> RadioOutcome
 {
     let row = register_table::row_of(pointer as u32);
     if !row.radio {
-        return RadioOutcome {
-            answer: reply::error(out, RadioError::NoSuchRegister),
-            side: v,
-        };
+        return reply::fail(v, out, RadioError::NoSuchRegister);
     }
     let x = v.core.registers.read(pointer as u16);
     RadioOutcome {
-        answer: reply::byte(out, x),
+        answer: Some(reply::byte(out, x)),
         side: v,
     }
 }
 
+#[tactic(auto, using(parts::proofs::Picks::picks), unfolding(crate::specs::Config::mailbox_after_write))]
 fn mailbox_after(pointer: u8, x: u8, mailbox: Mailbox) -> Mailbox
     ensures { result ≡ mailbox_after_write pointer x mailbox }
 {
     let row = register_table::row_of(pointer as u32);
-    let rule = row.rule;
-    match rule {
-        WriteRule::Plain => mailbox,
-        WriteRule::AreaEnd(_) => mailbox,
+    match row.rule {
+        WriteRule::Plain | WriteRule::AreaEnd(_) => mailbox,
         WriteRule::MailboxMode => {
             if x / 1 % 2 == 1 {
                 return mailbox;
@@ -48,15 +44,17 @@ fn mailbox_after(pointer: u8, x: u8, mailbox: Mailbox) -> Mailbox
     }
 }
 
+#[tactic(auto, unfolding(crate::specs::Config::written_core))]
 fn written_core(c: Core, pointer: u8, x: u8) -> Core
     ensures { result ≡ written_core c pointer x }
 {
     let registers = c.registers.write(pointer as u16, x);
     let mailbox = mailbox_after(pointer, x, c.mailbox);
-    let mut n = c;
-    n.registers = registers;
-    n.mailbox = mailbox;
-    n
+    Core {
+        registers,
+        mailbox,
+        ..c
+    }
 }
 
 // The error that A1 gives for a reason.
@@ -76,23 +74,18 @@ pub fn write(v: RadioSide, m: &[u8], out: &mut [u8], pointer: u8, x: u8) -> Radi
 {
     let asked = WriteAsked::Pointer {
         session: v.air.session,
-        pointer: pointer,
-        x: x,
+        pointer,
+        x,
     };
     let verdict = write_verdict::verdict(v.core, m, asked);
     match verdict {
         Ok(()) => {
             let core = written_core(v.core, pointer, x);
-            let mut next = v;
-            next.core = core;
             RadioOutcome {
-                answer: reply::done(out),
-                side: next,
+                answer: Some(reply::done(out)),
+                side: RadioSide { core, ..v },
             }
         }
-        Err(reason) => RadioOutcome {
-            answer: reply::error(out, config_error(reason)),
-            side: v,
-        },
+        Err(reason) => reply::fail(v, out, config_error(reason)),
     }
 }

@@ -13,14 +13,11 @@ pub fn read_dynamic(v: RadioSide, m: &[u8], out: &mut [u8], pointer: u8) -> Radi
     ensures { radio_result result m.now out.new ≡ finish (read_dynamic_of v m.now pointer) out.old }
 {
     if pointer != dynamic::MB_CTRL_POINTER {
-        return RadioOutcome {
-            answer: reply::error(out, RadioError::NoSuchDynamicRegister),
-            side: v,
-        };
+        return reply::fail(v, out, RadioError::NoSuchDynamicRegister);
     }
     let x = v.core.mailbox.control_byte();
     RadioOutcome {
-        answer: reply::byte(out, x),
+        answer: Some(reply::byte(out, x)),
         side: v,
     }
 }
@@ -37,15 +34,12 @@ pub fn write_dynamic(
     ensures { radio_result result m.now out.new ≡ finish (write_dynamic_of v m.now vcc pointer x) out.old }
 {
     if pointer != dynamic::MB_CTRL_POINTER {
-        return RadioOutcome {
-            answer: reply::error(out, RadioError::NoSuchDynamicRegister),
-            side: v,
-        };
+        return reply::fail(v, out, RadioError::NoSuchDynamicRegister);
     }
     let mode = v.core.registers.mode;
     let next = v.with_mailbox(v.core.mailbox.control(x, mode, vcc));
     RadioOutcome {
-        answer: reply::done(out),
+        answer: Some(reply::done(out)),
         side: next,
     }
 }

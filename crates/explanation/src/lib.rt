@@ -173,7 +173,7 @@ fn wire_rule(t: Tag, m: &[u8], signal: WireSignal) -> u8
     }
 }
 
-// The number of the rule that explains the answer to a call, or 0 where there is nothing to explain.
+// The number of the rule that explains the answer to a call, or 0 where there is nothing to explain, as st25dv_explain gives it.
 pub fn rule_of(t: Tag, m: &[u8], code: u32, value: u32, frame: &[u8]) -> u8
     ensures { result ≡ rule_at t m.now code value frame.now }
 {

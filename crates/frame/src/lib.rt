@@ -21,6 +21,7 @@ pub fn option(f: &[u8]) -> bool
 }
 
 // Where the UID stands.
+#[tactic(auto, using(parts::proofs::Picks::picks), unfolding(crate::specs::Fields::uid_place))]
 pub fn uid_place(f: &[u8]) -> usize
     ensures value { result ≡ uid_place f.now }
     ensures upper_bound { result ≤ 3 }
@@ -32,6 +33,7 @@ pub fn uid_place(f: &[u8]) -> usize
 }
 
 // Where the parameters stand.
+#[tactic(auto, using(parts::proofs::Picks::picks), unfolding(crate::specs::Fields::param_place))]
 pub fn param_place(f: &[u8]) -> usize
     ensures value { result ≡ param_place f.now }
     ensures upper_bound { result ≤ 11 }
@@ -44,6 +46,7 @@ pub fn param_place(f: &[u8]) -> usize
 }
 
 // Parameter byte i.
+#[tactic(auto, unfolding(crate::specs::Fields::param))]
 pub fn param(f: &[u8], i: usize) -> u8
     ensures { result ≡ param f.now i }
 {
@@ -61,6 +64,7 @@ pub fn crc_place(f: &[u8]) -> usize
 }
 
 // Whether the frame's UID is the tag's.
+#[tactic(auto, unfolding(crate::specs::Fields::own_uid))]
 pub fn own_uid(f: &[u8], u: Uid) -> bool
     ensures { result ≡ own_uid f.now u }
 {

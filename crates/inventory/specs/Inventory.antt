@@ -1,4 +1,4 @@
--- "Inventory of ISO/IEC 15693 as in 000": which frames are well_formed, which tags they ask, and in which slot a tag answers.
+-- "Inventory of ISO/IEC 15693 as in 000": which frames are well-formed, which tags they ask, and in which slot a tag answers.
 use Rattle.std.specs.Prelude.{Bool, true, not, ◌&&◌, ◌||◌, List, ℕ, zero, suc, ◌+◌, ◌*◌, ◌/◌, ◌%◌, ◌^◌, ltb, eqb, get_or}
 use Rattle.parts.specs.Pick.{pick}
 use Rattle.parts.specs.Bits.{is_set}

@@ -1,4 +1,4 @@
-// Inventory of ISO/IEC 15693: which frames are well_formed, which tags they ask, and in which slot a tag answers.
+// Inventory of ISO/IEC 15693: which frames are well-formed, which tags they ask, and in which slot a tag answers.
 #![tactic(auto)]
 
 ghost use Rattle.std.specs.Prelude.{◌≡◌, ◌≤◌};
@@ -9,6 +9,7 @@ use keys::Uid;
 use register_types::{Afi, RfMngt};
 
 // ---- the frame
+#[tactic(auto, using(parts::proofs::Picks::picks), unfolding(crate::specs::Inventory::mask_length_place))]
 fn mask_length_place(f: &[u8]) -> usize
     ensures value { result ≡ mask_length_place f.now }
     ensures upper_bound { result ≤ 3 }
@@ -19,6 +20,7 @@ fn mask_length_place(f: &[u8]) -> usize
     2
 }
 
+#[tactic(auto, unfolding(crate::specs::Inventory::mask_bits))]
 fn mask_bits(f: &[u8]) -> u8
     ensures { result ≡ mask_bits f.now }
 {
@@ -26,6 +28,7 @@ fn mask_bits(f: &[u8]) -> u8
 }
 
 // Other command or length, flag 08, 40 or 80, mask over 64 bits, with sixteen slots over 60.
+#[tactic(auto, unfolding(crate::specs::Inventory::is_malformed))]
 pub fn is_malformed(f: &[u8]) -> bool
     ensures { result ≡ is_malformed f.now }
 {
@@ -45,6 +48,7 @@ pub fn is_malformed(f: &[u8]) -> bool
 
 // ---- the tags it asks
 // Bit i of the bytes from a place on.
+#[tactic(auto, unfolding(crate::specs::Inventory::bit_at))]
 fn bit_at(s: &[u8], at: usize, i: usize) -> u8
     ensures value { result ≡ bit_at s.now at i }
     ensures upper_bound { result ≤ 1 }
@@ -57,14 +61,13 @@ fn same_bits(f: &[u8], at: usize, uid: &[u8], n: usize) -> bool
     ensures { result ≡ same_bits f.now at uid.now n }
 {
     let mut same = true;
-    let mut i = 0;
-    while i < n {
-        same = same & (bit_at(f, at, i) == bit_at(uid, 0, i));
-        i += 1;
+    for i in 0..n {
+        same &= bit_at(f, at, i) == bit_at(uid, 0, i);
     }
     same
 }
 
+#[tactic(auto, using(parts::proofs::Picks::picks), unfolding(crate::specs::Inventory::afi_asks))]
 fn afi_asks(asked: u8, own: Afi) -> bool
     ensures { result ≡ afi_asks asked own }
 {
@@ -77,6 +80,7 @@ fn afi_asks(asked: u8, own: Afi) -> bool
     asked == own.bits
 }
 
+#[tactic(auto, unfolding(crate::specs::Inventory::is_matched))]
 fn is_matched(f: &[u8], u: Uid, own: Afi) -> bool
     ensures { result ≡ is_matched f.now u own }
 {
@@ -89,6 +93,7 @@ fn is_matched(f: &[u8], u: Uid, own: Afi) -> bool
 }
 
 // ---- the slot
+#[tactic(auto, unfolding(crate::specs::Inventory::slot_number))]
 fn slot_number(uid: &[u8], n: usize) -> u8
     requires { n ≤ 255 }
     ensures value { result ≡ slot_number uid.now n }
@@ -100,6 +105,7 @@ fn slot_number(uid: &[u8], n: usize) -> u8
         + 8 * bit_at(uid, 0, n + 3)
 }
 
+#[tactic(auto, using(parts::proofs::Picks::picks), unfolding(crate::specs::Inventory::own_slot))]
 fn own_slot(f: &[u8], u: Uid) -> u8
     ensures { result ≡ own_slot f.now u }
 {
@@ -110,7 +116,8 @@ fn own_slot(f: &[u8], u: Uid) -> u8
     slot_number(&uid, mask_bits(f) as usize)
 }
 
-// How many ends-of-frame a well_formed frame leaves to the tag's slot.
+// How many ends-of-frame a well-formed frame leaves to the tag's slot.
+#[tactic(auto, using(parts::proofs::Picks::picks), unfolding(crate::specs::Inventory::slots_after))]
 pub fn slots_after(f: &[u8], u: Uid, own: Afi) -> u8
     ensures { result ≡ slots_after f.now u own }
 {
@@ -120,7 +127,8 @@ pub fn slots_after(f: &[u8], u: Uid, own: Afi) -> u8
     0
 }
 
-// Whether a well_formed frame is answered at once.
+// Whether a well-formed frame is answered at once.
+#[tactic(auto, unfolding(crate::specs::Inventory::answers_now))]
 pub fn answers_now(f: &[u8], u: Uid, own: Afi) -> bool
     ensures { result ≡ answers_now f.now u own }
 {
@@ -130,6 +138,7 @@ pub fn answers_now(f: &[u8], u: Uid, own: Afi) -> bool
 
 // ---- the tag
 // Whether it hears inventory frames and ends-of-frame.
+#[tactic(auto, unfolding(crate::specs::Inventory::takes_part))]
 pub fn takes_part(a: Air, dynamic: RfMngt, busy: bool) -> bool
     ensures { result ≡ takes_part a dynamic busy }
 {
@@ -141,6 +150,7 @@ pub fn takes_part(a: Air, dynamic: RfMngt, busy: bool) -> bool
 }
 
 // Whether an inventory frame past its CRC gets no answer.
+#[tactic(auto, unfolding(crate::specs::Inventory::inventory_silent))]
 pub fn inventory_silent(f: &[u8], a: Air, u: Uid, own: Afi, dynamic: RfMngt, busy: bool) -> bool
     ensures { result ≡ inventory_silent f.now a u own dynamic busy }
 {

@@ -23,11 +23,11 @@ slots_left v u n answers m =
     let next = with_air (with_slots n v.air) v in
     pick answers (command_result (inventory_reply v.core.registers.dsfid u) next m) (command_result nothing next m)
 
--- the tag takes part, the frame has 4 to 270 bytes and a right CRC, and is well_formed; it has the inventory flag
+-- the tag takes part, the frame has 4 to 270 bytes and a right CRC, and is well-formed; it has the inventory flag
 unfoldable pub is_heard : List ℕ → Air → RfMngt → Bool → Bool
 is_heard f a dynamic busy = takes_part a dynamic busy && not (ltb (length f) 4 || ltb 270 (length f)) && good_frame f && not (is_malformed f)
 
--- "each well_formed inventory frame sets that anew"
+-- "each well-formed inventory frame sets that anew"
 unfoldable pub inventory_of : RadioSide → Uid → RfMngt → Bool → List ℕ → List ℕ → CommandResult
 inventory_of v u dynamic busy m f =
     let own = v.core.registers.afi in

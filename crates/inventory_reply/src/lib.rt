@@ -1,7 +1,7 @@
 // What an inventory frame and an end-of-frame do.
 #![tactic(auto)]
 
-ghost use Rattle.std.specs.Prelude.{◌≡◌, ◌-◌};
+ghost use Rattle.std.specs.Prelude.{◌≡◌};
 ghost use Rattle.reply.specs.Reply.{reply_result, put_reply};
 ghost use Rattle.reply.specs.Outcome.{radio_result, finish};
 ghost use Rattle.inventory_reply.specs.Answers.{inventory_reply, slots_left, is_heard, inventory_of, end_of_frame_of};
@@ -9,11 +9,11 @@ ghost use Rattle.inventory_reply.specs.Answers.{inventory_reply, slots_left, is_
 use air::Air;
 use keys::Uid;
 use register_types::{Dsfid, RfMngt};
-use reply::{RadioAnswer, RadioOutcome, RadioSide};
+use reply::{RadioOutcome, RadioSide};
 
 // 00h, DSFID, UID.
-fn put_reply(dsfid: Dsfid, u: Uid, out: &mut [u8]) -> RadioAnswer
-    ensures { reply_result result out.new ≡ put_reply (inventory_reply dsfid u) out.old }
+fn put_reply(dsfid: Dsfid, u: Uid, out: &mut [u8]) -> usize
+    ensures { reply_result (Some result) out.new ≡ put_reply (inventory_reply dsfid u) out.old }
 {
     parts::put(out, 0, 0x00);
     parts::put(out, 1, dsfid.bits);
@@ -29,17 +29,17 @@ fn leave_slots(v: RadioSide, u: Uid, n: u8, answers: bool, m: &[u8], out: &mut [
     let next = v.with_air(v.air.with_slots(n));
     if answers {
         return RadioOutcome {
-            answer: put_reply(v.core.registers.dsfid, u, out),
+            answer: Some(put_reply(v.core.registers.dsfid, u, out)),
             side: next,
         };
     }
     RadioOutcome {
-        answer: RadioAnswer::Silence,
+        answer: None,
         side: next,
     }
 }
 
-// Whether the tag takes part and the frame is whole and well_formed. The CRC is computed only where it matters.
+// Whether the tag takes part and the frame is whole and well-formed. The CRC is computed only where it matters.
 fn is_heard(f: &[u8], a: Air, dynamic: RfMngt, busy: bool) -> bool
     ensures { result ≡ is_heard f.now a dynamic busy }
 {
@@ -74,18 +74,9 @@ pub fn inventory(
         return leave_slots(v, u, slots, answers, m, out);
     }
     RadioOutcome {
-        answer: RadioAnswer::Silence,
+        answer: None,
         side: v,
     }
-}
-
-fn less_one(n: u8) -> u8
-    ensures { result ≡ n - 1 }
-{
-    if n == 0 {
-        return 0;
-    }
-    n - 1
 }
 
 // An end-of-frame.
@@ -101,10 +92,10 @@ pub fn end_of_frame(
 {
     if inventory::takes_part(v.air, dynamic, busy) {
         let slots = v.air.slots;
-        return leave_slots(v, u, less_one(slots), slots == 1, m, out);
+        return leave_slots(v, u, slots.saturating_sub(1), slots == 1, m, out);
     }
     RadioOutcome {
-        answer: RadioAnswer::Silence,
+        answer: None,
         side: v,
     }
 }

@@ -17,6 +17,7 @@ pub enum Verdict {
 }
 
 // Whether the frame is a Stay Quiet, or a Select of another UID.
+#[tactic(auto, unfolding(crate::specs::Judge::is_mute))]
 pub fn is_mute(f: &[u8], u: Uid) -> bool
     ensures { result ≡ is_mute f.now u }
 {
@@ -25,6 +26,7 @@ pub fn is_mute(f: &[u8], u: Uid) -> bool
     (c == commands::STAY_QUIET) | ((c == commands::SELECT) & !own)
 }
 
+#[tactic(auto, using(parts::proofs::Picks::picks), unfolding(crate::specs::Judge::error_of))]
 fn error_of(f: &[u8], u: Uid, error: RadioError) -> Verdict
     ensures { result ≡ error_of f.now u error }
 {
@@ -35,6 +37,7 @@ fn error_of(f: &[u8], u: Uid, error: RadioError) -> Verdict
 }
 
 // The verdict while shut out.
+#[tactic(auto, using(parts::proofs::Picks::picks), unfolding(crate::specs::Judge::shut_out))]
 pub fn shut_out(f: &[u8], a: Air, u: Uid, dynamic: RfMngt) -> Verdict
     ensures { result ≡ shut_out f.now a u dynamic }
 {
@@ -44,6 +47,7 @@ pub fn shut_out(f: &[u8], a: Air, u: Uid, dynamic: RfMngt) -> Verdict
     error_of(f, u, RadioError::ShutOut)
 }
 
+#[tactic(auto, unfolding(crate::specs::Judge::bad_flags))]
 fn bad_flags(f: &[u8]) -> bool
     ensures { result ≡ bad_flags f.now }
 {
@@ -52,6 +56,7 @@ fn bad_flags(f: &[u8]) -> bool
     (flags / 0x08 % 2 == 1) | (flags / 0x80 % 2 == 1) | ((flags / 0x40 % 2 == 1) & !takes)
 }
 
+#[tactic(auto, unfolding(crate::specs::Judge::wrong_length))]
 fn wrong_length(f: &[u8]) -> bool
     ensures { result ≡ wrong_length f.now }
 {
@@ -62,6 +67,7 @@ fn wrong_length(f: &[u8]) -> bool
 }
 
 // The error of the first rule past the silence list that holds.
+#[tactic(auto, using(parts::proofs::Picks::picks), unfolding(rule_list::specs::RuleList::first_says, crate::specs::Judge::error_holds, crate::specs::Judge::rule_error, crate::specs::Judge::error_rules, crate::specs::Judge::first_error))]
 pub fn first_error(f: &[u8], dynamic: RfMngt, busy: bool) -> Result<(), RadioError>
     ensures { result ≡ first_error f.now dynamic busy }
 {
@@ -80,7 +86,7 @@ pub fn first_error(f: &[u8], dynamic: RfMngt, busy: bool) -> Result<(), RadioErr
     Ok(())
 }
 
-// The verdict on a frame.
+// The verdict on a frame. Each function takes only what its rules read, so its parameters are no struct.
 pub fn judge(f: &[u8], a: Air, u: Uid, dynamic: RfMngt, busy: bool) -> Verdict
     ensures { result ≡ judge f.now a u dynamic busy }
 {

@@ -15,18 +15,16 @@ pub fn length(v: RadioSide, m: &[u8], out: &mut [u8]) -> RadioOutcome
 {
     let b = v.core.mailbox;
     if !b.enabled {
-        return RadioOutcome {
-            answer: reply::error(out, RadioError::MailboxDisabled),
-            side: v,
-        };
+        return reply::fail(v, out, RadioError::MailboxDisabled);
     }
     RadioOutcome {
-        answer: reply::byte(out, b.length_byte()),
+        answer: Some(reply::byte(out, b.length_byte())),
         side: v,
     }
 }
 
 // How many bytes are asked for.
+#[tactic(auto, using(parts::proofs::Picks::picks), unfolding(crate::specs::Message::asked))]
 pub fn asked(mailbox: Mailbox, pointer: u8, n: u8) -> u16
     ensures { result ≡ asked mailbox pointer n }
 {
@@ -36,6 +34,7 @@ pub fn asked(mailbox: Mailbox, pointer: u8, n: u8) -> u16
     n as u16 + 1
 }
 
+#[tactic(auto, using(parts::proofs::Picks::picks), unfolding(crate::specs::Message::mailbox_after_read))]
 fn mailbox_after(mailbox: Mailbox, pointer: u8, count: u16) -> Mailbox
     ensures { result ≡ mailbox_after_read mailbox pointer count }
 {
@@ -51,17 +50,11 @@ pub fn read(v: RadioSide, m: &[u8], out: &mut [u8], pointer: u8, n: u8) -> Radio
 {
     let b = v.core.mailbox;
     if !b.enabled {
-        return RadioOutcome {
-            answer: reply::error(out, RadioError::MailboxDisabled),
-            side: v,
-        };
+        return reply::fail(v, out, RadioError::MailboxDisabled);
     }
     let count = asked(b, pointer, n);
     if ((b.length as u32) < pointer as u32 + count as u32) | (b.length == 0) {
-        return RadioOutcome {
-            answer: reply::error(out, RadioError::PastMessage),
-            side: v,
-        };
+        return reply::fail(v, out, RadioError::PastMessage);
     }
     parts::put(out, 0, 0x00);
     parts::put_bytes(
@@ -73,7 +66,7 @@ pub fn read(v: RadioSide, m: &[u8], out: &mut [u8], pointer: u8, n: u8) -> Radio
     );
     let next = v.with_mailbox(mailbox_after(b, pointer, count));
     RadioOutcome {
-        answer: reply::close(out, 1 + count as u32),
+        answer: Some(reply::close(out, 1 + count as u32)),
         side: next,
     }
 }

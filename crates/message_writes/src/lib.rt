@@ -10,6 +10,7 @@ use mailbox::Mailbox;
 use reply::{RadioOutcome, RadioSide};
 
 // Whether the radio may put a message.
+#[tactic(auto, unfolding(crate::specs::WriteMessage::takes_message))]
 pub fn takes_message(mailbox: Mailbox) -> bool
     ensures { result ≡ takes_message mailbox }
 {
@@ -29,16 +30,13 @@ pub fn write(
 {
     let b = v.core.mailbox;
     if !takes_message(b) {
-        return RadioOutcome {
-            answer: reply::error(out, RadioError::MailboxUnavailable),
-            side: v,
-        };
+        return reply::fail(v, out, RadioError::MailboxUnavailable);
     }
     let n = more as u16 + 1;
     parts::put_bytes(m, tag::MAILBOX_AT, frame, at, n as usize);
     let next = v.with_mailbox(b.radio_put(n));
     RadioOutcome {
-        answer: reply::done(out),
+        answer: Some(reply::done(out)),
         side: next,
     }
 }

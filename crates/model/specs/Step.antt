@@ -1,5 +1,5 @@
 -- "What the bench hands in": the refusals, and what a call does to the tag and both lent buffers.
-use Rattle.std.specs.Prelude.{Bool, true, false, List, ℕ, replicate}
+use Rattle.std.specs.Prelude.{Option, None, Some, Bool, true, false, List, ℕ, replicate}
 use Rattle.keys.specs.declared.Uid.{Uid}
 use Rattle.tag.specs.declared.Tag.{Tag}
 use Rattle.tag.specs.Layout.{memory_bytes}
@@ -14,8 +14,6 @@ use Rattle.signal.specs.declared.WireAnswer.{WireAnswer}
 use Rattle.signal.specs.declared.WireAnswer.TheVariants.{Nothing as WireNothing, Ack as WireAck, NoAck as WireNoAck, Byte as WireByte}
 use Rattle.wire.specs.Wire.{signal_of}
 use Rattle.reply.specs.Reply.{buffer_of, answer_of}
-use Rattle.reply.specs.declared.RadioAnswer.{RadioAnswer}
-use Rattle.reply.specs.declared.RadioAnswer.TheVariants.{Silence as RadioSilence, Reply as RadioReply}
 use Rattle.reply.specs.Outcome.{CommandResult, radio_side, with_radio}
 use Rattle.radio.specs.Radio.{radio_of, next_slot_of}
 use Rattle.refusals.specs.declared.Refusal.{Refusal}
@@ -72,9 +70,9 @@ from_wire WireNoAck = NoAck
 from_wire (WireByte x) = Byte x
 
 -- to a frame or an end-of-frame: silence, or a reply with its length
-unfoldable pub from_radio : RadioAnswer → Answer
-from_radio RadioSilence = Silence
-from_radio (RadioReply n) = Reply n
+unfoldable pub from_radio : Option ℕ → Answer
+from_radio None = Silence
+from_radio (Some n) = Reply n
 
 -- a transfer is open
 abbrev pub transfer_open : Tag → Bool

@@ -46,12 +46,12 @@ fn from_wire(answer: signal::WireAnswer) -> Answer
     }
 }
 
-fn from_radio(answer: reply::RadioAnswer) -> Answer
+fn from_radio(answer: Option<usize>) -> Answer
     ensures { result ≡ from_radio answer }
 {
     match answer {
-        reply::RadioAnswer::Silence => Answer::Silence,
-        reply::RadioAnswer::Reply(n) => Answer::Reply(n),
+        None => Answer::Silence,
+        Some(n) => Answer::Reply(n),
     }
 }
 

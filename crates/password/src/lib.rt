@@ -26,22 +26,16 @@ pub fn present(
     ensures { radio_result result m.now out.new ≡ finish (present_of v m.now n frame.now at) out.old }
 {
     if LAST < n {
-        return RadioOutcome {
-            answer: reply::error(out, RadioError::NoSuchPassword),
-            side: v,
-        };
+        return reply::fail(v, out, RadioError::NoSuchPassword);
     }
     let air = v.air;
     if v.core.passwords.radio(n) != Password::at(frame, at) {
         let closed = v.with_air(air.with_session(0));
-        return RadioOutcome {
-            answer: reply::error(out, RadioError::WrongPassword),
-            side: closed,
-        };
+        return reply::fail(closed, out, RadioError::WrongPassword);
     }
     let opened = v.with_air(air.with_session(n + 1));
     RadioOutcome {
-        answer: reply::done(out),
+        answer: Some(reply::done(out)),
         side: opened,
     }
 }
@@ -62,21 +56,17 @@ pub fn write(v: RadioSide, m: &[u8], out: &mut [u8], n: u8, frame: &[u8], at: us
 {
     let asked = WriteAsked::PasswordOf {
         session: v.air.session,
-        n: n,
+        n,
     };
     let verdict = write_verdict::verdict(v.core, m, asked);
     match verdict {
-        Ok(()) => {}
-        Err(reason) => {
-            return RadioOutcome {
-                answer: reply::error(out, password_error(reason)),
-                side: v,
-            };
+        Ok(()) => {
+            let passwords = v.core.passwords.with_radio(n, Password::at(frame, at));
+            RadioOutcome {
+                answer: Some(reply::done(out)),
+                side: v.with_passwords(passwords),
+            }
         }
-    }
-    let passwords = v.core.passwords.with_radio(n, Password::at(frame, at));
-    RadioOutcome {
-        answer: reply::done(out),
-        side: v.with_passwords(passwords),
+        Err(reason) => reply::fail(v, out, password_error(reason)),
     }
 }

@@ -1,4 +1,4 @@
--- A well_formed rack stays so, and refusals 1, 4, 5 and 7 never come up. Assumes nothing.
+-- A well-formed rack stays so, and refusals 1, 4, 5 and 7 never come up. Assumes nothing.
 use mathlib.Core.Path.{◌≡◌, refl, sym, ap, subst, ◌∙◌}
 use mathlib.Core.Bool.{Bool, true, false, not, ◌||◌}
 use mathlib.Core.List.{List, [], ◌∷◌}
@@ -89,7 +89,7 @@ uids_kept c i (d ∷ ds) f =
     ∙ ap (λ (b : Bool). b || equal_uids rest) (has_kept d.tag.uid c (suc i) ds f.1)
     ∙ ap (λ (b : Bool). has_uid d.tag.uid (tags_of ds) || b) (uids_kept c (suc i) ds f.1)
 
--- ---- so a call leaves a well_formed rack well_formed
+-- ---- so a call leaves a well-formed rack well-formed
 served_formed : (r : Rack) (c : RackCall) → are_bytes c.handed.frame ≡ true → judgement (rack_rules r c) ≡ Ok tt → Formed r → Formed (rack_entry r c).rack
 unfolding rack_acts
 served_formed r c b h f =

@@ -52,7 +52,7 @@ EveryRackList P = (rack : Rack) (calls : List RackCall) → rack_frames_fit call
 abbrev pub IsItsTags : RackStep → Type 0
 IsItsTags go = EveryRackList (ItsTags go)
 
--- ---- a list that starts well_formed stays so, and refusals 1, 4, 5 and 7 never come up
+-- ---- a list that starts well-formed stays so, and refusals 1, 4, 5 and 7 never come up
 abbrev pub refused_by_rack : JudgedCall → Bool
 refused_by_rack call = unless_refused call.judged looks_at_rack false
 

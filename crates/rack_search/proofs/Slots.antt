@@ -81,7 +81,7 @@ module _ (c : RackCall) (all : to_all c.handed.code ≡ true) where
         ∙ ap (λ (a : CallAnswer). length a.buffer) (sym (pick_true _ _ _ (to_all c.handed.code) all refl))
         ∙ lowest_room (no_reply c.handed) (length c.handed.buffer) refl (λ d. room_kept d c.handed) 0 (devices r)
 
-  -- a well_formed rack does not refuse it
+  -- a well-formed rack does not refuse it
   pub unrefused : (r : Rack) → Formed r → reply_bytes ≤ length c.handed.buffer → signal_in_range c.handed.code c.handed.value ≡ true → judgement (rack_rules r c) ≡ Ok tt
   unfolding NoneApplies
   unrefused r f b s =

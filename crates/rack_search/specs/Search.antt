@@ -20,7 +20,7 @@ sends_end o = rack_call (handed_in o 9 0 []) 0
 abbrev pub sends_next : RackResult → RackCall
 sends_next result = sends_end result.says.says.buffer
 
--- "if well_formed for sixteen slots, CRC right"
+-- "if well-formed for sixteen slots, CRC right"
 unfoldable pub opens_sixteen : List ℕ → Bool
 opens_sixteen f =
     inventory_flag f && not (ltb (length f) 4 || ltb 270 (length f)) && good_frame f && not (is_malformed f) && not (one_slot f)

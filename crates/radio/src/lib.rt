@@ -8,7 +8,7 @@ ghost use Rattle.radio.specs.Radio.{verdict_result, verdict_of, radio_of, next_s
 use bus::OpenTransfer;
 use judge::Verdict;
 use keys::Uid;
-use reply::{RadioAnswer, RadioOutcome, RadioSide};
+use reply::{RadioOutcome, RadioSide};
 
 // A frame without the inventory flag.
 fn request(
@@ -28,13 +28,10 @@ fn request(
     let open = bus::is_open_transfer(transfer);
     match judge::judge(f, v.air, u, d, open | programming) {
         Verdict::Silence => RadioOutcome {
-            answer: RadioAnswer::Silence,
+            answer: None,
             side: v,
         },
-        Verdict::Error(e) => RadioOutcome {
-            answer: reply::error(out, e),
-            side: v,
-        },
+        Verdict::Error(error) => reply::fail(v, out, error),
         Verdict::Request => serve::serve(request::fields(f, u), v, vcc, m, out, f),
     }
 }

@@ -5,7 +5,7 @@ ghost use Rattle.std.specs.Prelude.{◌≡◌};
 ghost use Rattle.reply.specs.Outcome.{radio_result, finish};
 ghost use Rattle.radio_state.specs.RadioState.{stay_quiet_of, select_uid_of, reset_to_ready_of};
 
-use reply::{RadioAnswer, RadioOutcome, RadioSide};
+use reply::{RadioOutcome, RadioSide};
 
 // 02: no answer.
 pub fn stay_quiet(v: RadioSide, m: &[u8], out: &mut [u8]) -> RadioOutcome
@@ -13,7 +13,7 @@ pub fn stay_quiet(v: RadioSide, m: &[u8], out: &mut [u8]) -> RadioOutcome
 {
     let next = v.with_air(v.air.stay_quiet());
     RadioOutcome {
-        answer: RadioAnswer::Silence,
+        answer: None,
         side: next,
     }
 }
@@ -25,13 +25,13 @@ pub fn select(v: RadioSide, m: &[u8], out: &mut [u8], own: bool) -> RadioOutcome
     if own {
         let next = v.with_air(v.air.select());
         return RadioOutcome {
-            answer: reply::done(out),
+            answer: Some(reply::done(out)),
             side: next,
         };
     }
     let next = v.with_air(v.air.deselect());
     RadioOutcome {
-        answer: RadioAnswer::Silence,
+        answer: None,
         side: next,
     }
 }
@@ -42,7 +42,7 @@ pub fn reset(v: RadioSide, m: &[u8], out: &mut [u8]) -> RadioOutcome
 {
     let next = v.with_air(v.air.reset());
     RadioOutcome {
-        answer: reply::done(out),
+        answer: Some(reply::done(out)),
         side: next,
     }
 }

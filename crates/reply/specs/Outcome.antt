@@ -1,5 +1,5 @@
 -- The outcome of a request: the reply, what it leaves of the tag, and the lent memory.
-use Rattle.std.specs.Prelude.{List, ℕ}
+use Rattle.std.specs.Prelude.{List, ℕ, Option}
 use Rattle.registers.specs.declared.Registers.{Registers}
 use Rattle.air.specs.declared.Air.{Air}
 use Rattle.mailbox.specs.declared.Mailbox.{Mailbox}
@@ -8,7 +8,6 @@ use Rattle.tag.specs.declared.Core.{Core}
 use Rattle.tag.specs.declared.Tag.{Tag}
 use Rattle.tag.specs.Parts.{with_registers, with_mailbox, with_passwords, with_tag_air, with_tag_core}
 use Rattle.errors.specs.declared.RadioError.{RadioError}
-use Rattle.reply.specs.declared.RadioAnswer.{RadioAnswer}
 use Rattle.reply.specs.declared.RadioSide.{RadioSide}
 use Rattle.reply.specs.declared.RadioOutcome.{RadioOutcome}
 use Rattle.reply.specs.Reply.{ReplyBody, fault, answer_of, buffer_of}
@@ -28,7 +27,7 @@ fails error v m = command_result (fault error) v m
 
 -- what a function over both lent buffers leaves
 pub record RadioResult : Type 0 where
-  pub answer : RadioAnswer
+  pub answer : Option ℕ
   pub side : RadioSide
   pub memory : List ℕ
   pub buffer : List ℕ

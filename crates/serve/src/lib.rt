@@ -6,10 +6,11 @@ ghost use Rattle.reply.specs.Outcome.{radio_result, finish};
 ghost use Rattle.serve.specs.Commands.{serve_command, serve_of};
 
 use commands::Command;
-use reply::{RadioAnswer, RadioOutcome, RadioSide};
+use reply::{RadioOutcome, RadioSide};
 use request::RequestFields;
 
-// Serves a command.
+// Serves a command. Of m each takes only the right that it needs, & or &mut, so v, m and out are no struct.
+#[tactic(auto, unfolding(crate::specs::Commands::serve_command))]
 fn serve_command(
     command: Command,
     q: RequestFields,
@@ -61,7 +62,7 @@ pub fn serve(
 {
     match q.command {
         None => RadioOutcome {
-            answer: RadioAnswer::Silence,
+            answer: None,
             side: v,
         },
         Some(row) => serve_command(row.command, q, v, vcc, m, out, f),

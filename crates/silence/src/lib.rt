@@ -10,6 +10,7 @@ use keys::Uid;
 use register_types::RfMngt;
 
 // "02h missing or other".
+#[tactic(auto, unfolding(silence_rules::specs::Silence::maker_differs))]
 fn maker_differs(f: &[u8]) -> bool
     ensures { result ≡ maker_differs f.now }
 {
@@ -20,6 +21,7 @@ fn maker_differs(f: &[u8]) -> bool
 }
 
 // "UID short or, except in Select, other".
+#[tactic(auto, using(parts::proofs::Picks::picks), unfolding(silence_rules::specs::Silence::uid_differs))]
 fn uid_differs(f: &[u8], u: Uid) -> bool
     ensures { result ≡ uid_differs f.now u }
 {
@@ -34,6 +36,7 @@ fn uid_differs(f: &[u8], u: Uid) -> bool
 }
 
 // The number of the first of the rules that every frame meets first, or 0. The CRC is computed only where the length is right.
+#[tactic(auto, using(parts::proofs::Picks::picks), unfolding(rule_list::specs::RuleList::first_says, silence_rules::specs::Silence::silence_holds, silence_rules::specs::Silence::silence_number, silence_rules::specs::Silence::reception_silences))]
 pub fn first_of_reception(f: &[u8], a: Air, dynamic: RfMngt) -> u8
     ensures { (u : Uid) → result ≡ first_says (silence_holds f.now a u dynamic) silence_number 0 reception_silences }
 {
@@ -53,6 +56,7 @@ pub fn first_of_reception(f: &[u8], a: Air, dynamic: RfMngt) -> u8
 }
 
 // And then a request.
+#[tactic(auto, using(parts::proofs::Picks::picks), unfolding(rule_list::specs::RuleList::first_says, silence_rules::specs::Silence::silence_holds, silence_rules::specs::Silence::silence_number, silence_rules::specs::Silence::address_silences))]
 fn first_of_address(f: &[u8], a: Air, u: Uid) -> u8
     ensures { (dynamic : RfMngt) → result ≡ first_says (silence_holds f.now a u dynamic) silence_number 0 address_silences }
 {
@@ -84,7 +88,7 @@ fn first_of_address(f: &[u8], a: Air, u: Uid) -> u8
     0
 }
 
-// The number of the first rule that holds, or 0.
+// The number of the first rule that holds, or 0, as st25dv_explain gives it.
 pub fn first_silence(f: &[u8], a: Air, u: Uid, dynamic: RfMngt) -> u8
     ensures { result ≡ first_silence f.now a u dynamic }
 {

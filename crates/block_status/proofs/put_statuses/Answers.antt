@@ -11,32 +11,24 @@ use Rattle.block_status.proofs.put_statuses.Goals as goal
 
 pub loop-k-init : goal.loop-k-init
 unfolding statuses_of
-loop-k-init c = (omega arith, (refl, refl))
+loop-k-init c = refl
 
 pub loop-k-preserved : goal.loop-k-preserved
 loop-k-preserved c =
     let l = c.loop-k in
     let a = c.args in
     let done = statuses_of a.c.registers a.session a.first l.k in
-    let next = status_of a.c.registers a.session (a.first + l.k) in (
-      omega arith,
-      (
-        c.put_in.ensures
-            ∙ ap (set l.out (1 + l.k)) c.status_of-status.ensures
-            ∙ ap (λ (o : List ℕ). set o (1 + l.k) next) l.invariant.1.0
-            ∙ ap (λ (n : ℕ). set (sets a.out.now 1 done) (1 + n) next) (sym (length_statuses a.c.registers a.session a.first l.k))
-            ∙ sym (sets_snoc done a.out.now 1 next)
-            ∙ ap (sets a.out.now 1) (sym (statuses_more a.c.registers a.session a.first l.k)),
-        c.put_in.auto.m ∙ l.invariant.1.1,
-      ),
-    )
-
-pub shape_of-out : goal.shape_of-out
-shape_of-out c = c.loop-k.invariant.1.1
+    let next = status_of a.c.registers a.session (a.first + l.k) in
+    c.put_in.ensures
+    ∙ ap (set l.out (1 + l.k)) c.status_of-status.ensures
+    ∙ ap (λ (o : List ℕ). set o (1 + l.k) next) l.invariant
+    ∙ ap (λ (n : ℕ). set (sets a.out.now 1 done) (1 + n) next) (sym (length_statuses a.c.registers a.session a.first l.k))
+    ∙ sym (sets_snoc done a.out.now 1 next)
+    ∙ ap (sets a.out.now 1) (sym (statuses_more a.c.registers a.session a.first l.k))
 
 pub returns : goal.returns
 returns c =
     let l = c.loop-k in
     let a = c.args in
     let e : l.k ≡ a.n = omega arith in
-    l.invariant.1.0 ∙ ap (λ (n : ℕ). sets a.out.now 1 (statuses_of a.c.registers a.session a.first n)) e
+    l.invariant ∙ ap (λ (n : ℕ). sets a.out.now 1 (statuses_of a.c.registers a.session a.first n)) e

@@ -4,8 +4,9 @@ use Prim.Native.Nat.{ℕ, ◌+◌}
 use lib.Seq.{sets}
 use Rattle.parts.proofs.Picks.{picks}
 use Rattle.errors.specs.declared.RadioError.TheVariants.{NoSuchBlock, ReadLeavesArea, ReadProtected}
-use Rattle.reply.specs.Reply.{good, fault}
-use Rattle.reply.proofs.Finish.{said, good_run}
+use Rattle.reply.specs.Reply.{good}
+use Rattle.reply.specs.Outcome.{fails}
+use Rattle.reply.proofs.Finish.{said, handed_on, good_run}
 use Rattle.blocks.specs.Blocks.{blocks_of, read_of}
 use Rattle.blocks.proofs.read.Goals as goal
 
@@ -13,20 +14,20 @@ pub returns-then-above : goal.returns-then-above
 unfolding read_of
 returns-then-above c =
     let a = c.args in
-    said (read_of a.v a.m.now a.option a.first a.more) _ (fault NoSuchBlock) c.error-answer.ensures (search picks depth 20)
+    handed_on (read_of a.v a.m.now a.option a.first a.more) a.out.now (fails NoSuchBlock a.v a.m.now) (c.fail.ensures a.m.now) (search picks depth 20)
 
 pub returns-then-leaving : goal.returns-then-leaving
 unfolding read_of
 returns-then-leaving c =
     let a = c.args in
-    said (read_of a.v a.m.now a.option a.first a.more) _ (fault ReadLeavesArea) c.error-answer-then-leaving.ensures
+    handed_on (read_of a.v a.m.now a.option a.first a.more) a.out.now (fails ReadLeavesArea a.v a.m.now) (c.fail-then-leaving.ensures a.m.now)
     (rw (← c.leaves_area-leaving.ensures) (search picks depth 20))
 
 pub returns-then-not-may_read : goal.returns-then-not-may_read
 unfolding read_of
 returns-then-not-may_read c =
     let a = c.args in
-    said (read_of a.v a.m.now a.option a.first a.more) _ (fault ReadProtected) c.error-answer-then-not-may_read.ensures
+    handed_on (read_of a.v a.m.now a.option a.first a.more) a.out.now (fails ReadProtected a.v a.m.now) (c.fail-then-not-may_read.ensures a.m.now)
     (rw (← c.leaves_area-leaving.ensures, ← c.may_read.ensures) (search picks depth 20))
 
 pub returns : goal.returns
@@ -38,5 +39,5 @@ returns c =
     (good_run blocks a.out.now c.put_blocks-n.new.out c.put_blocks-n.result
     c.put_blocks-n.ensures.value
     (c.put_blocks-n.ensures.out_after ∙ ap (λ (o : List ℕ). sets o 1 blocks) c.put.ensures)
-    c.close-answer.ensures)
+    c.close.ensures)
     (rw (← c.leaves_area-leaving.ensures, ← c.may_read.ensures) (search picks depth 20))

@@ -7,7 +7,7 @@ use Rattle.inventory_reply.proofs.end_of_frame.Goals as goal
 pub returns-then-takes_part : goal.returns-then-takes_part
 unfolding end_of_frame_of pick
 returns-then-takes_part c =
-    rw (← c.takes_part.ensures, c.if-takes_part.true, ← c.less_one.ensures) c.leave_slots.ensures
+    rw (← c.takes_part.ensures, c.if-takes_part.true, ← c.saturating_sub.ensures) c.leave_slots.ensures
 
 pub returns : goal.returns
 unfolding end_of_frame_of

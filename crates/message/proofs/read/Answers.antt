@@ -5,8 +5,9 @@ use Rattle.parts.proofs.Picks.{picks}
 use Rattle.parts.proofs.Lists.{length_bytes_at}
 use Rattle.tag.specs.Layout.{mailbox_place}
 use Rattle.errors.specs.declared.RadioError.TheVariants.{MailboxDisabled, PastMessage}
-use Rattle.reply.specs.Reply.{good, fault}
-use Rattle.reply.proofs.Finish.{said, good_run}
+use Rattle.reply.specs.Reply.{good}
+use Rattle.reply.specs.Outcome.{fails}
+use Rattle.reply.proofs.Finish.{said, handed_on, good_run}
 use Rattle.message.specs.Message.{read_message_of}
 use Rattle.message.proofs.read.Goals as goal
 
@@ -14,13 +15,13 @@ pub returns-then-not-b : goal.returns-then-not-b
 unfolding read_message_of
 returns-then-not-b c =
     let a = c.args in
-    said (read_message_of a.v a.m.now a.pointer a.n) _ (fault MailboxDisabled) c.error.ensures (search picks depth 20)
+    handed_on (read_message_of a.v a.m.now a.pointer a.n) a.out.now (fails MailboxDisabled a.v a.m.now) (c.fail.ensures a.m.now) (search picks depth 20)
 
 pub returns-then-b-pointer : goal.returns-then-b-pointer
 unfolding read_message_of
 returns-then-b-pointer c =
     let a = c.args in
-    said (read_message_of a.v a.m.now a.pointer a.n) _ (fault PastMessage) c.error-then-b-pointer.ensures
+    handed_on (read_message_of a.v a.m.now a.pointer a.n) a.out.now (fails PastMessage a.v a.m.now) (c.fail-then-b-pointer.ensures a.m.now)
     (rw (← c.asked-count.ensures) (search picks depth 20))
 
 pub overflow_cast-count-3 : goal.overflow_cast-count-3

@@ -1,8 +1,9 @@
 use mathlib.Core.List.{[]}
 use Rattle.parts.proofs.Picks.{picks}
 use Rattle.errors.specs.declared.RadioError.TheVariants.{MailboxUnavailable}
-use Rattle.reply.specs.Reply.{good, fault}
-use Rattle.reply.proofs.Finish.{said}
+use Rattle.reply.specs.Reply.{good}
+use Rattle.reply.specs.Outcome.{fails}
+use Rattle.reply.proofs.Finish.{said, handed_on}
 use Rattle.message_writes.specs.WriteMessage.{write_message_of}
 use Rattle.message_writes.proofs.write.Goals as goal
 
@@ -10,7 +11,7 @@ pub returns-then-not-takes_message : goal.returns-then-not-takes_message
 unfolding write_message_of
 returns-then-not-takes_message c =
     let a = c.args in
-    said (write_message_of a.v a.m.now a.more a.frame.now a.at) _ (fault MailboxUnavailable) c.error.ensures
+    handed_on (write_message_of a.v a.m.now a.more a.frame.now a.at) a.out.now (fails MailboxUnavailable a.v a.m.now) (c.fail.ensures a.m.now)
     (rw (← c.takes_message.ensures) (search picks depth 20))
 
 pub returns : goal.returns

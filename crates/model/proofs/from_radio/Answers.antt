@@ -1,12 +1,10 @@
 use Rattle.model.specs.Step.{from_radio}
 use Rattle.model.proofs.from_radio.Goals as goal
 
--- src/lib.rt:88:1
-pub returns-in-Silence : goal.returns-in-Silence
+pub returns-in-None : goal.returns-in-None
 unfolding from_radio
-returns-in-Silence c = rw c.in-Silence.is
+returns-in-None c = rw c.in-None.is
 
--- src/lib.rt:88:1
-pub returns-in-Reply : goal.returns-in-Reply
+pub returns-in-Some : goal.returns-in-Some
 unfolding from_radio
-returns-in-Reply c = rw c.in-Reply.is
+returns-in-Some c = rw c.in-Some.is

@@ -1,6 +1,5 @@
 use Rattle.reply.specs.Reply.{answer_of, buffer_of}
 use mathlib.Core.Path.{◌≡◌}
-use Rattle.reply.proofs.Finish.{said}
 use Rattle.radio.specs.Radio.{verdict_result, verdict_of}
 use Rattle.radio.proofs.request.Goals as goal
 
@@ -16,9 +15,7 @@ unfolding verdict_result
 returns-in-Error c =
     let verdict_here : let a = c.args in
     c.judge.result ≡ verdict_of a.v a.u a.transfer a.programming a.f.now = rw (← c.counted_dynamic-d.ensures, ← c.is_open_transfer-open.ensures) c.judge.ensures in
-    let a = c.args in
-    said (verdict_result (verdict_of a.v a.u a.transfer a.programming a.f.now) a.v a.u a.vcc a.m.now a.f.now) a.out.now _ c.error.ensures
-    (rw (← verdict_here, c.in-Error.is))
+    rw (← verdict_here, c.in-Error.is) (c.fail.ensures c.args.m.now)
 
 pub returns-in-Request : goal.returns-in-Request
 unfolding verdict_result

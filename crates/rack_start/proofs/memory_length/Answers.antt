@@ -1,7 +1,7 @@
-use mathlib.Core.Path.{◌≡◌, sym}
+use mathlib.Core.Path.{◌≡◌}
 use native.Mathlib.Omega.{arith}
 use lib.ListN.{length, take, length-take}
-use Rattle.rack_start.proofs.Places.{sizes_are, place_is}
+use Rattle.rack_start.proofs.Places.{sizes_are}
 use Rattle.rack_start.proofs.memory_length.Goals as goal
 
 pub returns : goal.returns

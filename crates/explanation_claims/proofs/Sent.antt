@@ -81,7 +81,7 @@ choose_any false true c s h = refl
 choose_any false false c s h = refl
 
 -- ---- a data byte
-forbidden_any : (z : Situation) → any_holds (forbids z) (write_reasons None) ≡ not (is_ok (first_says (forbids z) Err (Ok tt) (write_reasons None)))
+forbidden_any : (z : Situation) → any_holds (forbids z) (write_reasons None) ≡ not (is_ok (first_says (forbids z) Err (Ok (tt {0})) (write_reasons None)))
 forbidden_any z =
     any_says (forbids z) (write_reasons None) ∙ sym (says_through (λ (verdict : Result ⊤ WriteReason). not (is_ok verdict)) (forbids z) Err (Ok tt) (write_reasons None))
 

@@ -23,10 +23,7 @@ pub struct RackNumbers {
 fn bit_if(on: bool, bit: u32) -> u32
     ensures { result ≡ pick on bit 0 }
 {
-    if on {
-        return bit;
-    }
-    0
+    if on { bit } else { 0 }
 }
 
 fn mask(answered: [bool; 16]) -> u32
@@ -34,12 +31,9 @@ fn mask(answered: [bool; 16]) -> u32
 {
     let mut mask = 0;
     let mut bit = 1;
-    let mut i = 0;
-    while i < 16 {
-        let on = answered[i];
-        mask += bit_if(on, bit);
+    for i in 0..16 {
+        mask += bit_if(answered[i], bit);
         bit *= 2;
-        i += 1;
     }
     mask
 }

@@ -15,14 +15,14 @@ returns-then-heard-i c =
     elim c.then-heard-i.branch [
       | then-heard-i-via-then-heard-i w ↦ pick_le _ _ _ a.number i w.if-heard-i.true refl
       | then-heard-i-via-else-heard-i+then-i-gt15 w ↦
-        pick_not_le _ _ _ a.number i w.if-heard-i.false (pick_lt _ _ _ 15 i w.if-i-gt15.true refl)
+          pick_not_le _ _ _ a.number i w.if-heard-i.false (pick_lt _ _ _ 15 i w.if-i-gt15.true refl)
       | then-heard-i-via-else-heard-i+else-i-gt15+then-memory-heard w ↦
-        pick_not_le _ _ _ a.number i w.if-heard-i.false (pick_not_lt _ _ _ 15 i w.if-i-gt15.false (pick_lt _ _ _ (length m) a.at w.if-memory-heard.true refl))
+          pick_not_le _ _ _ a.number i w.if-heard-i.false (pick_not_lt _ _ _ 15 i w.if-i-gt15.false (pick_lt _ _ _ (length m) a.at w.if-memory-heard.true refl))
       | then-heard-i-via-else-heard-i+else-i-gt15+else-memory-heard+then-memory-heard-lt-MEMORY_BYTES w ↦
-        pick_not_le _ _ _ a.number i w.if-heard-i.false
-            (pick_not_lt _ _ _ 15 i w.if-i-gt15.false
-            (pick_not_lt _ _ _ (length m) a.at w.if-memory-heard.false
-            (pick_lt _ _ _ (length m - a.at) 1024 w.if-memory-heard-lt-MEMORY_BYTES.true refl)))
+          pick_not_le _ _ _ a.number i w.if-heard-i.false
+          (pick_not_lt _ _ _ 15 i w.if-i-gt15.false
+          (pick_not_lt _ _ _ (length m) a.at w.if-memory-heard.false
+          (pick_lt _ _ _ (length m - a.at) 1024 w.if-memory-heard-lt-MEMORY_BYTES.true refl)))
     ]
 
 pub returns-then-to_all-i : goal.returns-then-to_all-i

@@ -1,18 +1,11 @@
-use mathlib.Core.Path.{◌≡◌, sym}
+use mathlib.Core.Path.{◌≡◌}
 use native.Mathlib.Omega.{arith}
 use lib.ListN.{length, take, length-take}
-use Rattle.rack_start.proofs.Places.{sizes_are, place_is}
+use Rattle.rack_start.proofs.Places.{sizes_are}
 use Rattle.rack_start.proofs.memory_length.Goals as goal
-
-pub returns-then-bench-lt16 : goal.returns-then-bench-lt16
-returns-then-bench-lt16 c =
-    let sixteen_here : length c.args.bench.tags ≡ 16 = c.well_formed.0.1.1.0.1.0.1 in
-    let b = c.args.bench in
-    let h = c.if-bench-lt16.true in
-    record { value = sym (place_is b.tags b.count (omega (arith, h, sixteen_here))); upper_bound = omega (arith, h) }
 
 pub returns : goal.returns
 returns c =
     let sixteen_here : length c.args.bench.tags ≡ 16 = c.well_formed.0.1.1.0.1.0.1 in
     let b = c.args.bench in
-    record { value = omega (arith, c.if-bench-lt16.false, sixteen_here, sizes_are (take b.count b.tags), length-take b.count b.tags); upper_bound = omega arith }
+    record { value = omega (arith, c.min.ensures, sixteen_here, sizes_are (take b.count b.tags), length-take b.count b.tags); upper_bound = omega (arith, c.min.ensures) }

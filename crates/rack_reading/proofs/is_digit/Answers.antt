@@ -1,7 +1,0 @@
-use mathlib.Core.Path.{refl}
-use Rattle.rack_reading.specs.Line.{is_digit}
-use Rattle.rack_reading.proofs.is_digit.Goals as goal
-
-pub returns : goal.returns
-unfolding is_digit
-returns c = refl

@@ -31,5 +31,5 @@ pub fn start(m: &mut [u8]) -> Bench
 pub fn next_line(bench: Bench) -> u64
     ensures { result ≡ next_line bench }
 {
-    std::num::wrapping_add_u64(bench.number, 1)
+    bench.number.wrapping_add(1)
 }

@@ -7,6 +7,7 @@
 
 use model::Answer;
 use refusals::Refusal;
+use std::io;
 use std::io::{Read, Write};
 use tag::Tag;
 
@@ -18,8 +19,6 @@ struct EntryRun {
     reply: usize,
     // Lines before this one.
     number: u64,
-    // Whether all lines could be written.
-    written: bool,
 }
 
 // More than a call needs of each, so that a call can hand in too much.
@@ -52,14 +51,11 @@ fn begin() -> EntryRun {
         memory: tag::MEMORY_BYTES,
         reply: tag::REPLY_BYTES,
         number: 0,
-        written: true,
     }
 }
 
 fn with_tag(run: EntryRun, t: Tag) -> EntryRun {
-    let mut n = run;
-    n.tag = t;
-    n
+    EntryRun { tag: t, ..run }
 }
 
 fn says(run: EntryRun, said: EntryPrint) -> EntryLineOutcome {
@@ -130,13 +126,13 @@ fn lent(run: EntryRun, kind: u8, bytes: &[u8], most: usize) -> EntryLineOutcome 
     if most < size {
         return bad(run);
     }
-    let mut next = run;
     if kind == b'J' {
-        next.memory = size;
-        return nothing(next);
+        return nothing(EntryRun {
+            memory: size,
+            ..run
+        });
     }
-    next.reply = size;
-    nothing(next)
+    nothing(EntryRun { reply: size, ..run })
 }
 
 fn memory(run: EntryRun, m: &mut [u8], bytes: &[u8]) -> EntryLineOutcome {
@@ -147,12 +143,10 @@ fn memory(run: EntryRun, m: &mut [u8], bytes: &[u8]) -> EntryLineOutcome {
 }
 
 fn patch(run: EntryRun, bytes: &[u8]) -> EntryLineOutcome {
-    let p = example_states::patch(run.tag, bytes);
-    if !p.fits {
-        return bad(run);
+    match example_states::patch(run.tag, bytes) {
+        Some(t) => nothing(with_tag(run, t)),
+        None => bad(run),
     }
-    let t = p.tag;
-    nothing(with_tag(run, t))
 }
 
 // A letter with bytes.
@@ -230,55 +224,51 @@ fn put_said(text: &mut [u8], at: usize, said: EntryPrint, t: Tag, m: &[u8], out:
     }
 }
 
-// A line: its number, a tab, its answer. Says whether it could be written.
-fn print<W: Write, E: Write>(
+// A line: its number, a tab, its answer.
+fn print<W: Write>(
     to: &mut W,
-    err: &mut E,
     number: u64,
     said: EntryPrint,
     t: Tag,
     m: &[u8],
     out: &[u8],
-) -> bool {
+) -> io::Result<()> {
     let mut text = [0u8; example_lines::ANSWER];
     let answer = example_lines::put_number(&mut text, number);
     let feed = put_said(&mut text, answer, said, t, m, out);
-    example_lines::write_line(to, err, &mut text, feed)
+    example_lines::write_line(to, &mut text, feed)
 }
 
-fn line<W: Write, E: Write>(
+fn line<W: Write>(
     to: &mut W,
-    err: &mut E,
     run: EntryRun,
     s: &[u8],
     m: &mut [u8],
     out: &mut [u8],
     bytes: &mut [u8],
-) -> EntryRun {
-    let number = std::num::wrapping_add_u64(run.number, 1);
-    let o = act(run, s, m, out, bytes);
-    let said = o.said;
-    let mut n = o.run;
-    let t = n.tag;
-    n.number = number;
-    n.written = print(to, err, number, said, t, m, out);
-    n
+) -> io::Result<EntryRun> {
+    let number = run.number.wrapping_add(1);
+    let EntryLineOutcome { run, said } = act(run, s, m, out, bytes);
+    print(to, number, said, run.tag, m, out)?;
+    Ok(EntryRun { number, ..run })
 }
 
-fn lines<W: Write, E: Write>(
+// All lines of s, as far as they can be written. The place moves by a line at a time, and no iterator of std's has lines
+// as the definition has them.
+fn lines<W: Write>(
     to: &mut W,
-    err: &mut E,
     s: &[u8],
     m: &mut [u8],
     out: &mut [u8],
     bytes: &mut [u8],
-) {
+) -> io::Result<()> {
     let mut r = begin();
     let mut at = 0;
-    while (at < s.len()) & r.written {
-        r = line(to, err, r, example_lines::line_at(s, at), m, out, bytes);
+    while at < s.len() {
+        r = line(to, r, example_lines::line_at(s, at), m, out, bytes)?;
         at = example_lines::next_at(s, at);
     }
+    Ok(())
 }
 
 // A script, read into a lent buffer: all of its lines.
@@ -292,7 +282,9 @@ fn script<R: Read, W: Write, E: Write>(
     let mut m = [0u8; MEMORY];
     let mut out = [0u8; REPLY];
     let mut bytes = [0u8; LINE];
-    lines(to, err, &input[0..n], &mut m, &mut out, &mut bytes);
+    if lines(to, &input[..n], &mut m, &mut out, &mut bytes).is_err() {
+        example_lines::report(err);
+    }
 }
 
 fn main(rt: HostRuntime) {

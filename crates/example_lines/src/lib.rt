@@ -1,13 +1,14 @@
 // For the example program: a script from standard input, its lines, and the lines that answer them.
 #![tactic(auto)]
 
-ghost use Rattle.std.specs.Prelude.{◌≡◌, true, ◌+◌, ◌<◌, set, length, take};
+ghost use Rattle.std.specs.Prelude.{◌≡◌, ◌+◌, ◌<◌, set, length, take, OnOk};
 ghost use Rattle.std.specs.Io.KnownBytes.{Appends, Consumes};
 ghost use Rattle.text.specs.Place.{stored, text_at};
 ghost use Rattle.example_lines.specs.Lines.{IsPrefixLen, example_uid, script_line, next_at, number_text};
 
 use keys::Uid;
-use std::io::{Read, Write};
+use std::io;
+use std::io::{Error, ErrorKind, Read, Write};
 
 // More bytes than a script has.
 pub const SCRIPT: usize = 524288;
@@ -84,17 +85,19 @@ pub fn put_number(text: &mut [u8], number: u64) -> usize
     text::put_mark(text, tab, b'\t')
 }
 
-// Writes a line's text, its line feed put at a place, and says whether it could; else it is reported.
-pub fn write_line<W: Write, E: Write>(to: &mut W, err: &mut E, text: &mut [u8], feed: usize) -> bool
+// Writes a line's text, its line feed put at a place.
+pub fn write_line<W: Write>(to: &mut W, text: &mut [u8], feed: usize) -> io::Result<()>
     ensures fed { text.new ≡ set text.old feed 10 }
-    ensures written { result ≡ true → Appends (W.contents to.old) (W.contents to.new) (take (feed + 1) text.new) }
+    ensures written { OnOk result (Appends (W.contents to.old) (W.contents to.new) (take (feed + 1) text.new)) }
 {
     let end = text::put_mark(text, feed, b'\n');
-    if end <= text.len() {
-        if console::write_all(to, &text[0..end]).is_ok() {
-            return true;
-        }
+    if text.len() < end {
+        return Err(Error::new(ErrorKind::WriteZero, "no room for a line feed"));
     }
+    console::write_all(to, &text[..end])
+}
+
+// Tells that a line could not be written.
+pub fn report<E: Write>(err: &mut E) {
     let _ = console::write_all(err, b"cannot write the output\n");
-    false
 }

@@ -20,5 +20,5 @@ pub all_bytes : (t : Tag) → length (bytes_of t) ≡ state_bytes → take state
 all_bytes t k = take_all state_bytes (bytes_of t) (omega (arith, k))
 
 -- what a line makes of them
-pub patched_by : (t : Tag) (b e : List ℕ) (p : StoreResult) → e ≡ bytes_of t → p ≡ store_of e b → patch_by t p ≡ patch_of t b
-patched_by t b e p h q = ap (patch_by t) (q ∙ ap (λ (l : List ℕ). store_of l b) h)
+pub patched_by : (t : Tag) (b e : List ℕ) (p : StoreResult) → e ≡ bytes_of t → p ≡ store_of e b → patch_by p ≡ patch_of t b
+patched_by t b e p h q = ap patch_by (q ∙ ap (λ (l : List ℕ). store_of l b) h)

@@ -35,33 +35,19 @@ pub fn store(m: &mut [u8], s: &[u8]) -> bool
     true
 }
 
-// A tag after a line set bytes of its state, and whether they are a state's; else it is as it was.
-#[derive(Clone, Copy)]
-pub struct PatchOutcome {
-    pub fits: bool,
-    pub tag: Tag,
-}
-
-// Sets bytes of a tag's state from a line's bytes, of which the first two name the place.
-pub fn patch(t: Tag, line: &[u8]) -> PatchOutcome
+// Sets bytes of a tag's state from a line's bytes, of which the first two name the place; none where they are no state's.
+pub fn patch(t: Tag, line: &[u8]) -> Option<Tag>
     ensures { result ≡ patch_of t line.now }
 {
     let mut s = [0u8; state::STATE_BYTES];
     state_encode::encode(t, &mut s);
-    let kept = PatchOutcome {
-        fits: false,
-        tag: t,
-    };
     if !store(&mut s, line) {
-        return kept;
+        return None;
     }
     if !state_judge::decodes(&s) {
-        return kept;
+        return None;
     }
-    PatchOutcome {
-        fits: true,
-        tag: state_decode::decode(&s),
-    }
+    Some(state_decode::decode(&s))
 }
 
 // Stores the digits of the bytes of a tag's state.

@@ -48,11 +48,8 @@ module _ {S : Type 0} (program : LineProgram S) where
     long : l.wrote ≡ length text
     long = ap (λ (x : StreamBuffers S). x.wrote) called
 
-    -- `&out[0..n]` reads as `n - 0` bytes
-    text_is : take (l.wrote - 0) l.buffer ≡ text
-    text_is =
-        let same : l.wrote - 0 ≡ l.wrote = omega arith in
-        ap (λ (n : ℕ). take n l.buffer) same ∙ ap (λ (x : StreamBuffers S). take x.wrote x.buffer) called ∙ buffer_is o text (omega (arith, long, fits))
+    text_is : take l.wrote l.buffer ≡ text
+    text_is = ap (λ (x : StreamBuffers S). take x.wrote x.buffer) called ∙ buffer_is o text (omega (arith, long, fits))
 
     whole : (flow_of program c₀ h₀ s).text ≡ (before.0 ++ text) ++ (flow_of program l.carried l.held (drop (at + l.used) s)).text
     whole =
@@ -63,10 +60,10 @@ module _ {S : Type 0} (program : LineProgram S) where
         ∙ ap (λ (x : List ℕ). text ++ (flow_of program l.carried l.held x).text) (drop-drop l.used at s))
         ∙ sym (append_assoc before.0 text (flow_of program l.carried l.held (drop (at + l.used) s)).text)
 
-    pub says_on : Appends b d (take (l.wrote - 0) l.buffer) → Said program c₀ h₀ s a d l.carried l.held (at + l.used)
+    pub says_on : Appends b d (take l.wrote l.buffer) → Said program c₀ h₀ s a d l.carried l.held (at + l.used)
     says_on x = (before.0 ++ text, whole, Appends-trans a b d before.0 text before.2 (subst (Appends b d) text_is x))
 
-    pub some_said : AppendsStart b d (take (l.wrote - 0) l.buffer) → AppendsStart a d (flow_of program c₀ h₀ s).text
+    pub some_said : AppendsStart b d (take l.wrote l.buffer) → AppendsStart a d (flow_of program c₀ h₀ s).text
     some_said (n, m, x) =
         let t = before.0 in
         let rest = (flow_of program l.carried l.held (drop (at + l.used) s)).text in

@@ -1,2 +1,130 @@
-// No code: proofs/ has the law of what a program that answers line by line has written while it goes over a piece.
+// The run of a program that answers line by line: each line of the input answered on the output. It only moves bytes:
+// what a line is and what answers it is the crate line_stream's. All that is to be written is written before more is
+// read. proofs/ has the law of what is written while it goes over a piece.
 #![tactic(auto)]
+
+ghost use Rattle.std.specs.Prelude.{◌≡◌, true, ◌≤◌, length, take, IfOk, OnOk, OnErr};
+ghost use Rattle.std.specs.Io.KnownBytes.{Appends};
+ghost use Rattle.console.specs.Written.{AppendsStart};
+ghost use Rattle.line_stream.specs.State.{state_of};
+ghost use Rattle.line_stream.specs.Step.{text_room};
+ghost use Rattle.line_stream.specs.Flow.{flow_of, Reaches};
+
+use line_stream::{AnswersLines, Carried};
+use std::io;
+use std::io::{Read, Write};
+
+// What could not be done.
+#[derive(Clone, Copy)]
+enum Failure {
+    Read,
+    Write,
+}
+
+// A piece of the input: step by step, and each step's texts are written before the next. Where one cannot be written, a
+// start of the piece's texts is, and no more. Gives how many bytes of an unfinished line are kept.
+fn piece<P: AnswersLines, W: Write>(
+    to: &mut W,
+    on: &mut Carried<'_, P::Bench, P::Memory>,
+    kept: &mut [u8; 1201],
+    have: usize,
+    s: &[u8],
+    out: &mut [u8],
+) -> io::Result<usize>
+    requires { text_room ≤ length out.old }
+    ensures reached { IfOk result (λ n. Reaches true (state_of on.new) (take n kept.new) (flow_of P.program (state_of on.old) (take have kept.old) s.now)) }
+    ensures said { OnOk result (Appends (W.contents to.old) (W.contents to.new) (flow_of P.program (state_of on.old) (take have kept.old) s.now).text) }
+    ensures cut { OnErr result (AppendsStart (W.contents to.old) (W.contents to.new) (flow_of P.program (state_of on.old) (take have kept.old) s.now).text) }
+{
+    let mut have = have;
+    let mut at = 0;
+    while at < s.len() {
+        let t = line_stream::step::<P>(on, kept, have, &s[at..], out);
+        console::write_all(to, &out[..t.wrote])?;
+        have = t.have;
+        at += t.used;
+    }
+    Ok(have)
+}
+
+// The end of the input.
+fn finish<P: AnswersLines, W: Write>(
+    to: &mut W,
+    on: &mut Carried<'_, P::Bench, P::Memory>,
+    kept: &mut [u8; 1201],
+    have: usize,
+    out: &mut [u8],
+) -> io::Result<()> {
+    let t = line_stream::end::<P>(on, kept, have, out);
+    console::write_all(to, &out[..t.wrote])
+}
+
+// One read, and what it brought: how many bytes of an unfinished line are kept, or nothing at the end. A failed read is
+// not the end of the input: an unfinished line is not answered.
+fn turn<P: AnswersLines, R: Read, W: Write>(
+    from: &mut R,
+    to: &mut W,
+    on: &mut Carried<'_, P::Bench, P::Memory>,
+    kept: &mut [u8; 1201],
+    have: usize,
+    input: &mut [u8],
+    out: &mut [u8],
+) -> Result<Option<usize>, Failure>
+    requires { text_room ≤ length out.old }
+{
+    let n = match console::read(from, input) {
+        Ok(n) => n,
+        Err(_) => return Err(Failure::Read),
+    };
+    if n == 0 {
+        return match finish::<P, W>(to, on, kept, have, out) {
+            Ok(_) => Ok(None),
+            Err(_) => Err(Failure::Write),
+        };
+    }
+    match piece::<P, W>(to, on, kept, have, &input[..n], out) {
+        Ok(have) => Ok(Some(have)),
+        Err(_) => Err(Failure::Write),
+    }
+}
+
+// All of the input. The number of reads only shows that the loop ends.
+fn all<P: AnswersLines, R: Read, W: Write>(
+    from: &mut R,
+    to: &mut W,
+    on: &mut Carried<'_, P::Bench, P::Memory>,
+    kept: &mut [u8; 1201],
+    input: &mut [u8],
+    out: &mut [u8],
+) -> Result<(), Failure>
+    requires { text_room ≤ length out.old }
+{
+    let mut have = 0;
+    for _ in 0..u64::MAX {
+        match turn::<P, R, W>(from, to, on, kept, have, input, out)? {
+            Some(n) => have = n,
+            None => return Ok(()),
+        }
+    }
+    Ok(())
+}
+
+// The whole run, over what goes from line to line. What cannot be done is told on `err`.
+pub fn run<P: AnswersLines, R: Read, W: Write, E: Write>(
+    from: &mut R,
+    to: &mut W,
+    err: &mut E,
+    on: &mut Carried<'_, P::Bench, P::Memory>,
+    cannot_read: &[u8],
+    cannot_write: &[u8],
+) {
+    let mut kept = [0u8; 1201];
+    let mut input = [0u8; 65536];
+    let mut out = [0u8; 65536];
+    let told = match all::<P, R, W>(from, to, on, &mut kept, &mut input, &mut out) {
+        Ok(_) => return,
+        Err(Failure::Read) => cannot_read,
+        Err(Failure::Write) => cannot_write,
+    };
+    let _ = console::write_all(err, told);
+}

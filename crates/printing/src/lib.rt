@@ -12,10 +12,7 @@ use model::Answer;
 fn shown_bytes(n: usize) -> usize
     ensures { result ≡ n - 2 }
 {
-    if n < 2 {
-        return 0;
-    }
-    n - 2
+    n.saturating_sub(2)
 }
 
 // Stores the text of an answer at a place, and gives the place behind it.

@@ -1,5 +1,5 @@
 -- The lines of `rack_bench`: "Lines as in `bench`, and" three of its own. A line, without its line feed, and what it says.
-use Rattle.std.specs.Prelude.{Bool, true, not, ◌&&◌, ◌||◌, List, [], ◌∷◌, ℕ, ◌+◌, ◌-◌, ◌*◌, leb, ltb, eqb, length, get_or, drop}
+use Rattle.std.specs.Prelude.{Option, Some, None, Bool, true, not, ◌&&◌, ◌||◌, List, [], ◌∷◌, ℕ, ◌+◌, ◌-◌, ◌*◌, leb, ltb, eqb, length, get_or, drop}
 use Rattle.parts.specs.Pick.{pick}
 use Rattle.hexadecimal.specs.Hex.{hex_bytes}
 use Rattle.lines.specs.Line.{has_bytes}
@@ -7,7 +7,7 @@ use Rattle.keys.specs.declared.Uid.{Uid}
 use Rattle.keys.specs.Keys.{uid_at}
 use Rattle.reading.specs.Line.{ScriptLine, bad_line, signal_line, frame_line, longest, line_of}
 use Rattle.rack_reading.specs.declared.RackReading.{RackReading}
-use Rattle.rack_reading.specs.declared.RackReading.TheVariants.{Bad, Signal, Frame, Add, Name, Search}
+use Rattle.rack_reading.specs.declared.RackReading.TheVariants.{Signal, Frame, Add, Name, Search}
 
 pub data RackLine : Type 0 where
   -- as in `bench`: a bad line, a signal's code and value, or a frame without CRC
@@ -85,10 +85,10 @@ unfoldable pub rack_line_of : List ℕ → RackLine
 rack_line_of s = or_own (line_of s) s
 
 -- ---- what the program's reading of a line says; s is what follows the tab
-unfoldable pub rack_line_by : RackReading → List ℕ → RackLine
-rack_line_by Bad s = bad_rack_line
-rack_line_by (Signal code value) s = bench_line (signal_line code value)
-rack_line_by Frame s = bench_line (frame_line (hex_bytes s))
-rack_line_by Add s = add_line (uid_of s)
-rack_line_by (Name n) s = name_line n
-rack_line_by Search s = search_line (hex_bytes s)
+unfoldable pub rack_line_by : Option RackReading → List ℕ → RackLine
+rack_line_by None s = bad_rack_line
+rack_line_by (Some (Signal code value)) s = bench_line (signal_line code value)
+rack_line_by (Some Frame) s = bench_line (frame_line (hex_bytes s))
+rack_line_by (Some Add) s = add_line (uid_of s)
+rack_line_by (Some (Name n)) s = name_line n
+rack_line_by (Some Search) s = search_line (hex_bytes s)

@@ -9,7 +9,6 @@ use reading::Reading;
 
 #[derive(Clone, Copy)]
 pub enum RackReading {
-    Bad,
     // The signal's code, and its value.
     Signal { code: u8, value: u16 },
     // The digits of a frame without CRC stand after the tab.
@@ -32,89 +31,94 @@ pub fn uid_of(s: &[u8]) -> Uid
 }
 
 // U, a tab and the sixteen digits of a UID.
-fn add_sent(s: &[u8]) -> RackReading
+#[tactic(auto, using(parts::proofs::Picks::picks), unfolding(crate::specs::Line::rack_line_by, crate::specs::Line::add_sent))]
+fn add_sent(s: &[u8]) -> Option<RackReading>
     ensures { rack_line_by result (drop 2 s.now) ≡ add_sent s.now }
 {
     let hex = lines::has_bytes(s);
     if (s.len() == 18) & hex {
-        return RackReading::Add;
+        return Some(RackReading::Add);
     }
-    RackReading::Bad
+    None
 }
 
 // Whether a character is 0 to 9.
+#[tactic(auto, unfolding(crate::specs::Line::is_digit))]
 fn is_digit(x: u8) -> bool
     ensures { result ≡ is_digit x }
 {
-    x.is_ascii_digit()
+    (0x30 <= x) & (x <= 0x39)
 }
 
 // A decimal number, 0 to 255, without leading zeros.
-fn number_sent(s: &[u8]) -> RackReading
+fn number_sent(s: &[u8]) -> Option<RackReading>
     ensures { rack_line_by result s.now ≡ number_sent s.now }
 {
     let first = parts::byte_at(s, 0);
     if (s.len() == 0) | ((1 < s.len()) & (first == b'0')) {
-        return RackReading::Bad;
+        return None;
     }
     let mut n = 0u16;
     for x in s {
-        if !is_digit(*x) {
-            return RackReading::Bad;
+        let x = *x;
+        if !is_digit(x) {
+            return None;
         }
-        n = 10 * n + (*x - b'0') as u16;
+        n = 10 * n + u16::from(x - b'0');
         if 255 < n {
-            return RackReading::Bad;
+            return None;
         }
     }
-    RackReading::Name(n as u8)
+    Some(RackReading::Name(n as u8))
 }
 
 // T, a tab and a number.
-fn name_sent(s: &[u8]) -> RackReading
+fn name_sent(s: &[u8]) -> Option<RackReading>
     ensures { rack_line_by result (drop 2 s.now) ≡ name_sent s.now }
 {
     if s.len() < 2 {
-        return RackReading::Bad;
+        return None;
     }
     if s[1] != 0x09 {
-        return RackReading::Bad;
+        return None;
     }
     number_sent(&s[2..])
 }
 
 // L, a tab and a frame, a byte or more.
-fn search_sent(s: &[u8]) -> RackReading
+#[tactic(auto, using(parts::proofs::Picks::picks), unfolding(crate::specs::Line::rack_line_by, crate::specs::Line::search_sent))]
+fn search_sent(s: &[u8]) -> Option<RackReading>
     ensures { rack_line_by result (drop 2 s.now) ≡ search_sent s.now }
 {
     if lines::has_bytes(s) {
-        return RackReading::Search;
+        return Some(RackReading::Search);
     }
-    RackReading::Bad
+    None
 }
 
 // A line of a rack's own, by its letter.
-fn own_line(s: &[u8]) -> RackReading
+#[tactic(auto, using(parts::proofs::Picks::picks), unfolding(crate::specs::Line::rack_line_by, crate::specs::Line::own_line))]
+fn own_line(s: &[u8]) -> Option<RackReading>
     ensures { rack_line_by result (drop 2 s.now) ≡ own_line s.now }
 {
     if 1200 < s.len() {
-        return RackReading::Bad;
+        return None;
     }
     match parts::byte_at(s, 0) {
         b'U' => add_sent(s),
         b'T' => name_sent(s),
         b'L' => search_sent(s),
-        _ => RackReading::Bad,
+        _ => None,
     }
 }
 
-// A line without its line feed.
-pub fn read(s: &[u8]) -> RackReading
+// A line without its line feed; none: a bad line.
+pub fn read(s: &[u8]) -> Option<RackReading>
     ensures { rack_line_by result (drop 2 s.now) ≡ rack_line_of s.now }
 {
     match reading::read(s) {
-        Reading::Bad => own_line(s),
-        Reading::Signal { code, value } => RackReading::Signal { code, value },
-        Reading::Frame => RackReading::Frame,
+        None => own_line(s),
+        Some(Reading::Signal { code, value }) => Some(RackReading::Signal { code, value }),
+        Some(Reading::Frame) => Some(RackReading::Frame),
     }
 }

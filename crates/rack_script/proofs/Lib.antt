@@ -1,4 +1,3 @@
 pub mod Stored
 pub mod Fits
 pub mod Said
-pub mod Frames

@@ -1,6 +1,7 @@
 -- What a line leaves, from what it says. Assumes nothing.
 use Rattle.std.proofs.Common.{◌≡◌, ℕ, ◌-◌, ◌≤◌, true, List, length, take, drop, sym, ap, ◌∙◌, arith, length-drop, take_all}
 use lib.Seq.{sets}
+use Rattle.std.specs.Prelude.{Option}
 use Rattle.reading.proofs.LineLaws.{Framed}
 use Rattle.line_stream.specs.Step.{LineStored, stores_line, text_room}
 use Rattle.rack_reading.specs.declared.RackReading.{RackReading}
@@ -10,11 +11,11 @@ use Rattle.rack_script.specs.Script.{RackState, rack_line_answer, rack_program, 
 use Rattle.rack_script.proofs.Fits.{rack_texts_fit}
 
 -- what the line says, by what was read
-pub said : (s : List ℕ) (r x : RackReading) → rack_line_by r (drop 2 s) ≡ rack_line_of s → r ≡ x → rack_line_of s ≡ rack_line_by x (drop 2 s)
-said s r x e h = sym e ∙ ap (λ (y : RackReading). rack_line_by y (drop 2 s)) h
+pub said : (s : List ℕ) (r x : Option RackReading) → rack_line_by r (drop 2 s) ≡ rack_line_of s → r ≡ x → rack_line_of s ≡ rack_line_by x (drop 2 s)
+said s r x e h = sym e ∙ ap (λ (y : Option RackReading). rack_line_by y (drop 2 s)) h
 
 -- a line with digits behind its tab
-pub said_framed : (s : List ℕ) (r x : RackReading) → rack_line_by r (drop 2 s) ≡ rack_line_of s → r ≡ x → has_digits (rack_line_by x (drop 2 s)) ≡ true → Framed s
+pub said_framed : (s : List ℕ) (r x : Option RackReading) → rack_line_by r (drop 2 s) ≡ rack_line_of s → r ≡ x → has_digits (rack_line_by x (drop 2 s)) ≡ true → Framed s
 said_framed s r x e h d = digits_framed s (ap has_digits (said s r x e h) ∙ d)
 
 pub behind_tab : (s : List ℕ) → take (length s - 2) (drop 2 s) ≡ drop 2 s

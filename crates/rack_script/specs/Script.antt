@@ -9,6 +9,7 @@ use Rattle.rack_model.specs.Passed.{Rack, rack_of, rack_call, memory_sizes, rack
 use Rattle.collision_search.specs.Passed.{search_entry}
 use Rattle.reading.specs.Line.{bad_line, signal_line, frame_line}
 use Rattle.rack_printing.specs.Passed.{bad_text, line_text}
+use Rattle.line_stream.specs.State.{LineState, line_state}
 use Rattle.line_stream.specs.Step.{LineAnswer, line_answer, LineProgram}
 use Rattle.rack_reading.specs.Line.{RackLine, bench_line, add_line, name_line, search_line, rack_line_of}
 use Rattle.rack_printing.specs.Text.{rack_text, search_text}
@@ -17,13 +18,11 @@ use Rattle.rack_start.specs.Start.{takes_tag, added_tag}
 
 -- ---- what goes from line to line
 -- the tags and what else is on the bench, their memories, the reply buffer
-pub record RackState : Type 0 where
-  pub bench : RackBench
-  pub memory : List ℕ
-  pub reply : List ℕ
+abbrev pub RackState : Type 0
+RackState = LineState RackBench (List ℕ)
 
 abbrev pub rack_state : RackBench → List ℕ → List ℕ → RackState
-rack_state bench m o = record { bench = bench; memory = m; reply = o }
+rack_state bench m o = line_state bench m o
 
 -- the tags that were added
 abbrev pub tags_added : RackBench → List Tag

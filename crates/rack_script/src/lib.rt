@@ -1,10 +1,8 @@
 // A rack's script: a line to a call, a search, a tag or a bad line, an answer to its text, and the step from line to line.
 #![tactic(auto)]
 
-ghost use Rattle.std.specs.Prelude.{◌≡◌, ℕ, ◌≤◌, List, length, take};
+ghost use Rattle.std.specs.Prelude.{◌≡◌, ℕ, ◌≤◌, List, length};
 ghost use Rattle.std.proofs.lemmas.List.Edits.{sets};
-ghost use Rattle.crc.specs.Crc.{closed};
-ghost use Rattle.hexadecimal.specs.Hex.{hex_bytes};
 ghost use Rattle.line_stream.specs.Step.{text_room, line_stored, stores_line};
 ghost use Rattle.rack_reading.specs.Line.{rack_line_of, uid_of};
 ghost use Rattle.rack_script.specs.Script.{rack_state, numbered, none_text, bad_answered, call_answered, search_answered, add_answered, name_answered, rack_program, rack_frame};
@@ -24,12 +22,10 @@ pub struct RackLineOutcome {
 fn bad_line(bench: RackBench, text: &mut [u8]) -> RackLineOutcome
     ensures { (m o : List ℕ) → line_stored (rack_state result.bench m o) result.length text.new ≡ stores_line (bad_answered (rack_state bench m o)) text.old }
 {
-    let number = std::num::wrapping_add_u64(bench.number, 1);
+    let number = bench.number.wrapping_add(1);
     let length = rack_printing::put_bad_line(text, number);
-    let mut next = bench;
-    next.number = number;
     RackLineOutcome {
-        bench: next,
+        bench: RackBench { number, ..bench },
         length,
     }
 }
@@ -38,12 +34,10 @@ fn bad_line(bench: RackBench, text: &mut [u8]) -> RackLineOutcome
 fn none_line(bench: RackBench, reply: &[u8; 643], text: &mut [u8]) -> RackLineOutcome
     ensures { (m : List ℕ) → line_stored (rack_state result.bench m reply.now) result.length text.new ≡ stores_line (numbered (rack_state bench m reply.now) none_text) text.old }
 {
-    let number = std::num::wrapping_add_u64(bench.number, 1);
+    let number = bench.number.wrapping_add(1);
     let length = rack_printing::put_rack_line(text, number, Answer::Nothing, reply, [false; 16]);
-    let mut next = bench;
-    next.number = number;
     RackLineOutcome {
-        bench: next,
+        bench: RackBench { number, ..bench },
         length,
     }
 }
@@ -73,17 +67,18 @@ fn call_line(
         frame,
         bench.to as usize,
     );
-    let number = std::num::wrapping_add_u64(bench.number, 1);
+    let number = bench.number.wrapping_add(1);
     let answer = o.answer;
     let answered = o.answered;
     let length = rack_printing::put_rack_line(text, number, answer, reply, answered);
     let left = o.tags;
-    let mut next = bench;
-    next.tags = left;
-    next.begun = true;
-    next.number = number;
     RackLineOutcome {
-        bench: next,
+        bench: RackBench {
+            tags: left,
+            begun: true,
+            number,
+            ..bench
+        },
         length,
     }
 }
@@ -102,16 +97,17 @@ fn search_line(
     let tags = bench.tags;
     let end = rack_start::memory_length(bench);
     let o = collision_search::search(tags, bench.count, &mut m[..end], reply, frame);
-    let number = std::num::wrapping_add_u64(bench.number, 1);
+    let number = bench.number.wrapping_add(1);
     let answer = o.answer;
     let length = rack_printing::put_search_line(text, number, answer);
     let left = o.tags;
-    let mut next = bench;
-    next.tags = left;
-    next.begun = true;
-    next.number = number;
     RackLineOutcome {
-        bench: next,
+        bench: RackBench {
+            tags: left,
+            begun: true,
+            number,
+            ..bench
+        },
         length,
     }
 }
@@ -138,23 +134,12 @@ fn add_line(
 fn name_line(bench: RackBench, to: u8, reply: &[u8; 643], text: &mut [u8]) -> RackLineOutcome
     ensures { (m : List ℕ) → line_stored (rack_state result.bench m reply.now) result.length text.new ≡ stores_line (name_answered to (rack_state bench m reply.now)) text.old }
 {
-    let mut next = bench;
-    next.to = to;
-    next.begun = true;
+    let next = RackBench {
+        to,
+        begun: true,
+        ..bench
+    };
     none_line(next, reply, text)
-}
-
-// Stores a frame with its CRC, from its digits, and gives its length. A line of 1,200 characters has 599 bytes of
-// frame, and the CRC two.
-fn put_frame(s: &[u8], frame: &mut [u8; 602]) -> usize
-    requires { length s.now ≤ 1198 }
-    ensures frame_after { take result frame.new ≡ closed (hex_bytes s.now) }
-    ensures upper_bound { result ≤ length frame.new }
-    ensures frame_after_2 { frame.new ≡ sets frame.old 0 (closed (hex_bytes s.now)) }
-{
-    let n = hexadecimal::decode(s, frame);
-    crc::close(frame, n);
-    n + 2
 }
 
 // A line without its line feed. Its text stands in `text` from place 0 on, and its frame in `frame`. The caller lends
@@ -172,19 +157,19 @@ pub fn line(
     ensures frame_after { frame.new ≡ sets frame.old 0 (rack_frame (rack_line_of s.now)) }
 {
     match rack_reading::read(s) {
-        RackReading::Bad => bad_line(bench, text),
-        RackReading::Signal { code, value } => {
+        None => bad_line(bench, text),
+        Some(RackReading::Signal { code, value }) => {
             call_line(bench, m, reply, code, value, &s[..0], text)
         }
-        RackReading::Frame => {
-            let n = put_frame(&s[2..], frame);
+        Some(RackReading::Frame) => {
+            let n = frame_text::put_frame(&s[2..], frame);
             let whole = &frame[..];
             call_line(bench, m, reply, 8, 0, &whole[..n], text)
         }
-        RackReading::Add => add_line(bench, m, reply, &s[2..], text),
-        RackReading::Name(to) => name_line(bench, to, reply, text),
-        RackReading::Search => {
-            let n = put_frame(&s[2..], frame);
+        Some(RackReading::Add) => add_line(bench, m, reply, &s[2..], text),
+        Some(RackReading::Name(to)) => name_line(bench, to, reply, text),
+        Some(RackReading::Search) => {
+            let n = frame_text::put_frame(&s[2..], frame);
             let whole = &frame[..];
             search_line(bench, m, reply, &whole[..n], text)
         }

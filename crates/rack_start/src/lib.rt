@@ -23,6 +23,7 @@ pub struct RackBench {
 }
 
 // No tag, before line 1.
+#[tactic(auto, unfolding(crate::specs::Start::rack_start))]
 pub fn start() -> RackBench
     ensures { result ≡ rack_start }
 {
@@ -37,6 +38,7 @@ pub fn start() -> RackBench
 }
 
 // Whether a tag can be added.
+#[tactic(auto, unfolding(crate::specs::Start::takes_tag))]
 pub fn takes_tag(bench: RackBench) -> bool
     ensures { result ≡ takes_tag bench }
 {
@@ -53,13 +55,11 @@ pub fn add(bench: RackBench, m: &mut [u8; 16384], uid: Uid) -> RackBench
     let i = bench.count;
     let zeros = [0u8; 1024];
     parts::put_bytes(m, tag::MEMORY_BYTES * i, &zeros, 0, tag::MEMORY_BYTES);
-    let mut tags = bench.tags;
-    tags[i] = Tag::fresh(uid);
-    RackBench {
-        tags,
-        count: i + 1,
-        ..bench
-    }
+    // In place: an update of the struct would copy all sixteen tags once more.
+    let mut n = bench;
+    n.tags[i] = Tag::fresh(uid);
+    n.count = i + 1;
+    n
 }
 
 // How many bytes the tags' memories have together.

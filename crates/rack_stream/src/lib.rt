@@ -1,54 +1,38 @@
 // A rack's lines out of pieces of any length: a step with a piece of the input, and the end of the input.
 #![tactic(auto)]
 
-ghost use Rattle.std.specs.Prelude.{◌≡◌, ◌++◌, ◌≤◌, eqb, length, take};
-ghost use Rattle.parts.specs.Pick.{pick};
-ghost use Rattle.unfinished.specs.Kept.{kept_most};
-ghost use Rattle.line_stream.specs.Step.{line_stored, stores_line, text_room, piece_by, end_of, stream_buffers, puts};
+ghost use Rattle.std.specs.Prelude.{◌≡◌, ◌≤◌, length, take};
+ghost use Rattle.line_stream.specs.Step.{piece_by, end_of, stream_buffers, puts};
 ghost use Rattle.rack_script.specs.Script.{rack_state, rack_program};
+ghost use Rattle.rack_script.proofs.Fits.{rack_tells};
 
-use rack_script::RackLineOutcome;
+use line_stream::{AnswersLines, Carried};
 use rack_start::RackBench;
 
-// What a step leaves beside the lent buffers: the unfinished line has `have` bytes.
-#[derive(Clone, Copy)]
-pub struct RackStreamOutcome {
-    pub bench: RackBench,
-    pub have: usize,
-    // Bytes of the piece that it used.
-    pub used: usize,
-    // Bytes of text that it wrote.
-    pub wrote: usize,
-}
+// What a step leaves beside the lent buffers.
+pub type RackStreamOutcome = line_stream::StreamOutcome<RackBench>;
 
-// The line.
-fn line_from<'a>(kept: &'a [u8], n: usize, s: &'a [u8]) -> &'a [u8]
-    requires { n ≤ length kept.now }
-    ensures { result.now ≡ pick (eqb n 0) s.now (take n kept.now) }
-{
-    if n == 0 {
-        return s;
+// The rack as a program that answers line by line.
+pub struct RackLines;
+
+impl AnswersLines for RackLines {
+    type Bench = RackBench;
+    type Memory = [u8; 16384];
+
+    ghost program = { rack_program };
+
+    ghost tells = { rack_tells };
+
+    fn line(
+        on: &mut Carried<'_, RackBench, [u8; 16384]>,
+        frame: &mut [u8; 602],
+        s: &[u8],
+        text: &mut [u8],
+    ) -> usize {
+        let o = rack_script::line(on.bench, on.memory, on.reply, frame, s, text);
+        on.bench = o.bench;
+        o.length
     }
-    &kept[0..n]
-}
-
-// The unfinished line ends with the bytes s.
-fn end_line(
-    bench: RackBench,
-    m: &mut [u8; 16384],
-    reply: &mut [u8; 643],
-    kept: &mut [u8; 1201],
-    have: usize,
-    frame: &mut [u8; 602],
-    s: &[u8],
-    text: &mut [u8],
-) -> RackLineOutcome
-    requires { have ≤ kept_most }
-    ensures text_after { line_stored (rack_state result.bench m.new reply.new) result.length text.new ≡ stores_line (rack_program (rack_state bench m.old reply.old) (take have kept.old ++ s.now)) text.old }
-    ensures length_le_text_room { result.length ≤ text_room }
-{
-    let n = unfinished::join(kept, have, s);
-    rack_script::line(bench, m, reply, frame, line_from(kept, n, s), text)
 }
 
 // A piece of the input, after an unfinished line: the first `have` bytes of `kept` (all, where it has fewer). What stands
@@ -67,35 +51,22 @@ pub fn step(
     ensures out_after { stream_buffers (rack_state result.bench m.new reply.new) (take result.have kept.new) result.used result.wrote out.new ≡ puts (piece_by rack_program (length out.old) (rack_state bench m.old reply.old) (take have kept.old) s.now) out.old }
     ensures used_in_bounds { (result.used ≤ length s.now) × (result.wrote ≤ length out.old) }
 {
-    let mut frame = [0u8; 602];
-    let mut bench = bench;
-    let mut n = unfinished::kept_count(kept, have);
-    let mut from = 0;
-    let mut at = 0;
-    let mut end = lines::line_end(s, 0);
-    while (end < s.len()) & (1342 <= out.len() - at) {
-        let o = end_line(
-            bench,
-            m,
-            reply,
-            kept,
-            n,
-            &mut frame,
-            &s[from..end],
-            &mut out[at..],
-        );
-        bench = o.bench;
-        at += o.length;
-        n = 0;
-        from = end + 1;
-        end = lines::line_end(s, from);
-    }
-    let rest = unfinished::hold(kept, n, &s[from..end]);
+    let mut on = Carried {
+        bench,
+        memory: m,
+        reply,
+    };
+    let o = line_stream::step::<RackLines>(&mut on, kept, have, s, out);
+    let Carried {
+        bench,
+        memory: _,
+        reply: _,
+    } = on;
     RackStreamOutcome {
         bench,
-        have: rest,
-        used: end,
-        wrote: at,
+        have: o.have,
+        used: o.used,
+        wrote: o.wrote,
     }
 }
 
@@ -111,15 +82,21 @@ pub fn end(
     ensures out_after { stream_buffers (rack_state result.bench m.new reply.new) (take result.have kept.new) result.used result.wrote out.new ≡ puts (end_of rack_program (length out.old) (rack_state bench m.old reply.old) (take have kept.old)) out.old }
     ensures wrote_in_bounds { result.wrote ≤ length out.old }
 {
-    let held = unfinished::kept_count(kept, have);
-    if held == 0 {
-        return RackStreamOutcome {
-            bench: bench,
-            have: 0,
-            used: 0,
-            wrote: 0,
-        };
+    let mut on = Carried {
+        bench,
+        memory: m,
+        reply,
+    };
+    let o = line_stream::end::<RackLines>(&mut on, kept, have, out);
+    let Carried {
+        bench,
+        memory: _,
+        reply: _,
+    } = on;
+    RackStreamOutcome {
+        bench,
+        have: o.have,
+        used: o.used,
+        wrote: o.wrote,
     }
-    let feed = [b'\n'];
-    step(bench, m, reply, kept, held, &feed, out)
 }

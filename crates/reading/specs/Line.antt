@@ -1,8 +1,8 @@
 -- "The bench program reads tab-parted lines": a line, without its line feed, and what it says.
-use Rattle.std.specs.Prelude.{Bool, ◌&&◌, ◌||◌, List, ℕ, ◌-◌, ◌%◌, leb, ltb, eqb, length, get_or, drop}
+use Rattle.std.specs.Prelude.{Option, Some, None, Bool, ◌&&◌, ◌||◌, List, ℕ, ◌-◌, ◌%◌, leb, ltb, eqb, length, get_or, drop}
 use Rattle.parts.specs.Pick.{pick}
 use Rattle.reading.specs.declared.Reading.{Reading}
-use Rattle.reading.specs.declared.Reading.TheVariants.{Bad, Signal, Frame}
+use Rattle.reading.specs.declared.Reading.TheVariants.{Signal, Frame}
 use Rattle.hexadecimal.specs.Hex.{all_hex, hex_byte, hex_bytes}
 
 -- a bad line, a signal's code and value, or a frame without CRC
@@ -54,7 +54,7 @@ line_of s =
     bad_line))
 
 -- ---- what the program's reading of a line says; s is what follows the tab
-unfoldable pub line_by : Reading → List ℕ → ScriptLine
-line_by Bad s = bad_line
-line_by (Signal code value) s = signal_line code value
-line_by Frame s = frame_line (hex_bytes s)
+unfoldable pub line_by : Option Reading → List ℕ → ScriptLine
+line_by None s = bad_line
+line_by (Some (Signal code value)) s = signal_line code value
+line_by (Some Frame) s = frame_line (hex_bytes s)

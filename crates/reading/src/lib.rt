@@ -6,7 +6,6 @@ ghost use Rattle.reading.specs.Line.{line_by, alone, level, byte_sent, frame_sen
 
 #[derive(Clone, Copy)]
 pub enum Reading {
-    Bad,
     // The signal's code, and its value.
     Signal { code: u8, value: u16 },
     // The digits of a frame without CRC stand after the tab.
@@ -14,62 +13,66 @@ pub enum Reading {
 }
 
 // A letter without a value.
-fn alone(s: &[u8]) -> Reading
+#[tactic(auto, using(parts::proofs::Picks::picks), unfolding(crate::specs::Line::line_by, crate::specs::Line::alone))]
+fn alone(s: &[u8]) -> Option<Reading>
     ensures { line_by result (drop 2 s.now) ≡ alone (get_or s.now 0 0) }
 {
     match parts::byte_at(s, 0) {
-        b'S' => Reading::Signal { code: 3, value: 0 },
-        b'P' => Reading::Signal { code: 6, value: 0 },
-        b'D' => Reading::Signal { code: 7, value: 0 },
-        b'E' => Reading::Signal { code: 9, value: 0 },
-        _ => Reading::Bad,
+        b'S' => Some(Reading::Signal { code: 3, value: 0 }),
+        b'P' => Some(Reading::Signal { code: 6, value: 0 }),
+        b'D' => Some(Reading::Signal { code: 7, value: 0 }),
+        b'E' => Some(Reading::Signal { code: 9, value: 0 }),
+        _ => None,
     }
 }
 
 // 0 or 1.
-fn level(code: u8, s: &[u8]) -> Reading
+fn level(code: u8, s: &[u8]) -> Option<Reading>
     ensures { line_by result s.now ≡ level code s.now }
 {
     let x = parts::byte_at(s, 0);
     if (s.len() == 1) & ((x == b'0') | (x == b'1')) {
-        return Reading::Signal {
+        return Some(Reading::Signal {
             code,
-            value: (x - b'0') as u16,
-        };
+            value: u16::from(x - b'0'),
+        });
     }
-    Reading::Bad
+    None
 }
 
 // Two hex digits.
-fn byte_sent(s: &[u8]) -> Reading
+#[tactic(auto, using(parts::proofs::Picks::picks), unfolding(crate::specs::Line::line_by, crate::specs::Line::byte_sent))]
+fn byte_sent(s: &[u8]) -> Option<Reading>
     ensures { line_by result s.now ≡ byte_sent s.now }
 {
     if s.len() != 2 {
-        return Reading::Bad;
+        return None;
     }
     if hexadecimal::all_hex(s) {
         let x = hexadecimal::hex_byte(parts::byte_at(s, 0), parts::byte_at(s, 1));
-        return Reading::Signal {
+        return Some(Reading::Signal {
             code: 4,
-            value: x as u16,
-        };
+            value: u16::from(x),
+        });
     }
-    Reading::Bad
+    None
 }
 
 // A frame, a byte or more.
-fn frame_sent(s: &[u8]) -> Reading
+#[tactic(auto, using(parts::proofs::Picks::picks), unfolding(crate::specs::Line::line_by, crate::specs::Line::frame_sent))]
+fn frame_sent(s: &[u8]) -> Option<Reading>
     ensures { line_by result s.now ≡ frame_sent s.now }
 {
     let hex = hexadecimal::all_hex(s);
     if (2 <= s.len()) & (s.len() % 2 == 0) & hex {
-        return Reading::Frame;
+        return Some(Reading::Frame);
     }
-    Reading::Bad
+    None
 }
 
 // A letter, and what follows its tab.
-fn tabbed(letter: u8, s: &[u8]) -> Reading
+#[tactic(auto, using(parts::proofs::Picks::picks), unfolding(crate::specs::Line::line_by, crate::specs::Line::tabbed))]
+fn tabbed(letter: u8, s: &[u8]) -> Option<Reading>
     ensures { line_by result s.now ≡ tabbed letter s.now }
 {
     match letter {
@@ -78,25 +81,25 @@ fn tabbed(letter: u8, s: &[u8]) -> Reading
         b'B' => byte_sent(s),
         b'G' => level(5, s),
         b'R' => frame_sent(s),
-        _ => Reading::Bad,
+        _ => None,
     }
 }
 
-// A line without its line feed.
-pub fn read(s: &[u8]) -> Reading
+// A line without its line feed; none: a bad line.
+pub fn read(s: &[u8]) -> Option<Reading>
     ensures { line_by result (drop 2 s.now) ≡ line_of s.now }
 {
     if 1200 < s.len() {
-        return Reading::Bad;
+        return None;
     }
     if s.len() == 1 {
         return alone(s);
     }
     if s.len() < 2 {
-        return Reading::Bad;
+        return None;
     }
     if s[1] != 0x09 {
-        return Reading::Bad;
+        return None;
     }
     tabbed(s[0], &s[2..])
 }

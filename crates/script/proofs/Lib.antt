@@ -1,3 +1,3 @@
-pub mod LineLaws
 pub mod Fits
 pub mod OnlyBad
+pub mod Tells

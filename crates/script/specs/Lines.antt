@@ -1,17 +1,16 @@
 -- Lines, one after the other.
 use Rattle.std.specs.Prelude.{Bool, List, [], ◌∷◌, ℕ}
 use Rattle.bench_start.specs.declared.Bench.{Bench}
+use Rattle.line_stream.specs.State.{LineState, line_state}
 use Rattle.script.specs.Bench.{LineResult, bench_of}
 use Rattle.bench_start.specs.Start.{BenchStart, bench_start_of}
 
 -- what goes from line to line: the tag and the number of lines, the memory, the reply buffer
-pub record BenchState : Type 0 where
-  pub bench : Bench
-  pub memory : List ℕ
-  pub reply : List ℕ
+abbrev pub BenchState : Type 0
+BenchState = LineState Bench (List ℕ)
 
 abbrev pub bench_state : Bench → List ℕ → List ℕ → BenchState
-bench_state bench m o = record { bench = bench; memory = m; reply = o }
+bench_state bench m o = line_state bench m o
 
 -- the line s from there
 abbrev pub line_from : Bool → BenchState → List ℕ → LineResult

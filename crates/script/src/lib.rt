@@ -1,11 +1,8 @@
 // Bench scripts: a line to a call or a bad line, an answer to its text, and the step from line to line.
 #![tactic(auto)]
 
-ghost use Rattle.std.specs.Prelude.{◌≡◌, Bool, List, ℕ, ◌≤◌, length, take};
+ghost use Rattle.std.specs.Prelude.{◌≡◌, Bool, List, ℕ, ◌≤◌, length, take, IfSome, IfNone};
 ghost use Rattle.std.proofs.lemmas.List.Edits.{sets};
-ghost use Rattle.parts.specs.Pick.{pick};
-ghost use Rattle.crc.specs.Crc.{closed};
-ghost use Rattle.hexadecimal.specs.Hex.{hex_bytes};
 ghost use Rattle.bench_start.specs.declared.Bench.{Bench};
 ghost use Rattle.reading.specs.Line.{line_of};
 ghost use Rattle.script.specs.Bench.{longest_text, line_buffers, put_line, rule_named, bench_call, bad_result, closed_frame, bench_of};
@@ -59,52 +56,33 @@ fn call(
     }
 }
 
-// Stores a frame with its CRC, from its digits, and gives its length. A line of 1,200 characters has 599 bytes of
-// frame, and the CRC two.
-fn put_frame(s: &[u8], frame: &mut [u8; 602]) -> usize
-    requires { length s.now ≤ 1198 }
-    ensures frame_after { take result frame.new ≡ closed (hex_bytes s.now) }
-    ensures upper_bound { result ≤ length frame.new }
-    ensures frame_after_2 { frame.new ≡ sets frame.old 0 (closed (hex_bytes s.now)) }
-{
-    let n = hexadecimal::decode(s, frame);
-    crc::close(frame, n);
-    n + 2
-}
-
-// What a line's call hands over: its frame has this length. A bad line is no call.
+// What a line's call hands over: its frame has this length.
 #[derive(Clone, Copy)]
 struct Arguments {
-    bad: bool,
     code: u8,
     value: u16,
     length: usize,
 }
 
-fn arguments_of(s: &[u8], frame: &mut [u8; 602]) -> Arguments
-    ensures frame_after { (named : Bool) (bench : Bench) (m o : List ℕ) → pick result.bad (bad_result bench m o) (bench_call named bench m o result.code result.value (take result.length frame.new)) ≡ bench_of named bench m o s.now }
-    ensures length_in_bounds { result.length ≤ length frame.new }
-    ensures frame_after_2 { frame.new ≡ sets frame.old 0 (closed_frame (line_of s.now)) }
+// None: a bad line is no call.
+fn arguments_of(s: &[u8], frame: &mut [u8; 602]) -> Option<Arguments>
+    ensures bad { IfNone result ((named : Bool) (bench : Bench) (m o : List ℕ) → bad_result bench m o ≡ bench_of named bench m o s.now) }
+    ensures good { IfSome result (λ a. (named : Bool) (bench : Bench) (m o : List ℕ) → bench_call named bench m o a.code a.value (take a.length frame.new) ≡ bench_of named bench m o s.now) }
+    ensures length_in_bounds { IfSome result (λ a. a.length ≤ length frame.new) }
+    ensures frame_after { frame.new ≡ sets frame.old 0 (closed_frame (line_of s.now)) }
 {
     match reading::read(s) {
-        Reading::Bad => Arguments {
-            bad: true,
-            code: 0,
-            value: 0,
-            length: 0,
-        },
-        Reading::Signal { code, value } => Arguments {
-            bad: false,
+        None => None,
+        Some(Reading::Signal { code, value }) => Some(Arguments {
             code,
             value,
             length: 0,
-        },
-        Reading::Frame => Arguments {
-            bad: false,
+        }),
+        Some(Reading::Frame) => Some(Arguments {
             code: 8,
             value: 0,
-            length: put_frame(&s[2..], frame),
-        },
+            length: frame_text::put_frame(&s[2..], frame),
+        }),
     }
 }
 
@@ -138,20 +116,11 @@ pub fn line(
     ensures length_le_longest_text { result.length ≤ longest_text }
     ensures frame_after { frame.new ≡ sets frame.old 0 (closed_frame (line_of s.now)) }
 {
-    let c = arguments_of(s, frame);
-    if c.bad {
-        return bad_line(bench, reply, text);
+    match arguments_of(s, frame) {
+        None => bad_line(bench, reply, text),
+        Some(c) => {
+            let whole = &frame[..];
+            call(named, bench, m, reply, c.code, c.value, &whole[..c.length], text)
+        }
     }
-    let length = c.length;
-    let whole = &frame[..];
-    call(
-        named,
-        bench,
-        m,
-        reply,
-        c.code,
-        c.value,
-        &whole[0..length],
-        text,
-    )
 }

@@ -1,57 +1,100 @@
-// Lines out of pieces of any length: a step with a piece of the input, and the end of the input.
+// The bench's lines out of pieces of any length: a step with a piece of the input, and the end of the input.
 #![tactic(auto)]
 
-ghost use Rattle.std.specs.Prelude.{◌≡◌, ◌++◌, ◌≤◌, eqb, length, take};
-ghost use Rattle.parts.specs.Pick.{pick};
-ghost use Rattle.script.specs.Bench.{line_buffers, put_line};
-ghost use Rattle.script.specs.Lines.{bench_state, line_from};
-ghost use Rattle.unfinished.specs.Kept.{kept_most};
-ghost use Rattle.line_stream.specs.Step.{text_room, piece_by, end_of, stream_buffers, puts};
+ghost use Rattle.std.specs.Prelude.{◌≡◌, ◌≤◌, length, take};
+ghost use Rattle.std.proofs.Common.{ap};
+ghost use Rattle.script.specs.Bench.{LineResult};
+ghost use Rattle.script.specs.Lines.{bench_state, bench_after};
+ghost use Rattle.script.proofs.Tells.{line_tells};
+ghost use Rattle.line_stream.specs.State.{state_of};
+ghost use Rattle.line_stream.specs.Step.{line_answer, line_stored, stores_line, text_room, piece_by, end_of, stream_buffers, puts};
 ghost use Rattle.stream.specs.Program.{bench_program};
 
 use bench_start::Bench;
+use line_stream::{AnswersLines, Carried, Stepped};
 use script::LineOutcome;
 
-// What a step leaves beside the lent buffers: the unfinished line has `have` bytes.
-#[derive(Clone, Copy)]
-pub struct StreamOutcome {
-    pub bench: Bench,
-    pub have: usize,
-    // Bytes of the piece that it used.
-    pub used: usize,
-    // Bytes of text that it wrote.
-    pub wrote: usize,
-}
+// What a step leaves beside the lent buffers.
+pub type StreamOutcome = line_stream::StreamOutcome<Bench>;
 
-// The line.
-fn line_from<'a>(kept: &'a [u8], n: usize, s: &'a [u8]) -> &'a [u8]
-    requires { n ≤ length kept.now }
-    ensures { result.now ≡ pick (eqb n 0) s.now (take n kept.now) }
-{
-    if n == 0 {
-        return s;
-    }
-    &kept[0..n]
-}
-
-// The unfinished line ends with the bytes s.
-fn end_line(
+// A line, as a program that answers line by line stores it.
+fn answer(
     named: bool,
     bench: Bench,
     m: &mut [u8; 1024],
     reply: &mut [u8; 643],
-    kept: &mut [u8; 1201],
-    have: usize,
     frame: &mut [u8; 602],
     s: &[u8],
     text: &mut [u8],
 ) -> LineOutcome
-    requires { have ≤ kept_most }
-    ensures text_after { line_buffers result.bench result.length m.new reply.new text.new ≡ put_line (line_from named (bench_state bench m.old reply.old) (take have kept.old ++ s.now)) text.old }
+    ensures text_after { line_stored (bench_state result.bench m.new reply.new) result.length text.new ≡ stores_line (bench_program named (bench_state bench m.old reply.old) s.now) text.old }
     ensures length_le_text_room { result.length ≤ text_room }
 {
-    let n = unfinished::join(kept, have, s);
-    script::line(named, bench, m, reply, frame, line_from(kept, n, s), text)
+    script::line(named, bench, m, reply, frame, s, text)
+}
+
+// The bench as a program that answers line by line; NAMED: with the names of rules. It is a constant of the type, so that
+// the compiler leaves the names out where they are not asked for.
+pub struct BenchLines<const NAMED: bool>;
+
+impl<const NAMED: bool> AnswersLines for BenchLines<NAMED> {
+    type Bench = Bench;
+    type Memory = [u8; 1024];
+
+    ghost program = { bench_program NAMED };
+
+    ghost tells = { λ state s. ap (λ (r : LineResult). line_answer (bench_after r) r.text) (line_tells NAMED state s) };
+
+    fn line(
+        on: &mut Carried<'_, Bench, [u8; 1024]>,
+        frame: &mut [u8; 602],
+        s: &[u8],
+        text: &mut [u8],
+    ) -> usize {
+        let o = answer(NAMED, on.bench, on.memory, on.reply, frame, s, text);
+        on.bench = o.bench;
+        o.length
+    }
+}
+
+// The program is chosen once for the whole piece.
+fn step_by(
+    named: bool,
+    on: &mut Carried<'_, Bench, [u8; 1024]>,
+    kept: &mut [u8; 1201],
+    have: usize,
+    s: &[u8],
+    out: &mut [u8],
+) -> Stepped
+    ensures memory_lent { on.new.memory.ghost_name ≡ on.old.memory.ghost_name }
+    ensures reply_lent { on.new.reply.ghost_name ≡ on.old.reply.ghost_name }
+    ensures out_after { stream_buffers (state_of on.new) (take result.have kept.new) result.used result.wrote out.new ≡ puts (piece_by (bench_program named) (length out.old) (state_of on.old) (take have kept.old) s.now) out.old }
+    ensures used_in_bounds { (result.used ≤ length s.now) × (result.wrote ≤ length out.old) }
+{
+    if named {
+        line_stream::step::<BenchLines<true>>(on, kept, have, s, out)
+    } else {
+        line_stream::step::<BenchLines<false>>(on, kept, have, s, out)
+    }
+}
+
+fn end_by(
+    named: bool,
+    on: &mut Carried<'_, Bench, [u8; 1024]>,
+    kept: &mut [u8; 1201],
+    have: usize,
+    out: &mut [u8],
+) -> Stepped
+    ensures memory_lent { on.new.memory.ghost_name ≡ on.old.memory.ghost_name }
+    ensures reply_lent { on.new.reply.ghost_name ≡ on.old.reply.ghost_name }
+    ensures out_after { stream_buffers (state_of on.new) (take result.have kept.new) result.used result.wrote out.new ≡ puts (end_of (bench_program named) (length out.old) (state_of on.old) (take have kept.old)) out.old }
+    ensures wrote_in_bounds { result.wrote ≤ length out.old }
+{
+    if named {
+        line_stream::end::<BenchLines<true>>(on, kept, have, out)
+    } else {
+        line_stream::end::<BenchLines<false>>(on, kept, have, out)
+    }
 }
 
 // A piece of the input, after an unfinished line: the first `have` bytes of `kept` (all, where it has fewer). What stands
@@ -71,36 +114,22 @@ pub fn step(
     ensures out_after { stream_buffers (bench_state result.bench m.new reply.new) (take result.have kept.new) result.used result.wrote out.new ≡ puts (piece_by (bench_program named) (length out.old) (bench_state bench m.old reply.old) (take have kept.old) s.now) out.old }
     ensures used_in_bounds { (result.used ≤ length s.now) × (result.wrote ≤ length out.old) }
 {
-    let mut frame = [0u8; 602];
-    let mut bench = bench;
-    let mut n = unfinished::kept_count(kept, have);
-    let mut from = 0;
-    let mut at = 0;
-    let mut end = lines::line_end(s, 0);
-    while (end < s.len()) & (1342 <= out.len() - at) {
-        let o = end_line(
-            named,
-            bench,
-            m,
-            reply,
-            kept,
-            n,
-            &mut frame,
-            &s[from..end],
-            &mut out[at..],
-        );
-        bench = o.bench;
-        at += o.length;
-        n = 0;
-        from = end + 1;
-        end = lines::line_end(s, from);
-    }
-    let rest = unfinished::hold(kept, n, &s[from..end]);
+    let mut on = Carried {
+        bench,
+        memory: m,
+        reply,
+    };
+    let o = step_by(named, &mut on, kept, have, s, out);
+    let Carried {
+        bench,
+        memory: _,
+        reply: _,
+    } = on;
     StreamOutcome {
         bench,
-        have: rest,
-        used: end,
-        wrote: at,
+        have: o.have,
+        used: o.used,
+        wrote: o.wrote,
     }
 }
 
@@ -117,15 +146,21 @@ pub fn end(
     ensures out_after { stream_buffers (bench_state result.bench m.new reply.new) (take result.have kept.new) result.used result.wrote out.new ≡ puts (end_of (bench_program named) (length out.old) (bench_state bench m.old reply.old) (take have kept.old)) out.old }
     ensures wrote_in_bounds { result.wrote ≤ length out.old }
 {
-    let held = unfinished::kept_count(kept, have);
-    if held == 0 {
-        return StreamOutcome {
-            bench: bench,
-            have: 0,
-            used: 0,
-            wrote: 0,
-        };
+    let mut on = Carried {
+        bench,
+        memory: m,
+        reply,
+    };
+    let o = end_by(named, &mut on, kept, have, out);
+    let Carried {
+        bench,
+        memory: _,
+        reply: _,
+    } = on;
+    StreamOutcome {
+        bench,
+        have: o.have,
+        used: o.used,
+        wrote: o.wrote,
     }
-    let feed = [b'\n'];
-    step(named, bench, m, reply, kept, held, &feed, out)
 }

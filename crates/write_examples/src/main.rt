@@ -7,6 +7,7 @@
 #![tactic(auto)]
 
 use bus::Space;
+use std::io;
 use std::io::{Read, Write};
 use tag::{Core, Tag};
 use write_reasons::{DataByteAsked, WriteAsked, WriteReason};
@@ -16,8 +17,6 @@ struct WriteRun {
     tag: Tag,
     // Lines before this one.
     number: u64,
-    // Whether all lines could be written.
-    written: bool,
 }
 
 // A line's bytes: a place and the whole memory.
@@ -30,13 +29,6 @@ enum WritePrint {
     Done,
     Remark,
     Verdict(Result<(), WriteReason>),
-}
-
-// The write that a line asks about, if it asks about one.
-#[derive(Clone, Copy)]
-enum LineAsked {
-    Nothing,
-    Write(WriteAsked),
 }
 
 // What a line leaves.
@@ -64,9 +56,10 @@ fn fresh(m: &mut [u8]) -> WriteLineOutcome {
 }
 
 fn patch(t: Tag, bytes: &[u8]) -> WriteLineOutcome {
-    let p = example_states::patch(t, bytes);
-    let after = p.tag;
-    says(after, done(p.fits))
+    match example_states::patch(t, bytes) {
+        Some(after) => says(after, WritePrint::Done),
+        None => says(t, WritePrint::Bad),
+    }
 }
 
 fn space_of(n: u8) -> Space {
@@ -77,13 +70,13 @@ fn space_of(n: u8) -> Space {
 }
 
 // By the wire, with the I2C session open or not.
-fn data_byte(session: bool, bytes: &[u8]) -> LineAsked {
+fn data_byte(session: bool, bytes: &[u8]) -> Option<WriteAsked> {
     let spoiled = parts::byte_at(bytes, 0);
     let space = parts::byte_at(bytes, 1);
     if (bytes.len() != 7) | (1 < spoiled) | (1 < space) {
-        return LineAsked::Nothing;
+        return None;
     }
-    LineAsked::Write(WriteAsked::DataByte(DataByteAsked {
+    Some(WriteAsked::DataByte(DataByteAsked {
         session,
         spoiled: spoiled == 1,
         space: space_of(space),
@@ -94,52 +87,52 @@ fn data_byte(session: bool, bytes: &[u8]) -> LineAsked {
 }
 
 // By radio, with its session.
-fn block(session: u8, bytes: &[u8]) -> LineAsked {
+fn block(session: u8, bytes: &[u8]) -> Option<WriteAsked> {
     if bytes.len() != 2 {
-        return LineAsked::Nothing;
+        return None;
     }
-    LineAsked::Write(WriteAsked::Block {
+    Some(WriteAsked::Block {
         session,
         block: example_states::word_at(bytes, 0),
     })
 }
 
-fn pointer(session: u8, bytes: &[u8]) -> LineAsked {
+fn pointer(session: u8, bytes: &[u8]) -> Option<WriteAsked> {
     if bytes.len() != 2 {
-        return LineAsked::Nothing;
+        return None;
     }
-    LineAsked::Write(WriteAsked::Pointer {
+    Some(WriteAsked::Pointer {
         session,
         pointer: parts::byte_at(bytes, 0),
         x: parts::byte_at(bytes, 1),
     })
 }
 
-fn password(session: u8, bytes: &[u8]) -> LineAsked {
+fn password(session: u8, bytes: &[u8]) -> Option<WriteAsked> {
     if bytes.len() != 1 {
-        return LineAsked::Nothing;
+        return None;
     }
-    LineAsked::Write(WriteAsked::PasswordOf {
+    Some(WriteAsked::PasswordOf {
         session,
         n: parts::byte_at(bytes, 0),
     })
 }
 
-// What a line asks, with the wire's session and the radio's.
-fn asked(kind: u8, bytes: &[u8], wire: bool, radio: u8) -> LineAsked {
+// The write that a line asks about, if it asks about one, with the wire's session and the radio's.
+fn asked(kind: u8, bytes: &[u8], wire: bool, radio: u8) -> Option<WriteAsked> {
     match kind {
         b'W' => data_byte(wire, bytes),
         b'B' => block(radio, bytes),
         b'C' => pointer(radio, bytes),
         b'P' => password(radio, bytes),
-        _ => LineAsked::Nothing,
+        _ => None,
     }
 }
 
-fn judged(c: Core, m: &[u8], asked: LineAsked) -> WritePrint {
+fn judged(c: Core, m: &[u8], asked: Option<WriteAsked>) -> WritePrint {
     match asked {
-        LineAsked::Nothing => WritePrint::Bad,
-        LineAsked::Write(write) => WritePrint::Verdict(write_verdict::verdict(c, m, write)),
+        None => WritePrint::Bad,
+        Some(write) => WritePrint::Verdict(write_verdict::verdict(c, m, write)),
     }
 }
 
@@ -188,54 +181,44 @@ fn put_said(text: &mut [u8], at: usize, said: WritePrint, s: &[u8]) -> usize {
     }
 }
 
-// A line: its number, a tab, its answer. Says whether it could be written.
-fn print<W: Write, E: Write>(
-    to: &mut W,
-    err: &mut E,
-    number: u64,
-    said: WritePrint,
-    s: &[u8],
-) -> bool {
+// A line: its number, a tab, its answer.
+fn print<W: Write>(to: &mut W, number: u64, said: WritePrint, s: &[u8]) -> io::Result<()> {
     let mut text = [0u8; example_lines::ANSWER];
     let answer = example_lines::put_number(&mut text, number);
     let feed = put_said(&mut text, answer, said, s);
-    example_lines::write_line(to, err, &mut text, feed)
+    example_lines::write_line(to, &mut text, feed)
 }
 
 fn begin() -> WriteRun {
     WriteRun {
         tag: Tag::fresh(example_lines::uid()),
         number: 0,
-        written: true,
     }
 }
 
-fn line<W: Write, E: Write>(
+fn line<W: Write>(
     to: &mut W,
-    err: &mut E,
     run: WriteRun,
     s: &[u8],
     m: &mut [u8],
     bytes: &mut [u8],
-) -> WriteRun {
-    let number = std::num::wrapping_add_u64(run.number, 1);
-    let o = act(run.tag, s, m, bytes);
-    let said = o.said;
-    let t = o.tag;
-    WriteRun {
-        tag: t,
-        number,
-        written: print(to, err, number, said, s),
-    }
+) -> io::Result<WriteRun> {
+    let number = run.number.wrapping_add(1);
+    let WriteLineOutcome { tag, said } = act(run.tag, s, m, bytes);
+    print(to, number, said, s)?;
+    Ok(WriteRun { tag, number })
 }
 
-fn lines<W: Write, E: Write>(to: &mut W, err: &mut E, s: &[u8], m: &mut [u8], bytes: &mut [u8]) {
+// All lines of s, as far as they can be written. The place moves by a line at a time, and no iterator of std's has lines
+// as the definition has them.
+fn lines<W: Write>(to: &mut W, s: &[u8], m: &mut [u8], bytes: &mut [u8]) -> io::Result<()> {
     let mut r = begin();
     let mut at = 0;
-    while (at < s.len()) & r.written {
-        r = line(to, err, r, example_lines::line_at(s, at), m, bytes);
+    while at < s.len() {
+        r = line(to, r, example_lines::line_at(s, at), m, bytes)?;
         at = example_lines::next_at(s, at);
     }
+    Ok(())
 }
 
 // A script, read into a lent buffer: all of its lines.
@@ -248,7 +231,9 @@ fn script<R: Read, W: Write, E: Write>(
     let n = example_lines::read_script(from, err, input);
     let mut m = [0u8; tag::MEMORY_BYTES];
     let mut bytes = [0u8; LINE];
-    lines(to, err, &input[0..n], &mut m, &mut bytes);
+    if lines(to, &input[..n], &mut m, &mut bytes).is_err() {
+        example_lines::report(err);
+    }
 }
 
 fn main(rt: HostRuntime) {

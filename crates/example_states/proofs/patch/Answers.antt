@@ -1,7 +1,7 @@
 use mathlib.Core.Path.{refl, sym, ap, ◌∙◌}
-use mathlib.Core.Bool.{true}
 use Rattle.parts.proofs.Picks.{pick_true, pick_false}
-use Rattle.example_states.specs.States.{patch_outcome, patch_by}
+use Rattle.std.specs.Prelude.{Some}
+use Rattle.example_states.specs.States.{patch_by}
 use Rattle.example_states.proofs.States.{encoded, patched_by}
 use Rattle.example_states.proofs.patch.Goals as goal
 
@@ -27,5 +27,5 @@ returns c =
     let t = c.args.t in
     let e = c.encode in
     pick_true _ _ _ _ (c.if-not-store.false)
-    (pick_true _ _ _ _ (sym c.decodes.ensures ∙ c.if-not-decodes.false) (ap (patch_outcome true) c.decode.ensures))
+    (pick_true _ _ _ _ (sym c.decodes.ensures ∙ c.if-not-decodes.false) (ap Some c.decode.ensures))
     ∙ patched_by t _ _ _ (encoded t _ _ refl e.ensures.t_len e.ensures.s_after) c.store.ensures

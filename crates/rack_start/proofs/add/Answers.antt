@@ -17,18 +17,18 @@ overflow_mul-i c =
     let few_here : c.args.bench.count < 16 = room_left c.args.bench (sym c.takes_tag.ensures ∙ c.if-not-takes_tag.false) in
     omega (arith, few_here)
 
-pub offset_bounds-tags-i : goal.offset_bounds-tags-i
-offset_bounds-tags-i c =
+pub offset_bounds-n-i : goal.offset_bounds-n-i
+offset_bounds-n-i c =
     let few_here : c.args.bench.count < 16 = room_left c.args.bench (sym c.takes_tag.ensures ∙ c.if-not-takes_tag.false) in
     omega (arith, few_here)
 
-pub bounds-tags-i : goal.bounds-tags-i
-bounds-tags-i c =
+pub bounds-n-i : goal.bounds-n-i
+bounds-n-i c =
     let few_here : c.args.bench.count < 16 = room_left c.args.bench (sym c.takes_tag.ensures ∙ c.if-not-takes_tag.false) in
     few_here
 
-pub overflow_add-result : goal.overflow_add-result
-overflow_add-result c =
+pub overflow_add-n : goal.overflow_add-n
+overflow_add-n c =
     let few_here : c.args.bench.count < 16 = room_left c.args.bench (sym c.takes_tag.ensures ∙ c.if-not-takes_tag.false) in
     omega (arith, few_here)
 

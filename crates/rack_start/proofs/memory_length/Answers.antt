@@ -8,5 +8,4 @@ pub returns : goal.returns
 returns c =
     let sixteen_here : length c.args.bench.tags ≡ 16 = c.well_formed.0.1.1.0.1.0.1 in
     let b = c.args.bench in
-    let m = c.min.ensures in
-    record { value = omega (arith, m, sixteen_here, sizes_are (take b.count b.tags), length-take b.count b.tags); upper_bound = omega (arith, m) }
+    record { value = omega (arith, c.min.ensures, sixteen_here, sizes_are (take b.count b.tags), length-take b.count b.tags); upper_bound = omega (arith, c.min.ensures) }

@@ -15,8 +15,8 @@ use Rattle.reading.proofs.level.Goals as goal
 from-48 : (b : Bool) (x : ℕ) → (b && (eqb x 48 || eqb x 49)) ≡ true → 48 ≤ x
 from-48 b x h = ⊎_elim (λ e. omega (arith, eqb-true x 48 e)) (λ e. omega (arith, eqb-true x 49 e)) (or_cases (eqb x 48) (eqb x 49) (and_right b (eqb x 48 || eqb x 49) h))
 
-pub overflow_sub-result : goal.overflow_sub-result
-overflow_sub-result c = from-48 (eqb (length c.args.s.now) 1) c.byte_at-x.result c.if-s-x.true
+pub overflow_sub-x : goal.overflow_sub-x
+overflow_sub-x c = from-48 (eqb (length c.args.s.now) 1) c.byte_at-x.result c.if-s-x.true
 
 pub returns-then-s-x : goal.returns-then-s-x
 unfolding line_by level

@@ -6,7 +6,7 @@ ghost use Rattle.std.proofs.lemmas.List.Edits.{sets};
 ghost use Rattle.hexadecimal.specs.Hex.{is_hex, hex_value, all_hex, hex_byte, hex_bytes, hex_digit, hex_text};
 ghost use Rattle.text.specs.Place.{stored, text_at};
 
-// Whether a character is 0 to 9 or A to F. With `matches!` the compiler tests one at a time: `all_hex` takes twice as long.
+// Whether a character is 0 to 9 or A to F. With `matches!` the loop of `all_hex` branches at each byte: it takes nearly twice as long.
 fn is_hex(x: u8) -> bool
     ensures { result ≡ is_hex x }
 {

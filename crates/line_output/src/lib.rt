@@ -38,6 +38,7 @@ fn piece<P: AnswersLines, W: Write>(
 {
     let mut have = have;
     let mut at = 0;
+    // The place moves by what a step used.
     while at < s.len() {
         let t = line_stream::step::<P>(on, kept, have, &s[at..], out);
         console::write_all(to, &out[..t.wrote])?;

@@ -13,4 +13,3 @@ line_state bench memory reply = record { bench = bench; memory = memory; reply =
 -- what the code carries, whose memory and reply buffer are lent
 abbrev pub state_of : {B M : Type 0} → Carried B M → LineState B M
 state_of on = line_state on.bench on.memory.now on.reply.now
-

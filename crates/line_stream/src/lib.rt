@@ -19,6 +19,7 @@ pub struct Carried<'a, B, M> {
 // A program that answers line by line.
 pub trait AnswersLines {
     type Bench: Copy;
+
     type Memory;
 
     ghost program: { LineProgram (LineState Self.Bench Self.Memory) };
@@ -83,7 +84,7 @@ fn end_line<P: AnswersLines>(
 // A piece of the input, after an unfinished line: the first `have` bytes of `kept` (all, where it has fewer). What stands
 // past them is neither read nor promised. The texts stand in `out` from place 0 on. It stops before a line feed where
 // `out` has no room for 1,342 bytes more: the caller writes what stands there and calls again with the rest of the
-// piece.
+// piece. `kept` and `have` are lent apart, as `step` and `end` of stream and rack_stream take them.
 pub fn step<P: AnswersLines>(
     on: &mut Carried<'_, P::Bench, P::Memory>,
     kept: &mut [u8; 1201],
@@ -101,6 +102,7 @@ pub fn step<P: AnswersLines>(
     let mut from = 0;
     let mut at = 0;
     let mut end = lines::line_end(s, 0);
+    // The places move by a line.
     while (end < s.len()) & (1342 <= out.len() - at) {
         let text = end_line::<P>(on, kept, n, &mut frame, &s[from..end], &mut out[at..]);
         at += text;

@@ -17,6 +17,7 @@ pub struct RackLines;
 
 impl AnswersLines for RackLines {
     type Bench = RackBench;
+
     type Memory = [u8; 16384];
 
     ghost program = { rack_program };

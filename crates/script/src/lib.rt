@@ -120,7 +120,16 @@ pub fn line(
         None => bad_line(bench, reply, text),
         Some(c) => {
             let whole = &frame[..];
-            call(named, bench, m, reply, c.code, c.value, &whole[..c.length], text)
+            call(
+                named,
+                bench,
+                m,
+                reply,
+                c.code,
+                c.value,
+                &whole[..c.length],
+                text,
+            )
         }
     }
 }

@@ -39,6 +39,7 @@ pub struct BenchLines<const NAMED: bool>;
 
 impl<const NAMED: bool> AnswersLines for BenchLines<NAMED> {
     type Bench = Bench;
+
     type Memory = [u8; 1024];
 
     ghost program = { bench_program NAMED };

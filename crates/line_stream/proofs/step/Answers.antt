@@ -27,11 +27,12 @@ loop-end-preserved g c =
     let o = c.end_line-text in
     let r = length l.out - l.at in
     let less : l.end < length a.s.now = ltb-true l.end (length a.s.now) (and_left (ltb l.end (length a.s.now)) (leb 1342 r) c.loop-end-test.true) in
-    let roomy : 1342 ≤ r = leb-true 1342 r (and_right (ltb l.end (length a.s.now)) (leb 1342 r) c.loop-end-test.true) in
-    ((o.ensures.memory_lent ∙ l.invariant.0.0, o.ensures.reply_lent ∙ l.invariant.0.1),
-    turns g.P.AnswersLines.program (state_of a.on.now) (take c.kept_count-n.result a.kept.now) a.s.now a.out.now (state_of l.on) l.kept l.out l.n l.from l.at l.end l.invariant.1
-    g.met.P.AnswersLines.tells (state_of o.new.on) o.result o.new.kept o.new.text c.line_end-end-in-loop-end.result
-    less roomy o.ensures.text_after o.ensures.length_le_text_room o.auto.text c.line_end-end-in-loop-end.ensures)
+    let roomy : 1342 ≤ r = leb-true 1342 r (and_right (ltb l.end (length a.s.now)) (leb 1342 r) c.loop-end-test.true) in (
+      (o.ensures.memory_lent ∙ l.invariant.0.0, o.ensures.reply_lent ∙ l.invariant.0.1),
+      turns g.P.AnswersLines.program (state_of a.on.now) (take c.kept_count-n.result a.kept.now) a.s.now a.out.now (state_of l.on) l.kept l.out l.n l.from l.at l.end l.invariant.1
+          g.met.P.AnswersLines.tells (state_of o.new.on) o.result o.new.kept o.new.text c.line_end-end-in-loop-end.result
+          less roomy o.ensures.text_after o.ensures.length_le_text_room o.auto.text c.line_end-end-in-loop-end.ensures,
+    )
 
 pub returns-clause-out_after : goal.returns-clause-out_after
 returns-clause-out_after g c =

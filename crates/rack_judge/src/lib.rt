@@ -2,6 +2,7 @@
 #![tactic(auto)]
 
 ghost use Rattle.std.specs.Prelude.{◌≡◌, [], ◌*◌, ◌≤◌, min, length, take};
+ghost use Rattle.keys.specs.Keys.{same_uid};
 ghost use Rattle.tag.specs.Layout.{memory_bytes};
 ghost use Rattle.refusals.specs.Call.{handed_in};
 ghost use Rattle.refusals.specs.Refusals.{judgement};
@@ -42,6 +43,13 @@ fn all_in_range(tags: [Tag; 16], n: usize, memory: &[u8]) -> bool
     all
 }
 
+// Of a UID taken out of an array its length is known here alone.
+fn same(one: Uid, other: Uid) -> bool
+    ensures { result ≡ same_uid one other }
+{
+    one == other
+}
+
 // Whether one of the first n UIDs is u.
 fn uid_among(uids: [Uid; 16], n: usize, u: Uid) -> bool
     requires { n ≤ 16 }
@@ -49,7 +57,7 @@ fn uid_among(uids: [Uid; 16], n: usize, u: Uid) -> bool
 {
     let mut found = false;
     for i in 0..n {
-        found = found | (uids[i] == u);
+        found |= same(uids[i], u);
     }
     found
 }

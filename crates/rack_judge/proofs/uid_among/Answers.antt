@@ -2,7 +2,6 @@ use mathlib.Core.Path.{◌≡◌, refl}
 use Prim.Native.Nat.{◌-◌}
 use native.Mathlib.Omega.{arith}
 use native.Mathlib.Numerals.{add-one}
-use Rattle.keys.proofs.Same.{uid_eq}
 use Rattle.rack_judge.specs.Judge.{uid_among}
 use Rattle.rack_judge.proofs.uid_among.Goals as goal
 
@@ -14,7 +13,7 @@ pub loop-i-preserved : goal.loop-i-preserved
 unfolding uid_among
 loop-i-preserved c =
     let l = c.loop-i in
-    rw (add-one l.i, c.eq-found.ensures, uid_eq _ l.u (omega arith) (omega arith), l.invariant)
+    rw (add-one l.i, c.same-found.ensures, l.invariant)
 
 pub returns : goal.returns
 returns c =

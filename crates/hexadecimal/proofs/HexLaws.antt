@@ -10,6 +10,8 @@ use borrow.Author.Tests.{leb-true, leb-false, le-leb, lt-leb}
 use Rattle.parts.specs.Pick.{pick}
 use lib.ListN.{length, take, drop, get_or, set, length-take, drop_of_length-le}
 use lib.Seq.{sets, drop-cons, take-suc, take_all}
+use Rattle.parts.proofs.Picks.{pick_case}
+use Rattle.parts.proofs.Bools.{and_right}
 use Rattle.parts.proofs.Lists.{sets_append}
 use Rattle.hexadecimal.specs.Hex.{is_hex, hex_value, all_hex, hex_byte, hex_bytes, hex_digit, hex_text}
 
@@ -27,6 +29,16 @@ pub all_hex_end : (b : Bool) (s : List ℕ) (i : ℕ) → length s ≤ i → (b 
 unfolding all_hex
 all_hex_end true s i h = ap all_hex (drop_of_length-le s h)
 all_hex_end false s i h = refl
+
+-- a digit's value is below 16
+pub value_small : (x : ℕ) → hex_value x < 16
+unfolding hex_value
+value_small x =
+    pick_case (λ (n : ℕ). n < 16) (leb 0x30 x && leb x 0x39) _ _
+    (λ h. omega (arith, leb-true x 0x39 (and_right (leb 0x30 x) (leb x 0x39) h)))
+    (λ _. pick_case (λ (n : ℕ). n < 16) (leb 0x41 x && leb x 0x46) _ _
+    (λ h. omega (arith, leb-true x 0x46 (and_right (leb 0x41 x) (leb x 0x46) h)))
+    (λ _. omega arith))
 
 -- characters told apart by their ranges
 pub digit_value : (x : ℕ) → 48 ≤ x → x ≤ 57 → x - 48 ≡ hex_value x

@@ -9,9 +9,6 @@ use lib.Dec.{ltb}
 use borrow.Author.Tests.{ltb-true, ltb-false}
 use lib.ListN.{length, take, drop, get_or, set, length-append, length-set, length-drop, drop_of_length-le, get_or-append, get_or-eq_default}
 use lib.Seq.{sets, sets-eq, take-suc, take-length, get_or-drop, get_or-set_other, get_or_at}
-use borrow.Rule.Slice.PartMut.{put_mid}
-use Rattle.std.proofs.lemmas.List.{drop-drop}
-use Rattle.std.proofs.Common.{append_assoc}
 use Rattle.parts.specs.Bytes.{bytes_at, copied}
 
 -- a run with one byte more
@@ -107,16 +104,3 @@ replaced vs m h =
     ∙ ap (λ (l : List ℕ). l ++ vs ++ drop (0 + length vs) m) (take_none m)
     ∙ ap (λ (l : List ℕ). vs ++ l) (drop_of_length-le m {i = 0 + length vs} (omega (arith, h)))
     ∙ append-nil vs
-
--- a run that lies in both lists, copied as one part
-pub part_copied : (m s ys : List ℕ) (at from n k j : ℕ) → k ≡ n → j ≡ n → at + n ≤ length m → from + n ≤ length s → ys ≡ take j (drop from s)
-    → put_mid at k m ys ≡ sets m at (bytes_at s from n)
-part_copied m s ys at from n k j p q h g e =
-    let r : ys ≡ bytes_at s from n = e ∙ ap (λ (i : ℕ). take i (drop from s)) q ∙ sym (bytes_at_part s from n g) in
-    let l = length_bytes_at s from n in
-    let b = bytes_at s from n in
-    let w : at + length b ≤ length m = omega (arith, l) in
-    ap (put_mid at k m) r
-    ∙ ap (λ (x : List ℕ). take at m ++ (b ++ x)) (drop-drop k at m ∙ ap (λ (i : ℕ). drop i m) (omega (arith, l)))
-    ∙ sym (append_assoc (take at m) b (drop (at + length b) m))
-    ∙ sym (sets-eq b m at w)

@@ -42,12 +42,15 @@ fn within(length: usize, at: usize, n: usize) -> bool
     (at <= length) && (n <= length - at)
 }
 
-// A run that lies within both: no byte needs a test.
+// A run that lies within both: no byte needs a test. `copy_from_slice` allows that both overlap, and would make the
+// archives for C need memmove.
 fn put_run(m: &mut [u8], at: usize, s: &[u8], from: usize, n: usize)
     requires { (at + n ≤ length m.old) × (from + n ≤ length s.now) }
     ensures { m.new ≡ sets m.old at (bytes_at s.now from n) }
 {
-    m[at..at + n].copy_from_slice(&s[from..from + n]);
+    for i in 0..n {
+        m[at + i] = s[from + i];
+    }
 }
 
 // Any run, byte by byte.

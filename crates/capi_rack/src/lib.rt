@@ -97,8 +97,13 @@ pub fn st25dv_rack_search(
     match library_rack_refusals::rack_bytes_refusal(s, m, out, number, 8, 0) {
         Err(why) => why.number() as u32,
         Ok(()) => {
-            let tags = rack_states::decode_tags(s);
-            let o = collision_search::search(tags, number as usize, m, out, frame);
+            let o = collision_search::search(
+                rack_states::decode_tags(s),
+                number as usize,
+                m,
+                out,
+                frame,
+            );
             let left = o.tags;
             rack_states::encode_tags(left, s);
             search_number(o.answer)

@@ -16,8 +16,8 @@ use tag::Tag;
 // What is found, none or the slot, and the tags as it leaves them.
 #[derive(Clone, Copy)]
 pub struct SearchOutcome {
-    pub answer: Result<Option<u8>, Refusal>,
     pub tags: [Tag; 16],
+    pub answer: Result<Option<u8>, Refusal>,
 }
 
 // ---- the slots
@@ -63,7 +63,7 @@ fn open_slot(
 // ---- the search
 // Looks into a number of slots. A slot's signal has reached every tag before its answers are looked at.
 fn look_into(
-    tags: [Tag; 16],
+    mut tags: [Tag; 16],
     number: usize,
     memory: &mut [u8],
     out: &mut [u8],
@@ -74,11 +74,10 @@ fn look_into(
     ensures out_after { search_result result.answer (rack_of (take number result.tags) memory.new) out.new ≡ look rack_entry slots 0 (rack_of (take number tags) memory.old) (sends_frame out.old frame.now) }
     ensures tags_value { drop number result.tags ≡ drop number tags }
 {
-    let mut left = tags;
     let mut answer = Ok(None);
     'search: for slot in 0..slots {
-        let opened = open_slot(left, number, memory, out, frame, slot);
-        left = opened.tags;
+        let opened = open_slot(tags, number, memory, out, frame, slot);
+        tags = opened.tags;
         let heard = opened.heard;
         let answered = heard.answered;
         let mut seen = false;
@@ -92,7 +91,7 @@ fn look_into(
             }
         }
     }
-    SearchOutcome { answer, tags: left }
+    SearchOutcome { answer, tags }
 }
 
 // Over the first `number` of sixteen tags, all of them where it is larger.

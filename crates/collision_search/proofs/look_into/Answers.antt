@@ -55,7 +55,7 @@ search-preserved c =
       l.invariant.0,
       subst (λ (k : ℕ). Looking a.number a.slots a.frame.now a.tags a.memory.now a.out.now k call.result.tags call.new.memory call.new.out)
           (sym (add-one c.search.slot))
-          (looking_next a.number a.slots a.frame.now c.requires.0 bytes_here a.tags a.memory.now a.out.now s.slot s.left s.memory s.out s.invariant.1
+          (looking_next a.number a.slots a.frame.now c.requires.0 bytes_here a.tags a.memory.now a.out.now s.slot s.tags s.memory s.out s.invariant.1
           call.result.heard call.result.tags call.new.memory call.new.out call.ensures c.search-test.true (at_end bs l.seen l.i noted_here l.invariant.1 c.loop-i-test.false) call.auto.memory call.auto.out),
     )
 
@@ -71,8 +71,8 @@ returns-after-search c =
     let s = c.search in
     let a = c.args in
     record {
-      out_after = ap (λ (x : SearchAnswer). search_result x (rack_of (take a.number s.left) s.memory) s.out) s.invariant.0
-          ∙ none_left a.number a.slots a.frame.now c.requires.0 bytes_here a.tags a.memory.now a.out.now s.slot s.left s.memory s.out s.invariant.1 c.search-test.false;
+      out_after = ap (λ (x : SearchAnswer). search_result x (rack_of (take a.number s.tags) s.memory) s.out) s.invariant.0
+          ∙ none_left a.number a.slots a.frame.now c.requires.0 bytes_here a.tags a.memory.now a.out.now s.slot s.tags s.memory s.out s.invariant.1 c.search-test.false;
       tags_value = s.invariant.1.others;
     }
 
@@ -92,6 +92,6 @@ returns-then-seen c =
     let s = c.search in
     let call = c.open_slot-opened in
     let bytes_here : are_bytes c.args.frame.now ≡ true = are_below _ (λ i. let p = c.shared_slice_known-1.given i in omega (arith, p)) in
-    let all = collided a.number a.slots a.frame.now c.requires.0 bytes_here a.tags a.memory.now a.out.now s.slot s.left s.memory s.out s.invariant.1
+    let all = collided a.number a.slots a.frame.now c.requires.0 bytes_here a.tags a.memory.now a.out.now s.slot s.tags s.memory s.out s.invariant.1
     call.result.heard call.result.tags call.new.memory call.new.out call.ensures c.search-test.true (on_second bs l.seen l.i noted_here l.invariant.1 within c.if-answered-i.true c.if-seen.true) in
     record { out_after = all.0; tags_value = all.1 }

@@ -12,7 +12,7 @@ decreases-loop-i l = 16 - l.i
 
 abbrev pub invariant-search : goal.invariant-search
 invariant-search l =
-    (l.answer ≡ Ok None) × Looking l.number l.slots l.frame l.initial.left l.initial.memory l.initial.out l.slot l.left l.memory l.out
+    (l.answer ≡ Ok None) × Looking l.number l.slots l.frame l.initial.tags l.initial.memory l.initial.out l.slot l.tags l.memory l.out
 
 abbrev pub decreases-search : goal.decreases-search
 decreases-search l = l.slots - l.slot

@@ -42,7 +42,7 @@ returns-in-Ok c =
     judgement (search_rules (rack_of (take a.number a.tags) a.memory.now) a.out.now) ≡ c.rack_refusal-judged.result = let a = c.args in
     sym (c.rack_refusal-judged.ensures ∙ frame_judged (rack_of (take a.number a.tags) a.memory.now) a.out.now []) in
     let sixteen_here : length c.args.tags ≡ 16 = search rules in
-    let left_sixteen_here : length c.look_into.result.tags ≡ 16 = c.look_into.type_inv.1.1.1.0.1.0.1 in
+    let left_sixteen_here : length c.look_into.result.tags ≡ 16 = search rules in
     let a = c.args in
     let n = c.tag_count-n.result in
     let e = c.tag_count-n.ensures in

@@ -1,5 +1,5 @@
 use Rattle.std.specs.Prelude.{Some, None}
-use Rattle.std.proofs.Common.{ℕ, List, drop, refl, ap, ◌∙◌, arith, length-drop, length-take}
+use Rattle.std.proofs.Common.{ℕ, List, ◌-◌, ◌≤◌, length, take, drop, refl, ap, ◌∙◌, arith, length-drop, length-take}
 use Rattle.reading.proofs.LineLaws.{Framed}
 use Rattle.line_stream.specs.Step.{line_stored, stores_line}
 use Rattle.rack_reading.specs.declared.RackReading.TheVariants.{Signal, Frame, Add, Name, Search}
@@ -21,17 +21,13 @@ slice_bounds-put_frame-start c =
     let frame_framed_here : Framed c.args.s.now = said_framed c.args.s.now _ (Some Frame) c.read.ensures (c.in-Some-Frame.is ∙ ap Some c.in-Some-Frame.field-0-is) refl in
     omega (arith, frame_framed_here)
 
-pub put_frame-n-requires : goal.put_frame-n-requires
-unfolding rack_line_by has_digits
-put_frame-n-requires c =
-    let frame_framed_here : Framed c.args.s.now = said_framed c.args.s.now _ (Some Frame) c.read.ensures (c.in-Some-Frame.is ∙ ap Some c.in-Some-Frame.field-0-is) refl in
-    let s = c.args.s.now in
-    rw (behind_tab s) (omega (arith, frame_framed_here, length-drop 2 s))
-
 pub slice_bounds-call_line-end-in-Some-Frame-2 : goal.slice_bounds-call_line-end-in-Some-Frame-2
+unfolding rack_line_by has_digits
 slice_bounds-call_line-end-in-Some-Frame-2 c =
+    let line : Framed c.args.s.now = said_framed c.args.s.now _ (Some Frame) c.read.ensures (c.in-Some-Frame.is ∙ ap Some c.in-Some-Frame.field-0-is) refl in
+    let short : length (take (length c.args.s.now - 2) (drop 2 c.args.s.now)) ≤ 1198 = rw (behind_tab c.args.s.now) (omega (arith, line, length-drop 2 c.args.s.now)) in
     let w = c.put_frame-n in
-    omega (arith, w.ensures.upper_bound, length-take w.result w.new.frame)
+    omega (arith, w.ensures.upper_bound short, length-take w.result w.new.frame)
 
 pub slice_bounds-add_line-count : goal.slice_bounds-add_line-count
 unfolding rack_line_by has_digits
@@ -57,17 +53,13 @@ slice_bounds-put_frame-start-in-Some-Search c =
     let search_framed_here : Framed c.args.s.now = said_framed c.args.s.now _ (Some Search) c.read.ensures (c.in-Some-Search.is ∙ ap Some c.in-Some-Search.field-0-is) refl in
     omega (arith, search_framed_here)
 
-pub put_frame-n-requires-in-Some-Search : goal.put_frame-n-requires-in-Some-Search
-unfolding rack_line_by has_digits
-put_frame-n-requires-in-Some-Search c =
-    let search_framed_here : Framed c.args.s.now = said_framed c.args.s.now _ (Some Search) c.read.ensures (c.in-Some-Search.is ∙ ap Some c.in-Some-Search.field-0-is) refl in
-    let s = c.args.s.now in
-    rw (behind_tab s) (omega (arith, search_framed_here, length-drop 2 s))
-
 pub slice_bounds-search_line-end-in-Some-Search : goal.slice_bounds-search_line-end-in-Some-Search
+unfolding rack_line_by has_digits
 slice_bounds-search_line-end-in-Some-Search c =
+    let line : Framed c.args.s.now = said_framed c.args.s.now _ (Some Search) c.read.ensures (c.in-Some-Search.is ∙ ap Some c.in-Some-Search.field-0-is) refl in
+    let short : length (take (length c.args.s.now - 2) (drop 2 c.args.s.now)) ≤ 1198 = rw (behind_tab c.args.s.now) (omega (arith, line, length-drop 2 c.args.s.now)) in
     let w = c.put_frame-n-in-Some-Search in
-    omega (arith, w.ensures.upper_bound, length-take w.result w.new.frame)
+    omega (arith, w.ensures.upper_bound short, length-take w.result w.new.frame)
 
 pub returns-in-None : goal.returns-in-None
 unfolding rack_line_by rack_line_answer rack_frame
@@ -98,8 +90,10 @@ returns-in-Some-Signal c =
     record { text_after = all.0; length_le_text_room = all.1.0; frame_after = all.1.1 }
 
 pub returns-in-Some-Frame : goal.returns-in-Some-Frame
-unfolding rack_line_by rack_line_answer rack_frame
+unfolding rack_line_by rack_line_answer rack_frame has_digits
 returns-in-Some-Frame c =
+    let line : Framed c.args.s.now = said_framed c.args.s.now _ (Some Frame) c.read.ensures (c.in-Some-Frame.is ∙ ap Some c.in-Some-Frame.field-0-is) refl in
+    let short : length (take (length c.args.s.now - 2) (drop 2 c.args.s.now)) ≤ 1198 = rw (behind_tab c.args.s.now) (omega (arith, line, length-drop 2 c.args.s.now)) in
     let a = c.args in
     let r = c.read in
     let w = c.call_line-in-Some-Frame in
@@ -108,8 +102,8 @@ returns-in-Some-Frame c =
     let st = rack_state a.bench a.m.now a.reply.now in
     let all = settled st s a.text.now (rack_line_by (Some Frame) (drop 2 s)) (line_stored (rack_state w.result.bench w.new.m w.new.reply) w.result.length w.new.text) a.frame.now f.new.frame
     (said s _ (Some Frame) r.ensures (c.in-Some-Frame.is ∙ ap Some c.in-Some-Frame.field-0-is))
-    (w.ensures ∙ ap (λ (z : List ℕ). stores_line (call_answered 8 0 st z) a.text.now) (rw (behind_tab s) at f.ensures.frame_after))
-    (rw (behind_tab s) at f.ensures.frame_after_2) in
+    (w.ensures ∙ ap (λ (z : List ℕ). stores_line (call_answered 8 0 st z) a.text.now) (rw (behind_tab s) at (f.ensures.frame_after short)))
+    (rw (behind_tab s) at (f.ensures.frame_after_2 short)) in
     record { text_after = all.0; length_le_text_room = all.1.0; frame_after = all.1.1 }
 
 pub returns-in-Some-Add : goal.returns-in-Some-Add
@@ -141,8 +135,10 @@ returns-in-Some-Name c =
     record { text_after = all.0; length_le_text_room = all.1.0; frame_after = all.1.1 }
 
 pub returns-in-Some-Search : goal.returns-in-Some-Search
-unfolding rack_line_by rack_line_answer rack_frame
+unfolding rack_line_by rack_line_answer rack_frame has_digits
 returns-in-Some-Search c =
+    let line : Framed c.args.s.now = said_framed c.args.s.now _ (Some Search) c.read.ensures (c.in-Some-Search.is ∙ ap Some c.in-Some-Search.field-0-is) refl in
+    let short : length (take (length c.args.s.now - 2) (drop 2 c.args.s.now)) ≤ 1198 = rw (behind_tab c.args.s.now) (omega (arith, line, length-drop 2 c.args.s.now)) in
     let a = c.args in
     let r = c.read in
     let w = c.search_line in
@@ -151,6 +147,6 @@ returns-in-Some-Search c =
     let st = rack_state a.bench a.m.now a.reply.now in
     let all = settled st s a.text.now (rack_line_by (Some Search) (drop 2 s)) (line_stored (rack_state w.result.bench w.new.m w.new.reply) w.result.length w.new.text) a.frame.now f.new.frame
     (said s _ (Some Search) r.ensures (c.in-Some-Search.is ∙ ap Some c.in-Some-Search.field-0-is))
-    (w.ensures ∙ ap (λ (z : List ℕ). stores_line (search_answered st z) a.text.now) (rw (behind_tab s) at f.ensures.frame_after))
-    (rw (behind_tab s) at f.ensures.frame_after_2) in
+    (w.ensures ∙ ap (λ (z : List ℕ). stores_line (search_answered st z) a.text.now) (rw (behind_tab s) at (f.ensures.frame_after short)))
+    (rw (behind_tab s) at (f.ensures.frame_after_2 short)) in
     record { text_after = all.0; length_le_text_room = all.1.0; frame_after = all.1.1 }

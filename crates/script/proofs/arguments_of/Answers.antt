@@ -1,7 +1,7 @@
 use native.Mathlib.Omega.{arith}
 use mathlib.Core.Path.{◌≡◌, sym, ap, ◌∙◌}
 use mathlib.Core.List.{List}
-use Prim.Native.Nat.{ℕ, ◌-◌}
+use Prim.Native.Nat.{ℕ, ◌-◌, ◌≤◌}
 use lib.ListN.{length, take, drop, length-drop}
 use lib.Seq.{sets, take_all}
 use Rattle.std.specs.Prelude.{Option, Some, None}
@@ -37,14 +37,6 @@ slice_bounds-put_frame-start c =
     let f : Framed s = framed s (hex_bytes (drop 2 s)) (said s _ _ c.read.ensures (r.is ∙ ap Some r.field-0-is)) in
     omega (arith, f)
 
-pub put_frame-requires : goal.put_frame-requires
-unfolding line_by
-put_frame-requires c =
-    let s = c.args.s.now in
-    let r = c.in-Some-Frame in
-    let f : Framed s = framed s (hex_bytes (drop 2 s)) (said s _ _ c.read.ensures (r.is ∙ ap Some r.field-0-is)) in
-    rw (behind s) (omega (arith, f, length-drop 2 s))
-
 pub returns-in-None : goal.returns-in-None
 unfolding bench_of line_result line_by closed_frame
 returns-in-None c =
@@ -68,6 +60,8 @@ returns-in-Some-Frame c =
     let r = c.in-Some-Frame in
     let w = c.put_frame in
     let e = said s _ _ c.read.ensures (r.is ∙ ap Some r.field-0-is) in
-    let f : take w.result w.new.frame ≡ closed (hex_bytes (drop 2 s)) = rw (behind s) at w.ensures.frame_after in
-    let g : w.new.frame ≡ sets a.frame.now 0 (closed (hex_bytes (drop 2 s))) = rw (behind s) at w.ensures.frame_after_2 in
-    record { bad = tt; good = λ named b m o. ap (λ (x : List ℕ). bench_call named b m o 8 0 x) f ∙ ap (λ (x : ScriptLine). line_result named x b m o) (sym e); length_in_bounds = w.ensures.upper_bound; frame_after = g ∙ ap (λ (x : ScriptLine). sets a.frame.now 0 (closed_frame x)) (sym e) }
+    let line : Framed s = framed s (hex_bytes (drop 2 s)) e in
+    let short : length (take (length s - 2) (drop 2 s)) ≤ 1198 = rw (behind s) (omega (arith, line, length-drop 2 s)) in
+    let f : take w.result w.new.frame ≡ closed (hex_bytes (drop 2 s)) = rw (behind s) at (w.ensures.frame_after short) in
+    let g : w.new.frame ≡ sets a.frame.now 0 (closed (hex_bytes (drop 2 s))) = rw (behind s) at (w.ensures.frame_after_2 short) in
+    record { bad = tt; good = λ named b m o. ap (λ (x : List ℕ). bench_call named b m o 8 0 x) f ∙ ap (λ (x : ScriptLine). line_result named x b m o) (sym e); length_in_bounds = w.ensures.upper_bound short; frame_after = g ∙ ap (λ (x : ScriptLine). sets a.frame.now 0 (closed_frame x)) (sym e) }

@@ -1,5 +1,5 @@
 -- Lines of the example program's script, and what it does with them.
-use Rattle.std.specs.Prelude.{◌≡◌, List, [], ◌∷◌, ◌++◌, ℕ, ◌+◌, ◌≤◌, min, length, take, drop}
+use Rattle.std.specs.Prelude.{◌≡◌, List, [], ◌∷◌, ◌++◌, ℕ, ◌+◌, ◌≤◌, min, length, take, drop, codes}
 use Rattle.text.specs.Decimal.{decimal}
 use Rattle.lines.specs.Line.{line_length}
 use Rattle.keys.specs.declared.Uid.{Uid}
@@ -23,3 +23,10 @@ next_at s at = min (at + line_length (drop at s) + 1) (length s)
 -- what stands before a line's answer
 abbrev pub number_text : ℕ → List ℕ
 number_text n = decimal n ++ 9 ∷ []
+
+-- what standard error gets where a script fills its buffer, and where a line cannot be written
+abbrev pub too_long_message : List ℕ
+too_long_message = codes "the script is too long" ++ 10 ∷ []
+
+abbrev pub cannot_write_message : List ℕ
+cannot_write_message = codes "cannot write the output" ++ 10 ∷ []

@@ -2,9 +2,10 @@
 #![tactic(auto)]
 
 ghost use Rattle.std.specs.Prelude.{◌≡◌, ◌+◌, ◌<◌, set, length, take, OnOk};
-ghost use Rattle.std.specs.Io.KnownBytes.{Appends, Consumes};
+ghost use Rattle.std.specs.Io.KnownBytes.{Keeps, Appends, Consumes};
+ghost use Rattle.console.specs.Written.{AppendsStart};
 ghost use Rattle.text.specs.Place.{stored, text_at};
-ghost use Rattle.example_lines.specs.Lines.{IsPrefixLen, example_uid, script_line, next_at, number_text};
+ghost use Rattle.example_lines.specs.Lines.{IsPrefixLen, example_uid, script_line, next_at, number_text, too_long_message, cannot_write_message};
 
 use keys::Uid;
 use std::io;
@@ -46,6 +47,8 @@ pub fn read_script<R: Read, E: Write>(from: &mut R, err: &mut E, input: &mut [u8
     ensures within { IsPrefixLen result input.new }
     ensures taken { 0 < result → Consumes (R.remaining from.old) (R.remaining from.new) (take result input.new) }
     ensures whole { 0 < result → result < length input.new }
+    ensures quiet { 0 < result → Keeps (E.contents err.old) (E.contents err.new) }
+    ensures told { AppendsStart (E.contents err.old) (E.contents err.new) too_long_message }
 {
     let n = read_full(from, input);
     if n == input.len() {
@@ -98,6 +101,8 @@ pub fn write_line<W: Write>(to: &mut W, text: &mut [u8], feed: usize) -> io::Res
 }
 
 // Tells that a line could not be written.
-pub fn report<E: Write>(err: &mut E) {
+pub fn report<E: Write>(err: &mut E)
+    ensures { AppendsStart (E.contents err.old) (E.contents err.new) cannot_write_message }
+{
     let _ = console::write_all(err, b"cannot write the output\n");
 }

@@ -31,6 +31,7 @@ fn rule_named(named: bool, t: Tag, m: &[u8], code: u8, value: u16, frame: &[u8])
 }
 
 // A call, and its answer's line: where rules are named, with the name of the one that gave it.
+#[inline(never)]
 fn call(
     named: bool,
     bench: Bench,
@@ -103,6 +104,7 @@ fn bad_line(bench: Bench, reply: &[u8; 643], text: &mut [u8]) -> LineOutcome
 // A line without its line feed. Its text stands in `text` from place 0 on, and its frame in `frame`; `named`: with the
 // name of the rule that gave the answer. The caller lends room for a frame: an array of its own would be cleared for
 // each line, and few lines have one.
+#[inline(always)]
 pub fn line(
     named: bool,
     bench: Bench,

@@ -72,6 +72,7 @@ pub fn kept_of(transfer: Option<OpenTransfer>, dynamic: RfMngt) -> OpenTransfer
     transfer.unwrap_or(OpenTransfer { dynamic })
 }
 
+#[tactic(auto, unfolding(crate::specs::Bus::transfer_at))]
 pub fn transfer_at(b: Bus) -> Option<OpenTransfer>
     ensures { result ≡ transfer_at b }
 {

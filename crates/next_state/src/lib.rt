@@ -7,6 +7,7 @@ ghost use Rattle.next_state.specs.After.{kept_state};
 
 use model::{Answer, Outcome};
 
+#[tactic(auto, unfolding(model::specs::Step::is_refused))]
 fn is_refused(answer: Answer) -> bool
     ensures { result ≡ is_refused answer }
 {

@@ -61,6 +61,7 @@ impl WireSide {
     }
 
     // VCC at a level; a repeated level changes nothing.
+    #[tactic(auto, using(registers::proofs::Passed::picks), unfolding(crate::specs::Supply::vcc_at))]
     pub fn vcc_at(self, on: bool) -> WireSide
         ensures { result ≡ vcc_at on self }
     {

@@ -19,8 +19,8 @@ use Rattle.line_output.proofs.Ended.{output_append, output_whole}
 start_of_more : (a b : Option (List ℕ)) (x y : List ℕ) → AppendsStart a b x → AppendsStart a b (x ++ y)
 start_of_more a b x y (n, k, p) = (n, omega (arith, length-append x y), subst (Appends a b) (sym (take-append-le n x y k)) p)
 
-start_after : (a b d : Option (List ℕ)) (x y : List ℕ) → Appends a b x → AppendsStart b d y → AppendsStart a d (x ++ y)
-start_after a b d x y p (n, k, q) = (length x + n, omega (arith, length-append x y), subst (Appends a d) (sym (take-append-add x y n)) (Appends-trans a b d x (take n y) p q))
+start_of_rest : (a b d : Option (List ℕ)) (x y : List ℕ) → Appends a b x → AppendsStart b d y → AppendsStart a d (x ++ y)
+start_of_rest a b d x y p (n, k, q) = (length x + n, omega (arith, length-append x y), subst (Appends a d) (sym (take-append-add x y n)) (Appends-trans a b d x (take n y) p q))
 
 -- no byte was read
 pub none_read : (n : ℕ) (r r' : Option (List ℕ)) (input : List ℕ) → n ≡ 0 → Consumes r r' (take n input) → Consumes r r' []
@@ -75,7 +75,7 @@ module _ {S : Type 0} (program : LineProgram S) where
     fed_failed r' w' (t, p, q) = (
       s ++ t,
       Consumes-trans r₀ r r' s t fed.2 p,
-      subst (AppendsStart w₀ w') (sym (joined_output t)) (start_after w₀ w w' f.text (output_from program c h t) fed.3 q),
+      subst (AppendsStart w₀ w') (sym (joined_output t)) (start_of_rest w₀ w w' f.text (output_from program c h t) fed.3 q),
     )
 
     pub fed_ended : (r' w' : Option (List ℕ)) → Consumes r r' [] → Appends w w' (texts_of program c (last_line h))

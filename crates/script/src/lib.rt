@@ -30,7 +30,8 @@ fn rule_named(named: bool, t: Tag, m: &[u8], code: u8, value: u16, frame: &[u8])
     0
 }
 
-// A call, and its answer's line: where rules are named, with the name of the one that gave it.
+// A call, and its answer's line: where rules are named, with the name of the one that gave it. It stays a call, so that
+// `line` is small, and a bad line needs none of it.
 #[inline(never)]
 fn call(
     named: bool,
@@ -103,7 +104,7 @@ fn bad_line(bench: Bench, reply: &[u8; 643], text: &mut [u8]) -> LineOutcome
 
 // A line without its line feed. Its text stands in `text` from place 0 on, and its frame in `frame`; `named`: with the
 // name of the rule that gave the answer. The caller lends room for a frame: an array of its own would be cleared for
-// each line, and few lines have one.
+// each line, and few lines have one. It goes into its callers: as a call it would copy the tag for each line.
 #[inline(always)]
 pub fn line(
     named: bool,
